@@ -7,8 +7,14 @@ mod code;
 mod limits;
 mod listed;
 mod memory;
+mod scoped;
+mod signature;
+mod term;
 
 pub use code::{Code, Verdict};
 pub use limits::Limits;
 pub use listed::Listed;
 pub use memory::NoMemory;
+pub use scoped::{Left, Scoped, ScopedRule};
+pub use signature::{Entry, Pat, Rule, Signature, SymSort};
+pub use term::{Term, make_annotated, make_app, make_bare, make_product};

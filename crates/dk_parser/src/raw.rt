@@ -1,0 +1,80 @@
+//! Commands as they are written, before scoping (docs/syntax.md).
+use dk_model::{Listed, SymSort};
+
+/// A command and the line of its first token, from 1.
+#[derive(Drop)]
+pub struct Raw {
+    pub line: u32,
+    pub form: RawForm,
+}
+
+/// The forms of a command.
+#[derive(Drop)]
+pub enum RawForm {
+    /// A declaration, a definition or a theorem.
+    Declare {
+        sort: SymSort,
+        /// The declared name as spelt, a quoted one with its signs.
+        name: Listed<u8>,
+        params: Listed<RawParam>,
+        /// The type behind the colon; a definition may have none.
+        typ: Option<RawTerm>,
+        /// The body behind `:=`.
+        body: Option<RawTerm>,
+    },
+    /// One or more rewrite rules.
+    Rules(Listed<RawRule>),
+}
+
+/// A parameter `(binder : type)`. A binder that is None is the wildcard.
+#[derive(Drop)]
+pub struct RawParam {
+    pub binder: Option<Listed<u8>>,
+    pub typ: RawTerm,
+}
+
+/// A rule `[context] left --> right`.
+#[derive(Drop)]
+pub struct RawRule {
+    pub context: Listed<RawNote>,
+    pub left: RawPat,
+    pub right: RawTerm,
+}
+
+/// An entry of a rule's context: a name, perhaps with a type.
+#[derive(Drop)]
+pub struct RawNote {
+    pub name: Listed<u8>,
+    pub note: Option<RawTerm>,
+}
+
+/// A term as written. Names keep their spelling; brackets are gone.
+#[derive(Drop)]
+pub enum RawTerm {
+    Name(Listed<u8>),
+    /// A module and a name in it.
+    Qualified(Listed<u8>, Listed<u8>),
+    /// The word `Type`.
+    Star,
+    /// The wildcard.
+    Wild,
+    App(Box<RawTerm>, Box<RawTerm>),
+    /// `A -> B`.
+    Arrow(Box<RawTerm>, Box<RawTerm>),
+    /// `binder : A -> B`. A binder that is None is the wildcard.
+    Prod(Option<Listed<u8>>, Box<RawTerm>, Box<RawTerm>),
+    /// `binder => t`, or `binder : A => t`.
+    Abs(Option<Listed<u8>>, Option<Box<RawTerm>>, Box<RawTerm>),
+}
+
+/// A pattern as written.
+#[derive(Drop)]
+pub enum RawPat {
+    Name(Listed<u8>),
+    Qualified(Listed<u8>, Listed<u8>),
+    Wild,
+    /// `{t}`.
+    Guard(RawTerm),
+    App(Box<RawPat>, Box<RawPat>),
+    Abs(Option<Listed<u8>>, Box<RawPat>),
+}
