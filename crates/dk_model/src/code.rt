@@ -2,6 +2,8 @@
 ghost use Rattle.std.specs.Prelude.{◌≡◌};
 ghost use Rattle.dk_model.specs.Codes.{code_text};
 
+use crate::NoMemory;
+
 /// Why a command is refused, by the code that the report gives.
 #[derive(Clone, Copy, Debug, PartialEq, Eq)]
 pub enum Code {
@@ -86,6 +88,24 @@ impl Code {
             Code::E34 => b"E34",
             Code::E35 => b"E35",
         }
+    }
+}
+
+/// Why reading, scoping or the shape of a rule gave no answer.
+#[derive(Clone, Copy, Debug, PartialEq, Eq)]
+pub enum Fault {
+    Refused(Code),
+    NoMemory,
+}
+
+impl From<NoMemory> for Fault {
+    ghost use Rattle.std.specs.Prelude.{◌≡◌};
+    ghost use Rattle.dk_model.specs.declared.code.Fault.{Fault};
+
+    ghost from_gives = { λ _ fault. fault ≡ Fault.NoMemory };
+
+    fn from(_error: NoMemory) -> Fault {
+        Fault::NoMemory
     }
 }
 

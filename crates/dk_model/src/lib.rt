@@ -11,7 +11,7 @@ mod scoped;
 mod signature;
 mod term;
 
-pub use code::{Code, Verdict};
+pub use code::{Code, Fault, Verdict};
 pub use limits::Limits;
 pub use listed::Listed;
 pub use memory::NoMemory;
