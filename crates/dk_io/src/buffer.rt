@@ -1,7 +1,7 @@
-ghost use Rattle.std.specs.Prelude.{◌≡◌, ◌≤◌, ◌+◌, ◌-◌, ◌++◌, [], length, min, take, IsOk, IsTrue, ◌↔◌, OnOk};
-ghost use Rattle.dk_io.specs.Bytes.{Wrote, joined};
+ghost use Rattle.std.specs.Prelude.{◌≡◌, ◌≤◌, ◌+◌, ◌-◌, ◌++◌, [], length, min, take, IfOk, IsOk, Ok, IsTrue, OnErr, ◌<◌,  ◌↔◌, OnOk};
+ghost use Rattle.dk_io.specs.Bytes.{AddsSome, Wrote, joined};
 ghost use Rattle.dk_io.specs.Causes.{HasCause};
-ghost use Rattle.dk_io.specs.Gathered.{Gathers};
+ghost use Rattle.dk_io.specs.Gathered.{Gathers, Moves};
 
 use crate::{Failed, Sink, put};
 use std::marker::Model;
@@ -64,6 +64,47 @@ impl Buffer {
     {
         put(sink, &self.bytes[..self.count])?;
         self.count = 0;
+        Ok(())
+    }
+
+    #[tactic(auto, using(crate::proofs::Gather::moves_flushed, crate::proofs::Gather::moves_fill))]
+    // Writes what waits if the buffer is full, and then takes as many of the bytes as there is room for.
+    fn put_some<K: Sink>(&mut self, sink: &mut K, bytes: &[u8]) -> Result<usize, Failed>
+        requires { 0 < length bytes.now }
+        ensures some { IfOk result (λ n. (0 < n) × (n ≤ length bytes.now)) }
+        ensures moves { IfOk result (λ n. Moves (K.taken sink.old) self.old (K.taken sink.new) self.new (take n bytes.now)) }
+        ensures front { OnErr result (AddsSome (K.taken sink.old) (K.taken sink.new) self.old) }
+        ensures cause { HasCause (K.faults sink.old) (K.faults sink.new) result }
+        ensures room { length self.old + length bytes.now ≤ 4096 →
+            (result ≡ Ok (length bytes.now)) × (sink.new ≡ sink.old) × (self.new ≡ self.old ++ bytes.now) }
+    {
+        if self.is_full() {
+            if let Err(failed) = self.flush(sink) {
+                return Err(failed);
+            }
+            return Ok(self.fill(bytes));
+        }
+        Ok(self.fill(bytes))
+    }
+
+    #[tactic(auto, using(crate::proofs::Gather::moves_more, crate::proofs::Gather::moves_stop, crate::proofs::Gather::moves_none))]
+    /// Puts the bytes behind those that wait, and writes whenever the buffer is full.
+    pub fn put<K: Sink>(&mut self, sink: &mut K, bytes: &[u8]) -> Result<(), Failed>
+        ensures put { Gathers (K.taken sink.old) self.old (K.taken sink.new) self.new bytes.now result }
+        ensures cause { HasCause (K.faults sink.old) (K.faults sink.new) result }
+
+        // Where there is room for them, the sink isn't called.
+        ensures room { length self.old + length bytes.now ≤ 4096 →
+            IsOk result × (sink.new ≡ sink.old) × (self.new ≡ self.old ++ bytes.now) }
+    {
+        let mut at = 0;
+        while at < bytes.len() {
+            let (_, rest) = bytes.split_at(at);
+            match self.put_some(sink, rest) {
+                Ok(count) => at += count,
+                Err(failed) => return Err(failed),
+            }
+        }
         Ok(())
     }
 }
