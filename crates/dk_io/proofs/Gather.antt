@@ -57,6 +57,14 @@ moves_more {a = a} {c = c} {w = w} {y = y} bytes at n first second =
 pub moves_flushed : {E : Type 0} {b c : Option (List ℕ)} {x : List ℕ} (t : List ℕ) → Wrote {E = E} b c x (Ok tt) → Moves b x c t t
 moves_flushed {x = x} t wrote = record { front = x; parts = refl; taken = wrote.whole }
 
+-- a text that waits behind the rest
+moves_then_rest : {a b : Option (List ℕ)} {w x s : List ℕ} → Moves a w b x s → (t : List ℕ) → Moves a (w ++ s) b (x ++ t) t
+moves_then_rest {x = x} first t = record {
+  front = first.front;
+  parts = ap (λ u. u ++ t) first.parts ∙ append_assoc first.front x t;
+  taken = first.taken;
+}
+
 -- the sink took a front of what waited after a part of a text
 pub moves_cut : {a b c : Option (List ℕ)} {w x : List ℕ} (bytes : List ℕ) (at : ℕ) → Moves a w b x (take at bytes) → AddsSome b c x → AddsSome a c (w ++ bytes)
 moves_cut {a = a} {c = c} {w = w} bytes at first some =
@@ -75,3 +83,43 @@ room_more w x y bytes rest at n within is before now fits =
     (q.1 ∙ p.0,
      q.2 ∙ ap (λ u. u ++ rest) p.1 ∙ append_assoc w (take at bytes) rest
      ∙ ap (λ u. w ++ (take at bytes ++ u)) (sym whole ∙ ap (take n) is) ∙ ap (λ u. w ++ u) (sym (take-add at n bytes)))
+
+-- the sink took a front of what waited after a text and of one more text
+adds_more : (a c : Option (List ℕ)) (w x s t : List ℕ) {b : Option (List ℕ)} → Moves a w b x s → AddsSome b c (x ++ t) → AddsSome a c (w ++ (s ++ t))
+adds_more a c w x s t {b = b} first some =
+    subst (λ (u : List ℕ). AddsSome a c u) (append_assoc w s t) (moves_stop (moves_then_rest first t) some)
+
+-- one text after another, the second of which may fail
+pub gathers_then : {E : Type 0} {a b c : Option (List ℕ)} {w x y s t : List ℕ} {r : Result (Unit {0}) E} → Gathers {E = E} a w b x s (Ok tt) → Gathers b x c y t r → Gathers a w c y (s ++ t) r
+gathers_then {r = Ok _} first second = record { whole = moves_then first.whole second.whole; front = tt }
+gathers_then {a = a} {c = c} {w = w} {x = x} {s = s} {t = t} {r = Err _} first second = record {
+  whole = tt;
+  front = adds_more a c w x s t first.whole second.front;
+}
+
+-- a text that was cut short cuts the whole short
+pub gathers_stop : {E : Type 0} {a b : Option (List ℕ)} {w x y s : List ℕ} {e : E} (t : List ℕ) → Gathers a w b x s (Err e) → Gathers a w b y (s ++ t) (Err e)
+gathers_stop {a = a} {b = b} {w = w} {s = s} t first = record {
+  whole = tt;
+  front = subst (λ (u : List ℕ). AddsSome a b u) (append_assoc w s t) (adds_longer a b (w ++ s) t first.front);
+}
+
+pub gathers_next : {E : Type 0} {a b c : Option (List ℕ)} {w x y : List ℕ} {ps qs : List (Bor (List ℕ))} {p : Bor (List ℕ)} {r : Result (Unit {0}) E} → ps ≡ p ∷ qs → Gathers {E = E} a w b x p.now (Ok tt) → Gathers b x c y (joined qs) r → Gathers a w c y (joined ps) r
+gathers_next {E = E} {a = a} {c = c} {w = w} {y = y} {r = r} e first second =
+    subst (λ (ps : List (Bor (List ℕ))). Gathers {E = E} a w c y (joined ps) r) (sym e) (gathers_then first second)
+
+pub gathers_cut : {E : Type 0} {a b : Option (List ℕ)} {w x : List ℕ} {ps qs : List (Bor (List ℕ))} {p : Bor (List ℕ)} {e : E} → ps ≡ p ∷ qs → Gathers a w b x p.now (Err e) → Gathers a w b x (joined ps) (Err e)
+gathers_cut {E = E} {a = a} {b = b} {w = w} {x = x} {qs = qs} {e = failed} e first =
+    subst (λ (ps : List (Bor (List ℕ))). Gathers {E = E} a w b x (joined ps) (Err failed)) (sym e) (gathers_stop (joined qs) first)
+
+-- the whole text went through an empty buffer, which was emptied at the end
+pub wrote_whole : {E : Type 0} {a b c : Option (List ℕ)} {x s : List ℕ} {r : Result (Unit {0}) E} → Gathers {E = E} a [] b x s (Ok tt) → Wrote b c x r → Wrote a c s r
+wrote_whole {a = a} {c = c} {x = x} {r = Ok _} first second = record {
+  whole = second.whole ∙ ap (λ o. added o x) first.whole.taken ∙ added-added a first.whole.front x ∙ ap (added a) (sym first.whole.parts);
+  front = tt;
+}
+wrote_whole {r = Err _} first second = record { whole = tt; front = moves_stop first.whole second.front }
+
+-- a text that was cut short on its way through an empty buffer
+pub wrote_cut : {E : Type 0} {a b : Option (List ℕ)} {x s : List ℕ} {e : E} → Gathers {E = E} a [] b x s (Err e) → Wrote a b s (Err e)
+wrote_cut first = record { whole = tt; front = first.front }

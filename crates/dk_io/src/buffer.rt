@@ -107,4 +107,22 @@ impl Buffer {
         }
         Ok(())
     }
+
+    /// Puts all of the pieces, one after the other.
+    pub fn put_all<K: Sink>(&mut self, sink: &mut K, pieces: &[&[u8]]) -> Result<(), Failed>
+        ensures put { Gathers (K.taken sink.old) self.old (K.taken sink.new) self.new (joined pieces.now) result }
+        ensures cause { HasCause (K.faults sink.old) (K.faults sink.new) result }
+
+        // Where there is room for them, the sink isn't called.
+        ensures room { length self.old + length (joined pieces.now) ≤ 4096 →
+            IsOk result × (sink.new ≡ sink.old) × (self.new ≡ self.old ++ joined pieces.now) }
+    {
+        match pieces.split_first() {
+            None => Ok(()),
+            Some((first, rest)) => match self.put(sink, first) {
+                Ok(()) => self.put_all(sink, rest),
+                Err(failed) => Err(failed),
+            },
+        }
+    }
 }
