@@ -1,5 +1,5 @@
 -- The text of a report and its status (docs/report.md).
-use Rattle.std.specs.Prelude.{◌≡◌, ℕ, ◌+◌, Bool, true, false, List, [], ◌∷◌, ◌++◌, codes, decimal}
+use Rattle.std.specs.Prelude.{◌≢◌, ℕ, ◌+◌, Bool, true, false, List, [], ◌∷◌, ◌++◌, codes, decimal}
 use Rattle.dk_model.specs.declared.code.Verdict.{Verdict}
 use Rattle.dk_model.specs.declared.code.Verdict.TheVariants as verdict
 use Rattle.dk_model.specs.Codes.{code_text}
@@ -38,7 +38,7 @@ stop_line number line verdict.Accepted budget = []
 -- the last line
 abbrev pub last_line : Outcome → ℕ → List ℕ
 last_line (Accepted count) budget = concat (codes "accepted " ∷ decimal count ∷ codes "\n" ∷ [])
-last_line (Stopped number line verdict) budget = stop_line number line verdict budget
+last_line (Stopped number line v) budget = stop_line number line v budget
 last_line (Unread number) budget = concat (codes "unread " ∷ decimal number ∷ codes "\n" ∷ [])
 
 -- the report of a file: the `ok` lines, unless quiet, and the last line
@@ -55,10 +55,15 @@ stop_status verdict.Memory = 4
 -- the status of a report
 abbrev pub status_of : Outcome → ℕ
 status_of (Accepted count) = 0
-status_of (Stopped number line verdict) = stop_status verdict
+status_of (Stopped number line v) = stop_status v
 status_of (Unread number) = 3
 
+-- a verdict other than Accepted
+abbrev pub IsFault : Verdict → Type 0
+IsFault v = v ≢ verdict.Accepted
+
 -- a file stops with a verdict other than Accepted
-abbrev pub HasFault : Outcome → Type 0
-HasFault (Stopped number line verdict.Accepted) = ⊥
-HasFault outcome = Unit {0}
+abbrev pub StopsAtFault : Outcome → Type 0
+StopsAtFault (Accepted count) = Unit {0}
+StopsAtFault (Stopped number line v) = IsFault v
+StopsAtFault (Unread number) = Unit {0}

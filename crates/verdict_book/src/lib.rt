@@ -2,5 +2,9 @@
 #![tactic(auto)]
 
 mod outcome;
+mod pieces;
+mod report;
 
 pub use outcome::Outcome;
+pub use pieces::{Piece, put_pieces};
+pub use report::write_outcome;
