@@ -112,14 +112,28 @@ pub gathers_cut : {E : Type 0} {a b : Option (List ℕ)} {w x : List ℕ} {ps qs
 gathers_cut {E = E} {a = a} {b = b} {w = w} {x = x} {qs = qs} {e = failed} e first =
     subst (λ (ps : List (Bor (List ℕ))). Gathers {E = E} a w b x (joined ps) (Err failed)) (sym e) (gathers_stop (joined qs) first)
 
+-- a text that was cut short after others cuts the whole short
+pub gathers_stop_at : {E : Type 0} {a b c : Option (List ℕ)} {w x y z : List ℕ} {e : E} (done text rest whole : List ℕ) → Moves a w b x done → Gathers b x c y text (Err e) → whole ≡ (done ++ text) ++ rest → Gathers a w c z whole (Err e)
+gathers_stop_at {E = E} {a = a} {c = c} {w = w} {y = y} {z = z} {e = failed} done text rest whole before cut is =
+    let first : Gathers {E = E} a w c y (done ++ text) (Err failed) = gathers_then (record { whole = before; front = tt }) cut in
+    subst (λ (t : List ℕ). Gathers {E = E} a w c z t (Err failed)) (sym is) (gathers_stop rest first)
+
 -- the whole text went through an empty buffer, which was emptied at the end
-pub wrote_whole : {E : Type 0} {a b c : Option (List ℕ)} {x s : List ℕ} {r : Result (Unit {0}) E} → Gathers {E = E} a [] b x s (Ok tt) → Wrote b c x r → Wrote a c s r
-wrote_whole {a = a} {c = c} {x = x} {r = Ok _} first second = record {
-  whole = second.whole ∙ ap (λ o. added o x) first.whole.taken ∙ added-added a first.whole.front x ∙ ap (added a) (sym first.whole.parts);
+pub wrote_whole : {E : Type 0} {a b c : Option (List ℕ)} {w x s : List ℕ} {r : Result (Unit {0}) E} → w ≡ [] → Gathers {E = E} a w b x s (Ok tt) → Wrote b c x r → Wrote a c s r
+wrote_whole {a = a} {c = c} {x = x} {s = s} {r = Ok _} empty first second = record {
+  whole =
+    second.whole ∙ ap (λ o. added o x) first.whole.taken ∙ added-added a first.whole.front x
+    ∙ ap (added a) (sym first.whole.parts ∙ ap (λ v. v ++ s) empty);
   front = tt;
 }
-wrote_whole {r = Err _} first second = record { whole = tt; front = moves_stop first.whole second.front }
+wrote_whole {a = a} {c = c} {s = s} {r = Err _} empty first second = record {
+  whole = tt;
+  front = subst (λ (v : List ℕ). AddsSome a c (v ++ s)) empty (moves_stop first.whole second.front);
+}
 
 -- a text that was cut short on its way through an empty buffer
-pub wrote_cut : {E : Type 0} {a b : Option (List ℕ)} {x s : List ℕ} {e : E} → Gathers {E = E} a [] b x s (Err e) → Wrote a b s (Err e)
-wrote_cut first = record { whole = tt; front = first.front }
+pub wrote_cut : {E : Type 0} {a b : Option (List ℕ)} {w x s : List ℕ} {e : E} → w ≡ [] → Gathers a w b x s (Err e) → Wrote a b s (Err e)
+wrote_cut {a = a} {b = b} {s = s} empty first = record {
+  whole = tt;
+  front = subst (λ (v : List ℕ). AddsSome a b (v ++ s)) empty first.front;
+}
