@@ -1,0 +1,71 @@
+//! The names that the commands so far declare.
+ghost use Rattle.std.specs.Prelude.{◌≡◌, ◌<◌, IfOk, IfErr, OnOk, OnErr};
+ghost use Rattle.dk_model.specs.Scoping.{plain_command};
+ghost use Rattle.dk_parser.specs.Written.{written_form};
+ghost use Rattle.scope_terms.specs.Scopes.{no_names, number_of, names_after, scope_of};
+ghost use Rattle.scope_terms.specs.Answers.{Answers};
+
+use dk_model::{Fault, NoMemory, Scoped};
+use dk_parser::Raw;
+use indexmap::IndexMap;
+use std::alloc::Global;
+use std::marker::Model;
+
+/// Why a command wasn't scoped: its first code from left to right, or want of memory.
+pub type ScopeFault = Fault;
+
+/// The names that the accepted commands declare, each with the number of its command.
+#[derive(Drop)]
+pub struct Names {
+    numbers: IndexMap<Vec<u8>, u32>,
+    count: u32,
+}
+
+impl Model for Names {
+    ghost use Rattle.scope_terms.specs.Scopes.{Declared};
+
+    ghost Value = { Declared };
+
+    ghost use Rattle.std.specs.Prelude.{map};
+
+    ghost view = { λ n. record { numbers = map (λ e. (e.0.items, e.1)) n.numbers.entries; count = n.count } };
+}
+
+impl Names {
+    /// No names.
+    pub fn new(alloc: Global) -> Result<Names, NoMemory>
+        ensures { IfOk result (λ names. names ≡ no_names) }
+    {
+        Ok(Names {
+            numbers: IndexMap::new(alloc),
+            count: 0,
+        })
+    }
+
+    /// The number of the accepted command that declared this name; None exactly where none did.
+    pub fn number(&self, name: &[u8]) -> Option<u32>
+        ensures { result ≡ number_of self.now name.now }
+    {
+        self.numbers.get(name).copied()
+    }
+
+    /// How many numbers were given: one for each accepted command.
+    pub fn count(&self) -> u32
+        ensures { result ≡ self.now.count }
+    {
+        self.count
+    }
+
+    /// The command with its names as numbers, or its first code from left to right.
+    ///
+    /// Accepted, the declared name is added with the next number; rules take a number without a name. After a
+    /// refusal, want of memory too, the names are as before. `docs/scoping.md` has the rules.
+    pub fn scope(&mut self, alloc: Global, raw: &Raw) -> Result<Scoped, ScopeFault>
+        requires { self.old.count < 4294967295 }
+        ensures answer { Answers plain_command (scope_of self.old (written_form raw.now.form)) result }
+        ensures ok { OnOk result (self.new ≡ names_after self.old (written_form raw.now.form)) }
+        ensures err { OnErr result (self.new ≡ self.old) }
+    {
+        Err(Fault::NoMemory)
+    }
+}
