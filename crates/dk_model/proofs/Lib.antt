@@ -1,0 +1,2 @@
+pub mod Inference
+mod Worked
