@@ -1,5 +1,5 @@
 -- The verdict on a command and the entry that an accepted one adds (docs/typing.md).
-use Rattle.std.specs.Prelude.{ℕ, Option, Some, None, []}
+use Rattle.std.specs.Prelude.{Bool, true, false, ◌≡◌, ℕ, Option, Some, None, [], ◌∷◌}
 use Rattle.dk_model.specs.Trees.{Tree, kind}
 use Rattle.dk_model.specs.Erasure.{erased}
 use Rattle.dk_model.specs.Signatures.{PlainEntry, symbol_entry, rules_entry, PlainSignature}
@@ -9,7 +9,7 @@ use Rattle.dk_model.specs.declared.signature.SymSort.{SymSort}
 use Rattle.dk_model.specs.declared.signature.SymSort.TheVariants.{Static, Definable, Theorem}
 use Rattle.dk_model.specs.declared.code.Code.TheVariants.{E31}
 use Rattle.dk_model.specs.declared.code.Verdict.{Verdict}
-use Rattle.dk_model.specs.declared.code.Verdict.TheVariants.{Accepted, Refused, Ended}
+use Rattle.dk_model.specs.declared.code.Verdict.TheVariants.{Accepted, Refused, Ended, Memory}
 
 abbrev pub verdict : {A : Type 0} → Judged A → Verdict
 verdict (answer a n) = Accepted
@@ -41,6 +41,18 @@ command_checked S (rule_command rs) n = refused E31
 abbrev pub verdict_of : PlainSignature → PlainCommand → ℕ → Verdict
 verdict_of S c budget = verdict (command_checked S c budget)
 
+abbrev pub answer_of : {A : Type 0} → Judged A → Option A
+answer_of (answer a n) = Some a
+answer_of (refused c) = None
+answer_of ended = None
+
+-- the type that is inferred for a definition without a declared type, where it is accepted
+abbrev pub inferred_type : PlainSignature → PlainCommand → ℕ → Option Tree
+inferred_type S (declare s None (Some b)) budget = answer_of (body_type S b budget)
+inferred_type S (declare s None None) budget = None
+inferred_type S (declare s (Some A) b) budget = None
+inferred_type S (rule_command rs) budget = None
+
 abbrev pub maybe_erased : Option Tree → Option Tree
 maybe_erased None = None
 maybe_erased (Some t) = Some (erased t)
@@ -62,3 +74,24 @@ abbrev pub entry_of : PlainSignature → PlainCommand → Option Tree → PlainE
 entry_of S (declare s A b) T = symbol_entry s (entry_type_of A T) (kept_body s b)
 -- the entry of no rules, until rule commands are accepted
 entry_of S (rule_command rs) T = rules_entry []
+
+-- whether the command is a definition without a declared type
+abbrev pub is_untyped : PlainCommand → Bool
+is_untyped (declare s None (Some b)) = true
+is_untyped (declare s None None) = false
+is_untyped (declare s (Some A) b) = false
+is_untyped (rule_command rs) = false
+
+-- the verdict that is due, or want of memory
+abbrev pub IsVerdictOrMemory : Verdict → Verdict → Type 0
+IsVerdictOrMemory due Memory = Unit {0}
+IsVerdictOrMemory due given = given ≡ due
+
+abbrev pub AddsNoRules : PlainEntry → Type 0
+AddsNoRules (symbol_entry s t b) = Unit {0}
+AddsNoRules (rules_entry rs) = rs ≡ []
+
+-- no entry has a rule besides the bodies of definitions
+abbrev pub HasNoRules : PlainSignature → Type 0
+HasNoRules [] = Unit {0}
+HasNoRules (e ∷ es) = AddsNoRules e × HasNoRules es
