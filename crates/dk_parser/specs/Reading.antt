@@ -6,6 +6,7 @@ use Rattle.dk_model.specs.declared.code.Fault.{Fault}
 use Rattle.dk_model.specs.declared.code.Fault.TheVariants as answer_fault
 use Rattle.dk_model.specs.declared.limits.Limits.{Limits}
 use Rattle.dk_lexer.specs.declared.token.Token.{Token}
+use Rattle.dk_lexer.specs.Tokens as lexer
 use Rattle.dk_parser.specs.declared.parser.Step.{Step}
 use Rattle.dk_parser.specs.declared.parser.Step.TheVariants as step
 use Rattle.dk_parser.specs.declared.terminal.Terminal.{Terminal}
@@ -55,6 +56,12 @@ read_tokens limits ts = record {
   fault = fault_of (parsing_after limits ts);
 }
 
+-- one reading begins with another: its commands do, and a fault stays
+pub record Extends (old new : TokenReading) : Type 0 where
+  pub later : List WrittenCommand
+  pub commands : new.commands ≡ old.commands ++ later
+  pub stays : IsSome old.fault → new ≡ old
+
 -- what the end of the tokens answers
 abbrev pub finished_by : Option (ℕ × Code) → Option ℕ → Result Unit Code
 finished_by (Some fault) begun = Err fault.1
@@ -98,35 +105,36 @@ abbrev pub Answers : Result Step Fault → Type 0 → Type 0
 Answers (Err answer_fault.NoMemory) P = Unit {0}
 Answers answer P = P
 
--- how a file's bytes end: at the end of the file, or where a read failed
-pub data Ending : Type 0 where
-  at_end : Ending
-  broken : Ending
-
 -- how the reading of a file ends: after whole commands, at a fault with its line, or where a read failed
 pub data Tail : Type 0 where
   whole : Tail
   fault : ℕ → Code → Tail
   unread : Tail
 
--- the commands of a file, and the tail
+-- the commands of a file, each with the line of its first token, and the tail
 pub record Reading : Type 0 where
   pub commands : List WrittenCommand
   pub tail : Tail
 
-abbrev pub tail_by_ending : Ending → Option ℕ → Tail
-tail_by_ending broken begun = unread
-tail_by_ending at_end (Some line) = fault line E03
-tail_by_ending at_end None = whole
+-- no fault: the bytes ended, in or behind a command, or a read failed
+abbrev pub tail_by_ending : lexer.Ending → Option ℕ → Tail
+tail_by_ending lexer.broken begun = unread
+tail_by_ending lexer.whole (Some line) = fault line E03
+tail_by_ending lexer.whole None = whole
 
-abbrev pub tail_by_bytes : Option (ℕ × Code) → Ending → Option ℕ → Tail
-tail_by_bytes (Some (line, code)) ending begun = fault (unwrap_or begun line) code
-tail_by_bytes None ending begun = tail_by_ending ending begun
+-- a fault of the bytes has the line of the command's first token where one has begun, else its own
+abbrev pub tail_by_bytes : Option Code → ℕ → lexer.Ending → Option ℕ → Tail
+tail_by_bytes (Some code) line ending begun = fault (unwrap_or begun line) code
+tail_by_bytes None line ending begun = tail_by_ending ending begun
 
-abbrev pub tail_by_tokens : Option (ℕ × Code) → Option (ℕ × Code) → Ending → Option ℕ → Tail
-tail_by_tokens (Some (line, code)) of_bytes ending begun = fault line code
-tail_by_tokens None of_bytes ending begun = tail_by_bytes of_bytes ending begun
+-- a token's fault comes before a fault of the bytes behind it
+abbrev pub tail_by_tokens : Option (ℕ × Code) → lexer.Lexed → lexer.Ending → Option ℕ → Tail
+tail_by_tokens (Some (line, code)) lexed ending begun = fault line code
+tail_by_tokens None lexed ending begun = tail_by_bytes lexed.fault lexed.line ending begun
 
--- a token's fault comes before a fault of the bytes behind it, and that before the end of the bytes
-abbrev pub reading_of : TokenReading → Option (ℕ × Code) → Ending → Reading
-reading_of r of_bytes ending = record { commands = r.commands; tail = tail_by_tokens r.fault of_bytes ending r.begun }
+abbrev pub reading_of : TokenReading → lexer.Lexed → lexer.Ending → Reading
+reading_of r lexed ending = record { commands = r.commands; tail = tail_by_tokens r.fault lexed ending r.begun }
+
+-- what the bytes of a file are read as
+abbrev pub read : Limits → List ℕ → lexer.Ending → Reading
+read limits bytes ending = reading_of (read_tokens limits (lexer.tokens limits bytes ending).tokens) (lexer.tokens limits bytes ending) ending
