@@ -32,10 +32,14 @@ same_spelling = pointwise nat_eq
 abbrev pub number_of : Declared → Spelling → Option ℕ
 number_of names x = lookup (same_spelling x) names.numbers
 
--- the names after a command: a declaration adds its name with the command's number, rules take a number without a name
+-- one more name, with the number that is next
+abbrev pub with_name : Declared → Spelling → Declared
+with_name names x = record { numbers = names.numbers ++ (x, names.count) ∷ []; count = names.count + 1 }
+
+-- the names after a command: a declaration adds its name, rules take a number without a name
 abbrev pub names_after : Declared → WrittenForm → Declared
-names_after names (written_declare sort x params typ body) = record { numbers = names.numbers ++ (x, names.count) ∷ []; count = names.count + 1 }
-names_after names (written_rules rs) = record names { count = names.count + 1 }
+names_after names (written_declare sort x params typ body) = with_name names x
+names_after names (written_rules rs) = record { numbers = names.numbers; count = names.count + 1 }
 
 -- a value, or the first code from left to right
 pub data Scoping (A : Type 0) : Type 0 where
