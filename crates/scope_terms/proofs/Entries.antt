@@ -5,7 +5,7 @@ use Rattle.std.specs.Prelude.{None, Some}
 use Rattle.std.specs.Map.{lookup}
 use Rattle.indexmap.specs.IndexMap.{IndexMap, insert_entry}
 use Rattle.indexmap.proofs.CallerLemmas.{insert_entry-new}
-use Rattle.scope_terms.specs.Scopes.{Spelling, Declared, same_spelling, number_of, with_name}
+use Rattle.scope_terms.specs.Scopes.{Spelling, Numbered, same_spelling, number_of, with_name}
 
 module _ {A B X : Type 0} (f : A → B) where
   abbrev pub named : A × X → B × X
@@ -18,13 +18,13 @@ module _ {A B X : Type 0} (f : A → B) where
 
 -- an insertion of a key whose name is new adds that name with its number
 module _ {K S : Type 0} (f : K → Spelling) (m : IndexMap K ℕ S) (key : K) (n : ℕ) where
-  abbrev seen : List (K × ℕ) → ℕ → Declared
+  abbrev seen : List (K × ℕ) → ℕ → Numbered
   seen es count = record { numbers = map (named f) es; count = count }
 
-  pub added : (names : Declared) (x : Spelling) (new : List (K × ℕ)) → seen m.entries n ≡ names → number_of names x ≡ None → f key ≡ x → new ≡ insert_entry (λ a b. same_spelling (f a) (f b)) m.entries key n → seen new (n + 1) ≡ with_name names x
+  pub added : (names : Numbered) (x : Spelling) (new : List (K × ℕ)) → seen m.entries n ≡ names → number_of names x ≡ None → f key ≡ x → new ≡ insert_entry (λ a b. same_spelling (f a) (f b)) m.entries key n → seen new (n + 1) ≡ with_name names x
   added names x new view none is inserted =
-      let absent : lookup (same_spelling (f key)) (map (named f) m.entries) ≡ None = rw is (subst (λ (d : Declared). number_of d x ≡ None) (sym view) none) in
+      let absent : lookup (same_spelling (f key)) (map (named f) m.entries) ≡ None = rw is (subst (λ (d : Numbered). number_of d x ≡ None) (sym view) none) in
       let last = insert_entry-new (λ a b. same_spelling (f a) (f b)) m key n (sym (lookup-map f (same_spelling (f key)) m.entries) ∙ absent) in
       ap (λ es. seen es (n + 1)) (inserted ∙ last)
-      ∙ ap (λ es. let d : Declared = record { numbers = es; count = n + 1 } in d) (map-append (named f) m.entries ((key, n) ∷ []))
-      ∙ rw is (ap (λ (d : Declared). with_name d x) view)
+      ∙ ap (λ es. let d : Numbered = record { numbers = es; count = n + 1 } in d) (map-append (named f) m.entries ((key, n) ∷ []))
+      ∙ rw is (ap (λ (d : Numbered). with_name d x) view)

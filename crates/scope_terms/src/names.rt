@@ -24,9 +24,9 @@ pub struct Names {
 }
 
 impl Model for Names {
-    ghost use Rattle.scope_terms.specs.Scopes.{Declared};
+    ghost use Rattle.scope_terms.specs.Scopes.{Numbered};
 
-    ghost Value = { Declared };
+    ghost Value = { Numbered };
 
     ghost use Rattle.std.specs.Prelude.{map};
 
@@ -80,8 +80,16 @@ impl Names {
                 if self.number(name.as_slice()).is_some() {
                     return Err(Fault::Refused(Code::E11));
                 }
-                let TypeAndBody { typ, body } =
-                    declaration_at(params.as_slice(), typ, body, alloc, self, &Binders::Outermost)?;
+                let none = Names::new(alloc)?;
+                let TypeAndBody { typ, body } = declaration_at(
+                    params.as_slice(),
+                    typ,
+                    body,
+                    alloc,
+                    self,
+                    &none,
+                    &Binders::Outermost,
+                )?;
                 self.add(alloc, name)?;
                 Ok(Scoped::Declare {
                     sort: *sort,
@@ -94,7 +102,7 @@ impl Names {
     }
 
     /// Adds a name with the next number.
-    fn add(&mut self, alloc: Global, name: &Listed<u8>) -> Result<(), NoMemory>
+    pub(crate) fn add(&mut self, alloc: Global, name: &Listed<u8>) -> Result<(), NoMemory>
         requires new { number_of self.old name.now ≡ None }
         requires room { self.old.count < 4294967295 }
         ensures ok { OnOk result (self.new ≡ with_name self.old name.now) }

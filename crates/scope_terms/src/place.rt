@@ -1,13 +1,11 @@
 //! What a name means at a place of a command.
-ghost use Rattle.std.specs.Prelude.{◌≡◌, IfOk, map};
+ghost use Rattle.std.specs.Prelude.{◌≡◌, IfOk};
 ghost use Rattle.std.specs.Option.{option_map};
-ghost use Rattle.dk_parser.specs.Written.{written_note};
-ghost use Rattle.scope_terms.specs.Scopes.{binds, place_from, same_spelling, variables_of, meaning_of};
+ghost use Rattle.scope_terms.specs.Scopes.{binds, place_from, meaning_of};
 ghost use Rattle.scope_terms.specs.Places.{binders, meaning};
 
 use crate::Names;
 use dk_model::{Listed, NoMemory};
-use dk_parser::RawNote;
 
 /// The binders above a place, innermost first. A binder that is None binds nothing that can be named.
 #[derive(Clone, Copy)]
@@ -53,37 +51,20 @@ fn variable<'a>(bound: &'a Binders<'a>, name: &[u8]) -> Result<Option<u64>, NoMe
     Ok(None)
 }
 
-/// The place of the rule variable so spelt among these entries of a context.
-pub(crate) fn rule_variable(variables: &[RawNote], name: &[u8]) -> Result<Option<u32>, NoMemory>
-    ensures { IfOk result (λ place. place ≡ place_from 0 (same_spelling name.now) (variables_of (map written_note variables.now))) }
-{
-    let mut at: u32 = 0;
-    for note in variables {
-        if name == note.name.as_slice() {
-            return Ok(Some(at));
-        }
-        at = match at.checked_add(1) {
-            Some(next) => next,
-            None => return Err(NoMemory),
-        };
-    }
-    Ok(None)
-}
-
-/// What the name means under these binders, with these entries of a context.
+/// What the name means under these binders, with these rule variables.
 pub(crate) fn look_up<'a>(
     names: &Names,
-    variables: &[RawNote],
+    variables: &Names,
     bound: &'a Binders<'a>,
     name: &[u8],
 ) -> Result<Named, NoMemory>
-    ensures { IfOk result (λ m. meaning m ≡ meaning_of names.now (variables_of (map written_note variables.now)) (binders bound.now) name.now) }
+    ensures { IfOk result (λ m. meaning m ≡ meaning_of names.now variables.now (binders bound.now) name.now) }
 {
     if let Some(place) = variable(bound, name)? {
         return Ok(Named::Variable(place));
     }
-    if let Some(place) = rule_variable(variables, name)? {
-        return Ok(Named::RuleVariable(place));
+    if let Some(number) = variables.number(name) {
+        return Ok(Named::RuleVariable(number));
     }
     match names.number(name) {
         Some(number) => Ok(Named::Symbol(number)),

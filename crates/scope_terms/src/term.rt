@@ -1,26 +1,26 @@
 //! The term that a written term stands for at a place of a command.
-ghost use Rattle.std.specs.Prelude.{◌≡◌, IfOk, IfErr, map};
+ghost use Rattle.std.specs.Prelude.{◌≡◌, IfOk, IfErr};
 ghost use Rattle.dk_model.specs.Trees.{tree};
 ghost use Rattle.dk_model.specs.Signatures.{maybe_tree};
-ghost use Rattle.dk_parser.specs.Written.{written, written_note, maybe_written};
-ghost use Rattle.scope_terms.specs.Scopes.{scoped, term_of, maybe_term_of, variables_of, meant_term, meaning_of};
+ghost use Rattle.dk_parser.specs.Written.{written, maybe_written};
+ghost use Rattle.scope_terms.specs.Scopes.{scoped, term_of, maybe_term_of, meant_term, meaning_of};
 ghost use Rattle.scope_terms.specs.Answers.{IsFaultOf};
 ghost use Rattle.scope_terms.specs.Places.{binders};
 
 use crate::Names;
 use crate::place::{Binders, Named, look_up};
 use dk_model::{Code, Fault, Listed, Term, make_annotated, make_app, make_bare, make_product};
-use dk_parser::{RawNote, RawTerm};
+use dk_parser::RawTerm;
 use std::alloc::Global;
 
 fn name_at<'a>(
     name: &Listed<u8>,
     names: &Names,
-    variables: &[RawNote],
+    variables: &Names,
     bound: &'a Binders<'a>,
 ) -> Result<Term, Fault>
-    ensures ok { IfOk result (λ t. meant_term (meaning_of names.now (variables_of (map written_note variables.now)) (binders bound.now) name.now) ≡ scoped (tree t)) }
-    ensures refused { IfErr result (IsFaultOf (meant_term (meaning_of names.now (variables_of (map written_note variables.now)) (binders bound.now) name.now))) }
+    ensures ok { IfOk result (λ t. meant_term (meaning_of names.now variables.now (binders bound.now) name.now) ≡ scoped (tree t)) }
+    ensures refused { IfErr result (IsFaultOf (meant_term (meaning_of names.now variables.now (binders bound.now) name.now))) }
 {
     match look_up(names, variables, bound, name.as_slice())? {
         Named::Variable(place) => Ok(Term::Var(place)),
@@ -30,17 +30,17 @@ fn name_at<'a>(
     }
 }
 
-/// The term, under these binders and with these entries of a context, or its first code.
+/// The term, under these binders and with these rule variables, or its first code.
 #[tactic(auto, using(crate::proofs::Stages::one_scoped, crate::proofs::Stages::one_fault, crate::proofs::Stages::both_scoped, crate::proofs::Stages::both_first, crate::proofs::Stages::both_second))]
 pub(crate) fn term_at<'a>(
     raw: &'a RawTerm,
     alloc: Global,
     names: &Names,
-    variables: &[RawNote],
+    variables: &Names,
     bound: &'a Binders<'a>,
 ) -> Result<Term, Fault>
-    ensures ok { IfOk result (λ t. term_of names.now (variables_of (map written_note variables.now)) (binders bound.now) (written raw.now) ≡ scoped (tree t)) }
-    ensures refused { IfErr result (IsFaultOf (term_of names.now (variables_of (map written_note variables.now)) (binders bound.now) (written raw.now))) }
+    ensures ok { IfOk result (λ t. term_of names.now variables.now (binders bound.now) (written raw.now) ≡ scoped (tree t)) }
+    ensures refused { IfErr result (IsFaultOf (term_of names.now variables.now (binders bound.now) (written raw.now))) }
 {
     match raw {
         RawTerm::Name(name) => name_at(name, names, variables, bound),
@@ -83,11 +83,11 @@ pub(crate) fn maybe_term_at<'a>(
     raw: &'a Option<RawTerm>,
     alloc: Global,
     names: &Names,
-    variables: &[RawNote],
+    variables: &Names,
     bound: &'a Binders<'a>,
 ) -> Result<Option<Term>, Fault>
-    ensures ok { IfOk result (λ t. maybe_term_of names.now (variables_of (map written_note variables.now)) (binders bound.now) (maybe_written raw.now) ≡ scoped (maybe_tree t)) }
-    ensures refused { IfErr result (IsFaultOf (maybe_term_of names.now (variables_of (map written_note variables.now)) (binders bound.now) (maybe_written raw.now))) }
+    ensures ok { IfOk result (λ t. maybe_term_of names.now variables.now (binders bound.now) (maybe_written raw.now) ≡ scoped (maybe_tree t)) }
+    ensures refused { IfErr result (IsFaultOf (maybe_term_of names.now variables.now (binders bound.now) (maybe_written raw.now))) }
 {
     match raw {
         None => Ok(None),
