@@ -1,5 +1,6 @@
 -- Scoping of two parts, one after the other.
-use Rattle.std.proofs.Common.{◌≡◌, ap, ◌∙◌, sym}
+use Rattle.std.proofs.Common.{◌≡◌, ap, ◌∙◌, sym, refl, List, [], ◌∷◌, ◌++◌}
+use Rattle.std.proofs.lemmas.List.{append_assoc}
 use Rattle.dk_model.specs.declared.code.Fault.{Fault}
 use Rattle.dk_model.specs.declared.code.Fault.TheVariants.{Refused, NoMemory}
 use Rattle.scope_terms.specs.Scopes.{Scoping, scoped, refused, one, both}
@@ -22,3 +23,15 @@ both_first f s t NoMemory is = tt
 pub both_second : {A B C : Type 0} (f : A → B → C) (s : Scoping A) (t : Scoping B) (a : A) (e : Fault) → s ≡ scoped a → IsFaultOf t e → IsFaultOf (both f s t) e
 both_second f s t a (Refused c) is it = ap (λ s'. both f s' t) is ∙ ap (one (f a)) it
 both_second f s t a NoMemory is it = tt
+
+-- a list that is scoped behind elements that are scoped already
+abbrev pub behind : {A : Type 0} → List A → Scoping (List A) → Scoping (List A)
+behind done s = one (λ xs. done ++ xs) s
+
+pub behind_none : {A : Type 0} (s : Scoping (List A)) → s ≡ behind [] s
+behind_none (scoped xs) = refl
+behind_none (refused c) = refl
+
+pub behind_more : {A : Type 0} (done : List A) (x : A) (s : Scoping (List A)) → one (λ xs. done ++ (x ∷ xs)) s ≡ behind (done ++ x ∷ []) s
+behind_more done x (scoped xs) = ap scoped (sym (append_assoc done (x ∷ []) xs))
+behind_more done x (refused c) = refl

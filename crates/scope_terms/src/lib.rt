@@ -5,6 +5,7 @@
 #![tactic(auto)]
 
 mod declaration;
+mod left;
 mod names;
 mod place;
 mod term;
