@@ -1,11 +1,10 @@
--- How the answer of a call stands to scoping.
-use Rattle.std.specs.Prelude.{◌≡◌, Result, Ok, Err}
+-- How the faults of a call stand to scoping.
+use Rattle.std.specs.Prelude.{◌≡◌}
 use Rattle.dk_model.specs.declared.code.Fault.{Fault}
 use Rattle.dk_model.specs.declared.code.Fault.TheVariants.{Refused, NoMemory}
-use Rattle.scope_terms.specs.Scopes.{Scoping, scoped, refused}
+use Rattle.scope_terms.specs.Scopes.{Scoping, refused}
 
--- the value where it is scoped, the code where it is refused, or want of memory
-abbrev pub Answers : {A B : Type 0} → (B → A) → Scoping A → Result B Fault → Type 0
-Answers view s (Ok b) = s ≡ scoped (view b)
-Answers view s (Err (Refused c)) = s ≡ refused c
-Answers view s (Err NoMemory) = Unit {0}
+-- the fault is the code of the scoping, or want of memory
+abbrev pub IsFaultOf : {A : Type 0} → Scoping A → Fault → Type 0
+IsFaultOf s (Refused c) = s ≡ refused c
+IsFaultOf s NoMemory = Unit {0}

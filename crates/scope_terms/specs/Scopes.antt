@@ -17,25 +17,29 @@ Spelling = List ℕ
 abbrev pub Binder : Type 0
 Binder = Option Spelling
 
--- the names that the commands before one declare, each with its command's number, and how many commands there are
-pub record Declared : Type 0 where
+-- names, each with its number, and the number that is next
+pub record Numbered : Type 0 where
   pub numbers : List (Spelling × ℕ)
   pub count : ℕ
 
-abbrev pub no_names : Declared
+abbrev pub no_names : Numbered
 no_names = record { numbers = []; count = 0 }
 
 abbrev pub same_spelling : Spelling → Spelling → Bool
 same_spelling = pointwise nat_eq
 
--- the number of the symbol with this name
-abbrev pub number_of : Declared → Spelling → Option ℕ
+-- the number of this name
+abbrev pub number_of : Numbered → Spelling → Option ℕ
 number_of names x = lookup (same_spelling x) names.numbers
 
--- the names after a command: a declaration adds its name with the command's number, rules take a number without a name
-abbrev pub names_after : Declared → WrittenForm → Declared
-names_after names (written_declare sort x params typ body) = record { numbers = names.numbers ++ (x, names.count) ∷ []; count = names.count + 1 }
-names_after names (written_rules rs) = record names { count = names.count + 1 }
+-- one more name, with the number that is next
+abbrev pub with_name : Numbered → Spelling → Numbered
+with_name names x = record { numbers = names.numbers ++ (x, names.count) ∷ []; count = names.count + 1 }
+
+-- the names after a command: a declaration adds its name, rules take a number without a name
+abbrev pub names_after : Numbered → WrittenForm → Numbered
+names_after names (written_declare sort x params typ body) = with_name names x
+names_after names (written_rules rs) = record { numbers = names.numbers; count = names.count + 1 }
 
 -- a value, or the first code from left to right
 pub data Scoping (A : Type 0) : Type 0 where
@@ -68,12 +72,12 @@ abbrev pub place_from : {A : Type 0} → ℕ → (A → Bool) → List A → Opt
 place_from n test [] = None
 place_from n test (x ∷ xs) = if test x then Some n else place_from (n + 1) test xs
 
--- the innermost binder so spelt, else the rule variable, else the symbol
-abbrev pub meaning_of : Declared → List Spelling → List Binder → Spelling → Meaning
+-- the innermost binder so spelt, else the rule variable, else the symbol; `bound` has the binders, innermost first
+abbrev pub meaning_of : Numbered → Numbered → List Binder → Spelling → Meaning
 meaning_of names variables bound x =
     option_map_or means_variable (place_from 0 (binds x) bound)
-    (option_map_or means_rule_variable (place_from 0 (same_spelling x) variables)
-    (option_map_or means_symbol (number_of names x) unknown))
+    (option_map_or means_rule_variable (number_of variables x)
+        (option_map_or means_symbol (number_of names x) unknown))
 
 abbrev pub meant_term : Meaning → Scoping Tree
 meant_term (means_variable k) = scoped (variable k)
@@ -89,7 +93,7 @@ meant_left unknown = refused E10
 
 -- ---- terms and left sides, under the binders `bound`, innermost first
 
-module _ (names : Declared) (variables : List Spelling) where
+module _ (names variables : Numbered) where
   abbrev pub term_of : List Binder → Written → Scoping Tree
   term_of bound (written_name x) = meant_term (meaning_of names variables bound x)
   term_of bound (written_qualified m x) = refused E10
@@ -126,41 +130,42 @@ abbrev pub with_parameter : Tree → Declaration → Declaration
 with_parameter a d = record { typ = option_map (product a) d.typ; body = option_map (annotated a) d.body }
 
 -- the type and the body of a declaration with these parameters, each of which sees the ones before it
-abbrev pub declaration_of : Declared → List Binder → List WrittenParam → Option Written → Option Written → Scoping Declaration
-declaration_of names bound [] typ body = both (λ t b. record { typ = t; body = b }) (maybe_term_of names [] bound typ) (maybe_term_of names [] bound body)
-declaration_of names bound (p ∷ ps) typ body = both with_parameter (term_of names [] bound p.typ) (declaration_of names (p.binder ∷ bound) ps typ body)
+abbrev pub declaration_of : Numbered → List Binder → List WrittenParam → Option Written → Option Written → Scoping Declaration
+declaration_of names bound [] typ body = both (λ t b. record { typ = t; body = b }) (maybe_term_of names no_names bound typ) (maybe_term_of names no_names bound body)
+declaration_of names bound (p ∷ ps) typ body = both with_parameter (term_of names no_names bound p.typ) (declaration_of names (p.binder ∷ bound) ps typ body)
 
 -- ---- rules
 
--- the annotations of a context after the entries named `before`, each of which sees the entries before it
-abbrev pub notes_of : Declared → List Spelling → List WrittenNote → Scoping (List (Option Tree))
+-- the annotations of a context's entries behind those named `before`; each sees the entries before it
+abbrev pub notes_of : Numbered → Numbered → List WrittenNote → Scoping (List (Option Tree))
 notes_of names before [] = scoped []
 notes_of names before (e ∷ es) =
-    if is_some (place_from 0 (same_spelling e.name) before) then refused E13 else (both (λ n ns. n ∷ ns) (maybe_term_of names before [] e.note) (notes_of names (before ++ e.name ∷ []) es))
+    if is_some (number_of before e.name) then refused E13 else (both (λ n ns. n ∷ ns) (maybe_term_of names before [] e.note) (notes_of names (with_name before e.name) es))
 
--- the rule variables that a context declares
-abbrev pub variables_of : List WrittenNote → List Spelling
-variables_of context = map (λ e. e.name) context
+-- the rule variables of a context, each with its place there
+abbrev pub variables_of : Numbered → List WrittenNote → Numbered
+variables_of before [] = before
+variables_of before (e ∷ es) = variables_of (with_name before e.name) es
 
--- a left side and a right side, with these rule variables
-abbrev pub sides_of : Declared → List Spelling → WrittenRule → Scoping (PlainLeft × Tree)
+-- the left side, then the right side, with these rule variables
+abbrev pub sides_of : Numbered → Numbered → WrittenRule → Scoping (PlainLeft × Tree)
 sides_of names variables r = both (λ l t. (l, t)) (left_of names variables [] r.left) (term_of names variables [] r.right)
 
--- a rule: its context, then its left side, then its right side
-abbrev pub rule_of : Declared → WrittenRule → Scoping PlainScopedRule
+-- a rule: its context, then its sides
+abbrev pub rule_of : Numbered → WrittenRule → Scoping PlainScopedRule
 rule_of names r =
     both (λ notes sides. record { vars = length r.context; notes = notes; left = sides.0; right = sides.1 })
-    (notes_of names [] r.context)
-    (sides_of names (variables_of r.context) r)
+    (notes_of names no_names r.context)
+    (sides_of names (variables_of no_names r.context) r)
 
-abbrev pub rules_of : Declared → List WrittenRule → Scoping (List PlainScopedRule)
+abbrev pub rules_of : Numbered → List WrittenRule → Scoping (List PlainScopedRule)
 rules_of names [] = scoped []
 rules_of names (r ∷ rs) = both (λ s ss. s ∷ ss) (rule_of names r) (rules_of names rs)
 
 -- ---- commands
 
 -- a command after the commands with these names; the declared name is looked at first
-abbrev pub scope_of : Declared → WrittenForm → Scoping PlainCommand
+abbrev pub scope_of : Numbered → WrittenForm → Scoping PlainCommand
 scope_of names (written_declare sort x params typ body) =
     if is_some (number_of names x) then refused E11 else (one (λ d. declare sort d.typ d.body) (declaration_of names [] params typ body))
 scope_of names (written_rules rs) = one rule_command (rules_of names rs)

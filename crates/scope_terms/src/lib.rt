@@ -4,6 +4,10 @@
 //! docs/scoping.md and specs/Scopes.antt, which says what scoping is.
 #![tactic(auto)]
 
+mod declaration;
+mod left;
 mod names;
+mod place;
+mod term;
 
 pub use names::{Names, ScopeFault};

@@ -1,12 +1,14 @@
 //! The names that the commands so far declare.
-ghost use Rattle.std.specs.Prelude.{◌≡◌, ◌<◌, IfOk, IfErr, OnOk, OnErr};
+ghost use Rattle.std.specs.Prelude.{◌≡◌, ◌<◌, None, IfOk, IfErr, OnOk, OnErr};
 ghost use Rattle.dk_model.specs.Scoping.{plain_command};
 ghost use Rattle.dk_parser.specs.Written.{written_form};
-ghost use Rattle.scope_terms.specs.Scopes.{no_names, number_of, names_after, scope_of};
-ghost use Rattle.scope_terms.specs.Answers.{Answers};
+ghost use Rattle.scope_terms.specs.Scopes.{no_names, number_of, with_name, names_after, scope_of, scoped};
+ghost use Rattle.scope_terms.specs.Answers.{IsFaultOf};
 
-use dk_model::{Fault, NoMemory, Scoped};
-use dk_parser::Raw;
+use crate::declaration::{TypeAndBody, declaration_at};
+use crate::place::Binders;
+use dk_model::{Code, Fault, Listed, NoMemory, Scoped};
+use dk_parser::{Raw, RawForm};
 use indexmap::IndexMap;
 use std::alloc::Global;
 use std::marker::Model;
@@ -22,9 +24,9 @@ pub struct Names {
 }
 
 impl Model for Names {
-    ghost use Rattle.scope_terms.specs.Scopes.{Declared};
+    ghost use Rattle.scope_terms.specs.Scopes.{Numbered};
 
-    ghost Value = { Declared };
+    ghost Value = { Numbered };
 
     ghost use Rattle.std.specs.Prelude.{map};
 
@@ -62,10 +64,53 @@ impl Names {
     /// refusal, want of memory too, the names are as before. `docs/scoping.md` has the rules.
     pub fn scope(&mut self, alloc: Global, raw: &Raw) -> Result<Scoped, ScopeFault>
         requires { self.old.count < 4294967295 }
-        ensures answer { Answers plain_command (scope_of self.old (written_form raw.now.form)) result }
-        ensures ok { OnOk result (self.new ≡ names_after self.old (written_form raw.now.form)) }
+        ensures ok { IfOk result (λ c. scope_of self.old (written_form raw.now.form) ≡ scoped (plain_command c)) }
+        ensures added { OnOk result (self.new ≡ names_after self.old (written_form raw.now.form)) }
+        ensures refused { IfErr result (IsFaultOf (scope_of self.old (written_form raw.now.form))) }
         ensures err { OnErr result (self.new ≡ self.old) }
     {
-        Err(Fault::NoMemory)
+        match &raw.form {
+            RawForm::Declare {
+                sort,
+                name,
+                params,
+                typ,
+                body,
+            } => {
+                if self.number(name.as_slice()).is_some() {
+                    return Err(Fault::Refused(Code::E11));
+                }
+                let none = Names::new(alloc)?;
+                let TypeAndBody { typ, body } = declaration_at(
+                    params.as_slice(),
+                    typ,
+                    body,
+                    alloc,
+                    self,
+                    &none,
+                    &Binders::Outermost,
+                )?;
+                self.add(alloc, name)?;
+                Ok(Scoped::Declare {
+                    sort: *sort,
+                    typ,
+                    body,
+                })
+            }
+            RawForm::Rules(_) => Err(Fault::NoMemory),
+        }
+    }
+
+    /// Adds a name with the next number.
+    pub(crate) fn add(&mut self, alloc: Global, name: &Listed<u8>) -> Result<(), NoMemory>
+        requires new { number_of self.old name.now ≡ None }
+        requires room { self.old.count < 4294967295 }
+        ensures ok { OnOk result (self.new ≡ with_name self.old name.now) }
+        ensures err { OnErr result (self.new ≡ self.old) }
+    {
+        let spelling = name.as_slice().to_vec(alloc)?;
+        self.numbers.insert(spelling, self.count)?;
+        self.count += 1;
+        Ok(())
     }
 }
