@@ -10,7 +10,7 @@ use Rattle.dk_model.specs.Spines.{arguments, applied, head_symbol, body_of, cont
 use Rattle.dk_model.specs.Selection.{rules_of, body_rule, declared_rules, rows_for, width, Captures, capture_at, filled, each_same, each_normal}
 use Rattle.dk_model.specs.Evaluation.{columns, rows, rewritten, whnf_with, selection_with, comparison_with, normal_with}
 use Rattle.typing_model.specs.Steps.{Step, beta, by_rule, in_function, no_arguments, AreMet, no_condition, Steps, no_step, one_step, capture, captured_at, instantiated, ReducesTo, AreJoinable}
-use Rattle.typing_model.proofs.Reduction.{reduces_itself, reduces_then, reduces_in_application, reduces_in_abstraction, reduces_in_product, reduces_under_arguments, joins, joinable_itself, joinable_before, joinable_applications, joinable_abstractions, joinable_products}
+use Rattle.typing_model.proofs.Reduction.{reduces_itself, reduces_then, reduces_in_application, reduces_in_abstraction, reduces_in_product, reduces_in_annotated, reduces_under_arguments, joins, joinable_itself, joinable_before, joinable_applications, joinable_abstractions, joinable_products}
 
 module _ (S : PlainSignature) (h : ℕ) where
   contraction_in : (f a u : Tree) (o : Option Tree) → ((g : Tree) → o ≡ Some g → Step S h f g)
@@ -131,3 +131,98 @@ module _ (S : PlainSignature) where
   pairs_join (bare b) (bare c) ps e j = let q : ps ≡ (b, c) ∷ [] = cc in joinable_abstractions S b c (along (JoinAll S) q j).0
   pairs_join (product a b) (product c d) ps e j = let q : ps ≡ (a, c) ∷ (b, d) ∷ [] = cc in let k : JoinAll S ((a, c) ∷ (b, d) ∷ []) = along (JoinAll S) q j in joinable_products S a b c d k.0 k.1.0
   pairs_join t u ps e j = cc
+
+pub from_bind : {A B : Type 0} (P : Type 0) (x : Units A) (g : A → ℕ → Units B) (r : B × ℕ) → bind x g ≡ Some r → ((p : A × ℕ) → x ≡ Some p → g p.0 p.1 ≡ Some r → P) → P
+from_bind P None g r e k = cc
+from_bind P (Some p) g r e k = k p refl e
+
+-- the answers of evaluation with this fuel have their meaning
+pub record IsSound (S : PlainSignature) (f : ℕ) : Type 0 where
+  pub whnf : (n m : ℕ) (t u : Tree) → whnf_with f S n t ≡ Some (u, m) → ReducesTo S t u
+  pub comparison : (n m : ℕ) (t u : Tree) → comparison_with f S n t u ≡ Some (true, m) → AreJoinable S t u
+  pub normal : (n m : ℕ) (t u : Tree) → normal_with f S n t ≡ Some (u, m) → ReducesTo S t u
+  pub rule : (n m k : ℕ) (t : Tree) (p : Captures × PlainRule) → head_symbol t ≡ Some k
+      → selection_with f S n (columns S k t) (rows S k t) ≡ Some (Some p, m) → ReducesTo S t (rewritten t p)
+
+module _ (S : PlainSignature) (f : ℕ) (I : IsSound S f) where
+  whnf_taken : (n m k j : ℕ) (t u : Tree) (o : Option (Captures × PlainRule)) → head_symbol t ≡ Some k
+      → selection_with f S n (columns S k t) (rows S k t) ≡ Some (o, j)
+      → elim o as (λ _. Units Tree) [ None ↦ Some (t, j) | Some p ↦ whnf_with f S j (rewritten t p) ] ≡ Some (u, m) → ReducesTo S t u
+  whnf_taken n m k j t u None q e h = along (ReducesTo S t) (same_answer t u j m h) (reduces_itself S t)
+  whnf_taken n m k j t u (Some p) q e h = reduces_then S t (rewritten t p) u (I.rule n j k t p q e) (I.whnf j m (rewritten t p) u h)
+
+  whnf_stands : (n m : ℕ) (t u : Tree) (s : Option ℕ) → head_symbol t ≡ s
+      → elim s as (λ _. Units Tree) [
+          None ↦ Some (t, n)
+        | Some k ↦ bind (selection_with f S n (columns S k t) (rows S k t)) (λ o j. elim o [
+              None ↦ Some (t, j)
+            | Some p ↦ whnf_with f S j (rewritten t p) ]) ] ≡ Some (u, m) → ReducesTo S t u
+  whnf_stands n m t u None q h = along (ReducesTo S t) (same_answer t u n m h) (reduces_itself S t)
+  whnf_stands n m t u (Some k) q h = from_bind (ReducesTo S t u) (selection_with f S n (columns S k t) (rows S k t)) _ (u, m) h
+      (λ r e i. whnf_taken n m k r.1 t u r.0 q e i)
+
+  whnf_turn : (n m : ℕ) (t u : Tree) (o : Option Tree) → contraction t ≡ o
+      → elim o as (λ _. Units Tree) [
+          Some v ↦ whnf_with f S n v
+        | None ↦ elim (head_symbol t) [
+            None ↦ Some (t, n)
+          | Some k ↦ bind (selection_with f S n (columns S k t) (rows S k t)) (λ o j. elim o [
+              None ↦ Some (t, j)
+            | Some p ↦ whnf_with f S j (rewritten t p) ]) ] ] ≡ Some (u, m) → ReducesTo S t u
+  whnf_turn n m t u None e h = whnf_stands n m t u (head_symbol t) refl h
+  whnf_turn n m t u (Some v) e h = reduces_then S t v u (0, one_step (contraction_steps S 0 t v e) no_step) (I.whnf n m v u h)
+
+  pub whnf_sound : (n m : ℕ) (t u : Tree) → whnf_with (suc f) S n t ≡ Some (u, m) → ReducesTo S t u
+  whnf_sound zero m t u h = cc
+  whnf_sound (suc n) m t u h = whnf_turn n m t u (contraction t) refl h
+
+  parts_joined : (m : ℕ) (p : Tree × Tree) (ps : List (Tree × Tree)) (x : Bool) (j : ℕ) → ((i : ℕ) → each_same (normal_with f S) (comparison_with f S) ps i ≡ Some (true, m) → JoinAll S ps)
+      → (x ≡ true → AreJoinable S p.0 p.1)
+      → (if x then each_same (normal_with f S) (comparison_with f S) ps j else Some (false, j)) ≡ Some (true, m) → JoinAll S (p ∷ ps)
+  parts_joined m p ps true j ih a h = (a refl, ih j h)
+  parts_joined m p ps false j ih a h = let q : false ≡ true = same_answer false true j m h in cc
+
+  pub each_same_joins : (ps : List (Tree × Tree)) (n m : ℕ) → each_same (normal_with f S) (comparison_with f S) ps n ≡ Some (true, m) → JoinAll S ps
+  each_same_joins [] n m h = tt
+  each_same_joins (p ∷ ps) n m h = from_bind (JoinAll S (p ∷ ps)) (comparison_with f S n p.0 p.1) _ (true, m) h
+      (λ r e i. parts_joined m p ps r.0 r.1 (λ j g. each_same_joins ps j m g) (λ q. I.comparison n r.1 p.0 p.1 (rw q at e)) i)
+
+  pairs_sound : (n m : ℕ) (t u : Tree) (o : Option (List (Tree × Tree))) → pairs_of t u ≡ o
+      → elim o as (λ _. Units Bool) [ None ↦ Some (false, n) | Some ps ↦ each_same (normal_with f S) (comparison_with f S) ps n ] ≡ Some (true, m) → AreJoinable S t u
+  pairs_sound n m t u None e h = let q : false ≡ true = same_answer false true n m h in cc
+  pairs_sound n m t u (Some ps) e h = pairs_join S t u ps e (each_same_joins ps n m h)
+
+  comparison_turn : (n m : ℕ) (t u : Tree) (x : Bool) → equal t u ≡ x
+      → (if x then Some (true, n) else bind (whnf_with f S n t) (λ t' n1. bind (whnf_with f S n1 u) (λ u' n2. elim (pairs_of t' u') [
+          None ↦ Some (false, n2)
+        | Some ps ↦ each_same (normal_with f S) (comparison_with f S) ps n2 ]))) ≡ Some (true, m) → AreJoinable S t u
+  comparison_turn n m t u true e h = along (AreJoinable S t) (equal_trees t u e) (joinable_itself S t)
+  comparison_turn n m t u false e h = from_bind (AreJoinable S t u) (whnf_with f S n t) _ (true, m) h (λ r e1 h1.
+      from_bind (AreJoinable S t u) (whnf_with f S r.1 u) _ (true, m) h1 (λ s e2 h2.
+      joinable_before S t r.0 u s.0 (I.whnf n r.1 t r.0 e1) (I.whnf r.1 s.1 u s.0 e2) (pairs_sound s.1 m r.0 s.0 (pairs_of r.0 s.0) refl h2)))
+
+  pub comparison_sound : (n m : ℕ) (t u : Tree) → comparison_with (suc f) S n t u ≡ Some (true, m) → AreJoinable S t u
+  comparison_sound zero m t u h = cc
+  comparison_sound (suc n) m t u h = comparison_turn n m t u (equal t u) refl h
+
+  pub each_normal_reduces : (t u : Tree) (n m : ℕ) → each_normal (normal_with f S) (comparison_with f S) t n ≡ Some (u, m) → ReducesTo S t u
+  each_normal_reduces (apply g a) u n m h = from_bind (ReducesTo S (apply g a) u) (each_normal (normal_with f S) (comparison_with f S) g n) _ (u, m) h (λ r e i.
+      from_bind (ReducesTo S (apply g a) u) (normal_with f S r.1 a) _ (u, m) i (λ s e' i'.
+      along (ReducesTo S (apply g a)) (same_answer (apply r.0 s.0) u s.1 m i')
+          (reduces_in_application S g r.0 a s.0 (each_normal_reduces g r.0 n r.1 e) (I.normal r.1 s.1 a s.0 e'))))
+  each_normal_reduces (bare b) u n m h = from_bind (ReducesTo S (bare b) u) (normal_with f S n b) _ (u, m) h (λ r e i.
+      along (ReducesTo S (bare b)) (same_answer (bare r.0) u r.1 m i) (reduces_in_abstraction S b r.0 (I.normal n r.1 b r.0 e)))
+  each_normal_reduces (annotated a b) u n m h = from_bind (ReducesTo S (annotated a b) u) (normal_with f S n a) _ (u, m) h (λ r e i.
+      from_bind (ReducesTo S (annotated a b) u) (normal_with f S r.1 b) _ (u, m) i (λ s e' i'.
+      along (ReducesTo S (annotated a b)) (same_answer (annotated r.0 s.0) u s.1 m i')
+          (reduces_in_annotated S a b r.0 s.0 (I.normal n r.1 a r.0 e) (I.normal r.1 s.1 b s.0 e'))))
+  each_normal_reduces (product a b) u n m h = from_bind (ReducesTo S (product a b) u) (normal_with f S n a) _ (u, m) h (λ r e i.
+      from_bind (ReducesTo S (product a b) u) (normal_with f S r.1 b) _ (u, m) i (λ s e' i'.
+      along (ReducesTo S (product a b)) (same_answer (product r.0 s.0) u s.1 m i')
+          (reduces_in_product S a b r.0 s.0 (I.normal n r.1 a r.0 e) (I.normal r.1 s.1 b s.0 e'))))
+  each_normal_reduces t u n m h = along (ReducesTo S t) (same_answer t u n m h) (reduces_itself S t)
+
+  pub normal_sound : (n m : ℕ) (t u : Tree) → normal_with (suc f) S n t ≡ Some (u, m) → ReducesTo S t u
+  normal_sound zero m t u h = cc
+  normal_sound (suc n) m t u h = from_bind (ReducesTo S t u) (whnf_with f S n t) _ (u, m) h
+      (λ r e i. reduces_then S t r.0 u (I.whnf n r.1 t r.0 e) (each_normal_reduces r.0 u r.1 m i))

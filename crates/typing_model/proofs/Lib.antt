@@ -1,2 +1,4 @@
 pub mod Reduction
 pub mod Evaluation
+pub mod Bodies
+pub mod Typing

@@ -3,7 +3,7 @@ use Rattle.std.proofs.Common.{List, [], ◌∷◌, ◌++◌, ℕ, zero, suc, ◌
 use Rattle.dk_model.specs.Trees.{Tree, star, kind, symbol, variable, rule_variable, apply, bare, annotated, product}
 use Rattle.dk_model.specs.Signatures.{PlainSignature}
 use Rattle.dk_model.specs.Spines.{applied}
-use Rattle.typing_model.specs.Steps.{Step, beta, by_rule, in_function, in_argument, in_abstraction, in_domain, in_codomain, Steps, no_step, one_step, AreMet, no_condition, one_condition, ReducesTo, AreJoinableAt, AreJoinable}
+use Rattle.typing_model.specs.Steps.{Step, beta, by_rule, in_function, in_argument, in_abstraction, in_annotation, in_annotated_body, in_domain, in_codomain, Steps, no_step, one_step, AreMet, no_condition, one_condition, ReducesTo, AreJoinableAt, AreJoinable}
 
 module _ (S : PlainSignature) where
   pub met_raised : {h : ℕ} {cs : List (Tree × Tree)} (g : ℕ) → h ≤ g → AreMet S h cs → AreMet S g cs
@@ -16,6 +16,8 @@ module _ (S : PlainSignature) where
   step_raised g le (in_function s) = in_function (step_raised g le s)
   step_raised g le (in_argument s) = in_argument (step_raised g le s)
   step_raised g le (in_abstraction s) = in_abstraction (step_raised g le s)
+  step_raised g le (in_annotation s) = in_annotation (step_raised g le s)
+  step_raised g le (in_annotated_body s) = in_annotated_body (step_raised g le s)
   step_raised g le (in_domain s) = in_domain (step_raised g le s)
   step_raised g le (in_codomain s) = in_codomain (step_raised g le s)
 
@@ -48,6 +50,10 @@ module _ (S : PlainSignature) where
   pub reduces_in_product : (a b c d : Tree) → ReducesTo S a c → ReducesTo S b d → ReducesTo S (product a b) (product c d)
   reduces_in_product a b c d r s = reduces_then (product a b) (product c b) (product c d)
       (r.0, steps_under (λ t. product t b) (λ x y q. in_domain q) r.1) (s.0, steps_under (λ t. product c t) (λ x y q. in_codomain q) s.1)
+
+  pub reduces_in_annotated : (a b c d : Tree) → ReducesTo S a c → ReducesTo S b d → ReducesTo S (annotated a b) (annotated c d)
+  reduces_in_annotated a b c d r s = reduces_then (annotated a b) (annotated c b) (annotated c d)
+      (r.0, steps_under (λ t. annotated t b) (λ x y q. in_annotation q) r.1) (s.0, steps_under (λ t. annotated c t) (λ x y q. in_annotated_body q) s.1)
 
   pub reduces_under_arguments : (t u : Tree) (xs : List Tree) → ReducesTo S t u → ReducesTo S (applied t xs) (applied u xs)
   reduces_under_arguments t u [] r = r

@@ -73,8 +73,8 @@ abbrev pub conditions : List Part → List (Tree × Tree)
 conditions parts = conditions_behind (capture parts) [] parts
 
 mutual
-  -- a step at a height, at any place in a term without annotations: beta, or a rule whose conditions are joinable at
-  -- heights below (Saillard 2015, beta and Gamma reduction)
+  -- a step at a height, at any place in a term: beta, or a rule whose conditions are joinable at heights below
+  -- (Saillard 2015, beta and Gamma reduction)
   pub data Step (S : PlainSignature) : ℕ → Tree → Tree → Type 0 where
     beta : {h : ℕ} {b a : Tree} → Step S h (apply (bare b) a) (substitute 0 a b)
     by_rule : {h : ℕ} (k : ℕ) (r : PlainRule) (ts : List Tree) (parts : List Part)
@@ -83,6 +83,8 @@ mutual
     in_function : {h : ℕ} {f g a : Tree} → Step S h f g → Step S h (apply f a) (apply g a)
     in_argument : {h : ℕ} {f a b : Tree} → Step S h a b → Step S h (apply f a) (apply f b)
     in_abstraction : {h : ℕ} {a b : Tree} → Step S h a b → Step S h (bare a) (bare b)
+    in_annotation : {h : ℕ} {a b c : Tree} → Step S h a b → Step S h (annotated a c) (annotated b c)
+    in_annotated_body : {h : ℕ} {a b c : Tree} → Step S h b c → Step S h (annotated a b) (annotated a c)
     in_domain : {h : ℕ} {a b c : Tree} → Step S h a b → Step S h (product a c) (product b c)
     in_codomain : {h : ℕ} {a b c : Tree} → Step S h b c → Step S h (product a b) (product a c)
 
