@@ -1,0 +1,8 @@
+//! The check of one command on plain trees, by substitution: what the whole program answers by definition.
+//!
+//! Begin at `check_plain`.
+#![tactic(auto)]
+
+mod check;
+
+pub use check::{check_plain, entry_of, infer_plain};
