@@ -1,6 +1,6 @@
 -- What inference and checking answer has a derivation, where evaluation has its meaning.
-use Rattle.std.specs.Prelude.{Bool, true, false, slice_get}
-use Rattle.std.proofs.Common.{List, [], ◌∷◌, ℕ, zero, suc, ◌≡◌, ◌≢◌, ◌+◌, Option, Some, None, refl, ap, ◌∙◌, sym as flip, subst as along, arith}
+use Rattle.std.specs.Prelude.{Bool, true, false}
+use Rattle.std.proofs.Common.{List, ◌∷◌, ℕ, ◌≡◌, ◌≢◌, Some, None, refl, ap, ◌∙◌, subst as along}
 use Rattle.dk_model.specs.declared.code.Code.{Code}
 use Rattle.dk_model.specs.declared.code.Code.TheVariants.{E20, E24}
 use Rattle.dk_model.specs.Trees.{Tree, star, kind, symbol, variable, rule_variable, apply, bare, annotated, product}
@@ -45,16 +45,16 @@ agreed_is : (x : Bool) (n m : ℕ) (u : Unit {0}) → agreed x n ≡ answer u m 
 agreed_is true n m u e = refl
 agreed_is false n m u e = cc
 
-body_type : (B C : Tree) (n m : ℕ) → not_kind B n ≡ answer C m → (B ≡ C) × (B ≢ kind)
-body_type kind C n m e = cc
-body_type star C n m e = (cc, λ i. cc)
-body_type (symbol k) C n m e = (cc, λ i. cc)
-body_type (variable k) C n m e = (cc, λ i. cc)
-body_type (rule_variable k) C n m e = (cc, λ i. cc)
-body_type (apply f a) C n m e = (cc, λ i. cc)
-body_type (bare b) C n m e = (cc, λ i. cc)
-body_type (annotated a b) C n m e = (cc, λ i. cc)
-body_type (product a b) C n m e = (cc, λ i. cc)
+pub not_kind_is : (B C : Tree) (n m : ℕ) → not_kind B n ≡ answer C m → (B ≡ C) × (B ≢ kind)
+not_kind_is kind C n m e = cc
+not_kind_is star C n m e = (cc, λ i. cc)
+not_kind_is (symbol k) C n m e = (cc, λ i. cc)
+not_kind_is (variable k) C n m e = (cc, λ i. cc)
+not_kind_is (rule_variable k) C n m e = (cc, λ i. cc)
+not_kind_is (apply f a) C n m e = (cc, λ i. cc)
+not_kind_is (bare b) C n m e = (cc, λ i. cc)
+not_kind_is (annotated a b) C n m e = (cc, λ i. cc)
+not_kind_is (product a b) C n m e = (cc, λ i. cc)
 
 module _ (S : PlainSignature) (W : WhnfReduces S) (C : ComparisonJoins S) where
   pub product_reduces : (c : Code) (T : Tree) (n m : ℕ) (p : Tree × Tree) → as_product S c T n ≡ answer p m → ReducesTo S T (product p.0 p.1)
@@ -80,7 +80,7 @@ module _ (S : PlainSignature) (W : WhnfReduces S) (C : ComparisonJoins S) where
     application_derives G f a F T n m fits k d e = from_next (HasType S V G (apply f a) T) (as_product S E20 F n) _ T m e (λ p i e1 h.
         from_next (HasType S V G (apply f a) T) (fits p.0 i) _ T m h (λ u j e2 g.
         along (HasType S V G (apply f a)) (same_judged (substitute 0 (erased a) p.1) T j m g)
-            (application_has d (product_reduces E20 F n i p e1) (k p.0 i j u e2))))
+        (application_has d (product_reduces E20 F n i p e1) (k p.0 i j u e2))))
 
     product_derives : (G : List Tree) (d b s T : Tree) (n m : ℕ) (sort : ℕ → Judged Tree)
         → ((r : Tree) (i j : ℕ) → sort i ≡ answer r j → HasType S V (erased d ∷ G) b r)
@@ -95,9 +95,9 @@ module _ (S : PlainSignature) (W : WhnfReduces S) (C : ComparisonJoins S) where
     abstraction_derives G d b s T n m typ k h e = from_next (HasType S V G (annotated d b) T) (as_star S s n) _ T m e (λ u i e1 g.
         from_next (HasType S V G (annotated d b) T) (typ i) _ T m g (λ B j e2 g'.
         from_next (HasType S V G (annotated d b) T) (not_kind B j) _ T m g' (λ C l e3 g''.
-        let q : (B ≡ C) × (B ≢ kind) = body_type B C j l e3 in
+        let q : (B ≡ C) × (B ≢ kind) = not_kind_is B C j l e3 in
         along (HasType S V G (annotated d b)) (ap (product (erased d)) q.0 ∙ same_judged (product (erased d) C) T l m g'')
-            (abstraction_has h (star_reduces s n i u e1) (k B i j e2) q.1))))
+        (abstraction_has h (star_reduces s n i u e1) (k B i j e2) q.1))))
 
     annotated_derives : (G : List Tree) (d b s A B T : Tree) (n m : ℕ) (v : Unit {0}) (fits : ℕ → Judged (Unit {0}))
         → ((i j : ℕ) (u : Unit {0}) → fits i ≡ answer u j → Fits S V (A ∷ G) b B)
@@ -131,7 +131,7 @@ module _ (S : PlainSignature) (W : WhnfReduces S) (C : ComparisonJoins S) where
       checked_derives G (annotated d b) T n m u e = from_next (Fits S V G (annotated d b) T) (as_product S E24 T n) _ u m e (λ p i e1 g.
           from_next (Fits S V G (annotated d b) T) (inferred S V G d i) _ u m g (λ s j e2 g'.
           annotated_derives G d b s p.0 p.1 T j m u (checked S V (p.0 ∷ G) b p.1) (λ x y w h. checked_derives (p.0 ∷ G) b p.1 x y w h)
-              (product_reduces E24 T n i p e1) (inferred_derives G d s i j e2) g'))
+          (product_reduces E24 T n i p e1) (inferred_derives G d s i j e2) g'))
       checked_derives G (apply f a) T n m u e = against_derives G (apply f a) T m u _ refl (λ U i h.
           from_next (HasType S V G (apply f a) U) (inferred S V G f n) _ U i h (λ F j e1 g.
           application_derives G f a F U j i (checked S V G a) (λ A x y w h'. checked_derives G a A x y w h') (inferred_derives G f F n j e1) g)) e

@@ -1,5 +1,5 @@
 -- Reduction: instances of patterns, steps by beta and by rules, terms that reduce to one another, joinable terms.
-use Rattle.std.specs.Prelude.{ℕ, suc, ◌+◌, ◌≡◌, ◌<◌, Option, Some, None, Bool, false, List, [], ◌∷◌, ◌++◌, eqb, if◌then◌else◌, Contains}
+use Rattle.std.specs.Prelude.{ℕ, ◌+◌, ◌≡◌, ◌<◌, Option, Some, None, false, List, [], ◌∷◌, ◌++◌, eqb, if◌then◌else◌, Contains}
 use Rattle.dk_model.specs.Trees.{Tree, star, kind, symbol, variable, rule_variable, apply, bare, annotated, product}
 use Rattle.dk_model.specs.Substitution.{shift, substitute}
 use Rattle.dk_model.specs.Signatures.{Pattern, Patterns, pattern_list, rule_variable_pattern, wildcard_pattern, guard_pattern, symbol_pattern, variable_pattern, abstraction_pattern, PlainRule, PlainSignature}
