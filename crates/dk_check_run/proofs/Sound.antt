@@ -6,7 +6,7 @@ use Rattle.dk_model.specs.Scoping.{PlainCommand, declare, rule_command}
 use Rattle.dk_model.specs.Trees.{Tree}
 use Rattle.dk_model.specs.Verdicts.{AddsNoRules, HasNoRules, entry_of, inferred_type}
 use Rattle.dk_parser.specs.Written.{WrittenForm, written_declare, written_rules}
-use Rattle.scope_terms.specs.Scopes.{Declared, Scoping, scoped, refused, names_after}
+use Rattle.scope_terms.specs.Scopes.{Numbered, Scoping, scoped, refused, names_after}
 use Rattle.dk_check_run.specs.Outcomes.{scoped_entry}
 use Rattle.dk_check_run.specs.Theories.{Checked, IsSound, AcceptsWith, Adds}
 
@@ -25,7 +25,7 @@ scoped_adds : (S : PlainSignature) (budget : ℕ) (s : Scoping PlainCommand) (e 
 scoped_adds S budget (refused code) e is = cc
 scoped_adds S budget (scoped c) e is = subst AddsNoRules (first_of_one _ _ is) (entry_adds S c (inferred_type S c budget))
 
-names_counted : (N : Declared) (form : WrittenForm) → (names_after N form).count ≡ N.count + 1
+names_counted : (N : Numbered) (form : WrittenForm) → (names_after N form).count ≡ N.count + 1
 names_counted N (written_declare sort name params typ body) = refl
 names_counted N (written_rules rs) = refl
 

@@ -8,14 +8,17 @@ use Rattle.dk_model.specs.declared.code.Code.{Code}
 use Rattle.dk_model.specs.declared.code.Code.TheVariants.{E08}
 use Rattle.dk_model.specs.declared.code.Verdict.{Verdict}
 use Rattle.dk_model.specs.declared.code.Verdict.TheVariants as verdict
+use Rattle.dk_lexer.specs.Tokens.{Ending}
+use Rattle.dk_parser.specs.Reading.{Reading, Tail, read}
+use Rattle.dk_parser.specs.Reading as reading
 use Rattle.dk_parser.specs.Written.{WrittenForm, written_declare, written_rules, WrittenCommand}
-use Rattle.scope_terms.specs.Scopes.{Declared, Scoping, scoped, refused, no_names, names_after, scope_of}
+use Rattle.scope_terms.specs.Scopes.{Numbered, Scoping, scoped, refused, no_names, names_after, scope_of}
 use Rattle.verdict_book.specs.declared.outcome.Outcome.{Outcome}
 use Rattle.verdict_book.specs.declared.outcome.Outcome.TheVariants.{Accepted, Stopped, Unread}
 
 -- what the commands accepted so far declare
 pub record Theory : Type 0 where
-  pub names : Declared
+  pub names : Numbered
   pub signature : PlainSignature
 
 abbrev pub no_theory : Theory
@@ -45,13 +48,6 @@ abbrev pub shown_name : WrittenForm → List ℕ
 shown_name (written_declare sort name params typ body) = name
 shown_name (written_rules rules) = []
 
--- how reading ends behind the last whole command: at the end of the input, at a fault in the command
--- that is due, or at a read that failed
-pub data Tail : Type 0 where
-  whole_tail : Tail
-  fault_tail : ℕ → Code → Tail
-  unread_tail : Tail
-
 -- the names of the `ok` lines and the outcome
 pub record FileReport : Type 0 where
   pub names : List (List ℕ)
@@ -62,9 +58,9 @@ with_names names r = record { names = names ++ r.names; outcome = r.outcome }
 
 -- the outcome where so many commands were accepted and no other was read
 abbrev pub tail_outcome : ℕ → Tail → Outcome
-tail_outcome count whole_tail = Accepted count
-tail_outcome count (fault_tail line code) = Stopped (count + 1) line (verdict.Refused code)
-tail_outcome count unread_tail = Unread (count + 1)
+tail_outcome count reading.whole = Accepted count
+tail_outcome count (reading.fault line code) = Stopped (count + 1) line (verdict.Refused code)
+tail_outcome count reading.unread = Unread (count + 1)
 
 -- the verdict on the command behind so many accepted ones
 abbrev pub verdict_at : Limits → ℕ → Theory → ℕ → WrittenForm → Verdict
@@ -81,6 +77,10 @@ report_from limits budget T count [] tail = record { names = []; outcome = tail_
 report_from limits budget T count (c ∷ cs) tail =
     by_verdict (verdict_at limits budget T count c.form) count c (report_from limits budget (theory_after T budget c.form) (count + 1) cs tail)
 
--- the report of a file's commands
-abbrev pub report_of_commands : Limits → ℕ → List WrittenCommand → Tail → FileReport
-report_of_commands limits budget cs tail = report_from limits budget no_theory 0 cs tail
+-- the report of what a file is read as
+abbrev pub report_of_reading : Limits → ℕ → Reading → FileReport
+report_of_reading limits budget r = report_from limits budget no_theory 0 r.commands r.tail
+
+-- the report of the bytes of a file under an ending
+abbrev pub report_of_bytes : Limits → ℕ → List ℕ → Ending → FileReport
+report_of_bytes limits budget bytes ending = report_of_reading limits budget (read limits bytes ending)
