@@ -1,1 +1,5 @@
+pub mod Assumed
 pub mod Sound
+pub mod Stands
+pub mod Starts
+pub mod Steps

@@ -1,6 +1,8 @@
 //! Checks a file: reads it, checks its commands one after the other and writes the report. Begin at `run`.
 #![tactic(auto)]
 
+mod reader;
 mod theory;
 
+pub use reader::Reader;
 pub use theory::Theory;

@@ -59,6 +59,7 @@ impl Theory {
         requires sound { IsSound (checked_of self.old) }
         requires few { limits.now.commands < 4294967296 }
         ensures sound { result ≡ Verdict.Accepted → IsSound (checked_of self.new) }
+        ensures few { result ≡ Verdict.Accepted → length (checked_of self.new).shown ≤ limits.now.commands }
         ensures judged { Judges limits.now budget (checked_of self.old) (written_form raw.form) result (checked_of self.new) }
     {
         if self.shown.len() >= limits.commands as usize {

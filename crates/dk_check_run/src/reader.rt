@@ -1,0 +1,90 @@
+//! Reads the commands of a file from its bytes and judges each as soon as it is whole.
+ghost use Rattle.std.specs.Prelude.{◌≡◌, ◌≤◌, ◌<◌, ◌+◌, length, ◌∷◌, ◌++◌, [], ℕ, List, IfOk, None, Some};
+ghost use Rattle.dk_lexer.specs.Given.{given, with_token};
+ghost use Rattle.dk_lexer.specs.Tokens.{Ending, tokens};
+ghost use Rattle.dk_lexer.specs.declared.token.Token.{Token};
+ghost use Rattle.dk_model.specs.declared.limits.Limits.{Limits};
+ghost use Rattle.dk_parser.specs.Written.{written_command};
+ghost use Rattle.verdict_book.specs.declared.outcome.Outcome.{Outcome};
+ghost use Rattle.dk_check_run.specs.Theories.{checked_of};
+ghost use Rattle.dk_check_run.specs.Progress.{GoesOnBehind, IsReady, JudgesWhole, StandsAt, StandsAtTokens};
+
+use crate::Theory;
+use dk_lexer::{Fed, Lexer, Token};
+use dk_model::{Fault, Limits, Listed, NoMemory, Verdict};
+use dk_parser::{Parser, Raw, Step};
+use std::alloc::Global;
+use verdict_book::Outcome;
+
+/// What has been read and judged of a file. Once it has stopped, nothing changes.
+#[derive(Drop)]
+pub struct Reader {
+    pub limits: Limits,
+    pub budget: u64,
+    pub lexer: Lexer,
+    pub parser: Parser,
+    pub theory: Theory,
+    pub stop: Option<Outcome>,
+}
+
+impl Reader {
+    pub fn new(alloc: Global, limits: Limits, budget: u64) -> Result<Reader, NoMemory>
+        ensures { IfOk result (λ r. StandsAt limits budget [] r) }
+    {
+        let parser = Parser::new(alloc, limits)?;
+        let theory = Theory::new(alloc)?;
+        Ok(Reader {
+            limits,
+            budget,
+            lexer: Lexer::new(limits),
+            parser,
+            theory,
+            stop: None,
+        })
+    }
+
+    // Stops at the command that is due.
+    fn stop_at(&mut self, line: u32, verdict: Verdict)
+        requires { length (checked_of self.old.theory).shown < 4294967295 }
+        ensures { self.new ≡ record self.old { stop = Some (Outcome.Stopped (length (checked_of self.old.theory).shown + 1) line verdict) } }
+    {
+        let number = self.theory.shown().len() as u32 + 1;
+        self.stop = Some(Outcome::Stopped(number, line, verdict));
+    }
+
+    // Judges a whole command.
+    fn command(&mut self, alloc: Global, raw: Raw)
+        requires ready { IsReady self.old }
+        requires going { self.old.stop ≡ None }
+        ensures judged { JudgesWhole self.old (written_command raw) self.new }
+        ensures ready { self.new.stop ≡ None → IsReady self.new }
+    {
+        let line = raw.line;
+        match self.theory.judge(alloc, &self.limits, self.budget, raw) {
+            Verdict::Accepted => {}
+            verdict => self.stop_at(line, verdict),
+        }
+    }
+
+    // Takes one token.
+    fn token(&mut self, alloc: Global, token: Token)
+        requires ready { IsReady self.old }
+        requires going { self.old.stop ≡ None }
+        ensures stands { (limits : Limits) (budget : ℕ) (bytes : List ℕ) (ending : Ending) (taken coming : List Token) →
+            (tokens limits bytes ending).tokens ≡ taken ++ token ∷ coming → GoesOnBehind limits budget taken self.old →
+            StandsAtTokens limits budget bytes ending (taken ++ token ∷ []) self.new }
+        ensures ready { self.new.stop ≡ None → IsReady self.new }
+        ensures lexer { self.new.lexer ≡ self.old.lexer }
+    {
+        let line = self.parser.begun().unwrap_or(token.line);
+        match self.parser.feed(alloc, token) {
+            Ok(Step::More) => {}
+            Ok(Step::Command(raw)) => self.command(alloc, raw),
+            Err(Fault::Refused(code)) => {
+                let line = self.parser.begun().unwrap_or(line);
+                self.stop_at(line, Verdict::Refused(code));
+            }
+            Err(Fault::NoMemory) => self.stop_at(line, Verdict::Memory),
+        }
+    }
+}
