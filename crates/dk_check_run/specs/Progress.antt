@@ -5,7 +5,7 @@ use Rattle.dk_model.specs.declared.code.Verdict.TheVariants as verdict
 use Rattle.dk_model.specs.declared.limits.Limits.{Limits}
 use Rattle.dk_lexer.specs.declared.token.Token.{Token}
 use Rattle.dk_lexer.specs.Tokens.{Ending, Lexed, broken, whole, tokens}
-use Rattle.dk_lexer.specs.Given.{begun_line}
+use Rattle.dk_lexer.specs.Given.{IsFrontOf, begun_line}
 use Rattle.dk_lexer.specs.Steps.{lexer_after}
 use Rattle.dk_parser.specs.Parsing.{parsing_after}
 use Rattle.dk_parser.specs.Views.{parsing}
@@ -70,6 +70,17 @@ StopsAtTokens limits budget given ending names =
     StopsBy (MemoryAt limits budget given ending names)
     (λ outcome. TokensSettle limits budget (tokens limits given ending).tokens (record { names = names; outcome = outcome }))
 
+-- these tokens and what stands behind them settle the report, whatever comes behind
+abbrev pub LexedSettles : Limits → ℕ → Lexed → FileReport → Type 0
+LexedSettles limits budget lexed report = (new : Lexed) (ending : Ending) → IsFrontOf lexed new →
+    report_of_reading limits budget (reading_of (read_tokens limits new.tokens) new ending) ≡ report
+
+-- how the reader stopped at what a byte, or the end, gave
+abbrev pub StopsAtLexed : Limits → ℕ → List ℕ → Ending → List (List ℕ) → Outcome → Type 0
+StopsAtLexed limits budget given ending names =
+    StopsBy (MemoryAt limits budget given ending names)
+    (λ outcome. LexedSettles limits budget (tokens limits given ending) (record { names = names; outcome = outcome }))
+
 -- memory ended somewhere in these bytes
 pub record MemoryIn (limits : Limits) (budget : ℕ) (bytes : List ℕ) (names : List (List ℕ)) (number line : ℕ) : Type 0 where
   pub given : List ℕ
@@ -117,6 +128,19 @@ stands_at_tokens limits budget given ending ts r (Some outcome) = StopsAtTokens 
 -- the reader behind these tokens of the bytes given
 abbrev pub StandsAtTokens : Limits → ℕ → List ℕ → Ending → List Token → Reader → Type 0
 StandsAtTokens limits budget given ending ts r = stands_at_tokens limits budget given ending ts r r.stop
+
+-- the reader goes on behind the tokens of these bytes, which have no fault
+pub record GoesOnBehindAll (limits : Limits) (budget : ℕ) (lexed : Lexed) (r : Reader) : Type 0 where
+  pub behind : GoesOnBehind limits budget lexed.tokens r
+  pub no_fault : lexed.fault ≡ None
+
+abbrev pub stands_at_lexed : Limits → ℕ → List ℕ → Ending → Reader → Option Outcome → Type 0
+stands_at_lexed limits budget given ending r None = GoesOnBehindAll limits budget (tokens limits given ending) r
+stands_at_lexed limits budget given ending r (Some outcome) = StopsAtLexed limits budget given ending (checked_of r.theory).shown outcome
+
+-- the reader behind all that the bytes give under an ending
+abbrev pub StandsAtLexed : Limits → ℕ → List ℕ → Ending → Reader → Type 0
+StandsAtLexed limits budget given ending r = stands_at_lexed limits budget given ending r r.stop
 
 -- the reader goes on behind these bytes
 pub record GoesOnAfter (limits : Limits) (budget : ℕ) (given : List ℕ) (r : Reader) : Type 0 where

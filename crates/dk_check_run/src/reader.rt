@@ -1,13 +1,13 @@
 //! Reads the commands of a file from its bytes and judges each as soon as it is whole.
-ghost use Rattle.std.specs.Prelude.{◌≡◌, ◌≤◌, ◌<◌, ◌+◌, length, ◌∷◌, ◌++◌, [], ℕ, List, IfOk, None, Some};
-ghost use Rattle.dk_lexer.specs.Given.{given, with_token};
-ghost use Rattle.dk_lexer.specs.Tokens.{Ending, tokens};
+ghost use Rattle.std.specs.Prelude.{◌≡◌, ◌≢◌, ◌≤◌, ◌<◌, ◌+◌, length, ◌∷◌, ◌++◌, [], ℕ, List, IfOk, None, Some};
+ghost use Rattle.dk_lexer.specs.Given.{AddsTokens, with_token};
+ghost use Rattle.dk_lexer.specs.Tokens.{Ending, Lexed, tokens};
 ghost use Rattle.dk_lexer.specs.declared.token.Token.{Token};
 ghost use Rattle.dk_model.specs.declared.limits.Limits.{Limits};
 ghost use Rattle.dk_parser.specs.Written.{written_command};
 ghost use Rattle.verdict_book.specs.declared.outcome.Outcome.{Outcome};
 ghost use Rattle.dk_check_run.specs.Theories.{checked_of};
-ghost use Rattle.dk_check_run.specs.Progress.{GoesOnBehind, IsReady, JudgesWhole, StandsAt, StandsAtTokens};
+ghost use Rattle.dk_check_run.specs.Progress.{GoesOnBehind, IsReady, JudgesWhole, StandsAt, StandsAtLexed, StandsAtTokens};
 
 use crate::Theory;
 use dk_lexer::{Fed, Lexer, Token};
@@ -85,6 +85,77 @@ impl Reader {
                 self.stop_at(line, Verdict::Refused(code));
             }
             Err(Fault::NoMemory) => self.stop_at(line, Verdict::Memory),
+        }
+    }
+
+    // Takes a token, where there is one and the reader hasn't stopped.
+    fn maybe_token(&mut self, alloc: Global, token: Option<Token>)
+        requires ready { self.old.stop ≡ None → IsReady self.old }
+        ensures stands { (limits : Limits) (budget : ℕ) (bytes : List ℕ) (ending : Ending) (taken coming : List Token) →
+            (tokens limits bytes ending).tokens ≡ taken ++ with_token token coming → StandsAtTokens limits budget bytes ending taken self.old →
+            StandsAtTokens limits budget bytes ending (taken ++ with_token token []) self.new }
+        ensures ready { self.new.stop ≡ None → IsReady self.new }
+        ensures lexer { self.new.lexer ≡ self.old.lexer }
+    {
+        let Some(token) = token else {
+            return;
+        };
+        if self.stop.is_some() {
+            return;
+        }
+        self.token(alloc, token);
+    }
+
+    // Takes the tokens that a byte, or the end of the input, completed.
+    fn tokens(
+        &mut self,
+        alloc: Global,
+        first: Option<Token>,
+        second: Option<Token>,
+        third: Option<Token>,
+        fourth: Option<Token>,
+    )
+        requires ready { self.old.stop ≡ None → IsReady self.old }
+        ensures stands { (limits : Limits) (budget : ℕ) (bytes : List ℕ) (ending : Ending) (taken : List Token) →
+            (tokens limits bytes ending).tokens
+                ≡ taken ++ with_token first (with_token second (with_token third (with_token fourth []))) →
+            StandsAtTokens limits budget bytes ending taken self.old →
+            StandsAtTokens limits budget bytes ending (tokens limits bytes ending).tokens self.new }
+        ensures ready { self.new.stop ≡ None → IsReady self.new }
+        ensures lexer { self.new.lexer ≡ self.old.lexer }
+    {
+        self.maybe_token(alloc, first);
+        self.maybe_token(alloc, second);
+        self.maybe_token(alloc, third);
+        self.maybe_token(alloc, fourth);
+    }
+
+    // Takes what a byte, or the end of the input, gave. A fault is at this line where no token of its command was taken.
+    fn take(&mut self, alloc: Global, fed: Fed, place: u32)
+        requires ready { IsReady self.old }
+        requires going { self.old.stop ≡ None }
+        ensures stands { (limits : Limits) (budget : ℕ) (bytes : List ℕ) (ending : Ending) (before : Lexed) →
+            AddsTokens before fed (tokens limits bytes ending) →
+            (fed.fault ≢ None → place ≡ (tokens limits bytes ending).line) →
+            GoesOnBehind limits budget before.tokens self.old →
+            StandsAtLexed limits budget bytes ending self.new }
+        ensures ready { self.new.stop ≡ None → IsReady self.new }
+        ensures lexer { self.new.lexer ≡ self.old.lexer }
+    {
+        let Fed {
+            first,
+            second,
+            third,
+            fourth,
+            fault,
+        } = fed;
+        self.tokens(alloc, first, second, third, fourth);
+        if self.stop.is_some() {
+            return;
+        }
+        if let Some(code) = fault {
+            let line = self.parser.begun().unwrap_or(place);
+            self.stop_at(line, Verdict::Refused(code));
         }
     }
 }

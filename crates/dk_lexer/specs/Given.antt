@@ -26,7 +26,7 @@ begun_line limits bytes = (tokens limits bytes broken).line
 -- a fault that stands stays, with its line
 abbrev pub Stays : Option Code → Lexed → Lexed → Type 0
 Stays None old new = Unit {0}
-Stays (Some code) old new = (new.fault ≡ Some code) × (new.line ≡ old.line)
+Stays (Some code) old new = new ≡ old
 
 -- tokens that are a front of others
 pub record IsFrontOf (old new : Lexed) : Type 0 where
