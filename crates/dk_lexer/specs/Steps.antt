@@ -1,5 +1,5 @@
 -- What the lexer does with one byte, over its own state. The laws on it tie it to the tokens of the bytes so far.
-use Rattle.std.specs.Prelude.{ℕ, zero, suc, ◌+◌, ◌-◌, Bool, true, false, List, [], ◌∷◌, ◌++◌, length, codes, Option, Some, None, if◌then◌else◌, ◌==◌, nat_le, nat_lt}
+use Rattle.std.specs.Prelude.{ℕ, zero, suc, ◌+◌, ◌-◌, min, Bool, true, false, List, [], ◌∷◌, ◌++◌, length, codes, Option, Some, None, if◌then◌else◌, ◌==◌, nat_le, nat_lt, ◌||◌}
 use Rattle.dk_model.specs.declared.code.Code.{Code}
 use Rattle.dk_model.specs.declared.code.Code.TheVariants.{E01, E03, E05}
 use Rattle.dk_model.specs.declared.limits.Limits.{Limits}
@@ -18,6 +18,7 @@ use Rattle.dk_lexer.specs.declared.fed.Begun.{Begun}
 use Rattle.dk_lexer.specs.declared.lexer.Lexer.{Lexer}
 use Rattle.dk_lexer.specs.Classes.{class_of, in_name, begins_name}
 use Rattle.dk_lexer.specs.Spelling.{kind_of, is_wildcard, Pair, opens, closes, apart, pair}
+use Rattle.dk_lexer.specs.Parts.{in_quoted}
 use Rattle.dk_lexer.specs.Tokens.{Bound, bound, behind, begin_of, command_after, token_at}
 
 -- what a byte gives by itself, and the lexer behind it
@@ -139,7 +140,7 @@ comment_closes l true depth b = takes l l.command part.Nothing b
 comment_closes l false depth b = takes l l.command (part.Comment (depth - 1) class.Other) b
 
 abbrev pub comment_pair : Lexer → Pair → ℕ → Class → ℕ → Move
-comment_pair l opens depth c b = takes l l.command (part.Comment (depth + 1) class.Other) b
+comment_pair l opens depth c b = takes l l.command (part.Comment (min (depth + 1) 4294967295) class.Other) b
 comment_pair l closes depth c b = comment_closes l (nat_le depth 1) depth b
 comment_pair l apart depth c b = takes l l.command (part.Comment depth c) b
 
@@ -322,3 +323,7 @@ closed_part (Some code) = part.Failed code
 
 abbrev pub after_end : Lexer → Lexer
 after_end l = record l { part = closed_part (ends l).fault }
+
+-- a byte of a name, a quoted name or a word
+abbrev pub is_text : Lexer → ℕ → Bool
+is_text l b = in_name (class_of b) || in_quoted l.part (class_of b)

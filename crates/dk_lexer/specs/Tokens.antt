@@ -8,7 +8,6 @@ use Rattle.dk_lexer.specs.declared.token.TokenKind.{TokenKind}
 use Rattle.dk_lexer.specs.declared.token.TokenKind.TheVariants as kind
 use Rattle.dk_lexer.specs.declared.token.Sign.TheVariants as sign
 use Rattle.dk_lexer.specs.declared.place.Place.{Place}
-use Rattle.dk_lexer.specs.Classes.{class_of, is_newline}
 use Rattle.dk_lexer.specs.Spelling.{Spelling, blank, token, run_and_dot, wrong, comment_open, unsettled, late, kind_of, spelled}
 
 -- How the bytes end: with the input, or where it broke off, so that more may follow.
@@ -44,9 +43,13 @@ unfoldable pub bound : Limits → Option ℕ → Bound
 bound limits None = record { last = input_limit limits; code = E07 }
 bound limits (Some begin) = nearer (begin + command_limit limits) (input_limit limits)
 
+-- the next line; `input_limit` keeps the lines of an input below 2 ^ 32
+abbrev pub next_line : ℕ → ℕ
+next_line line = min (line + 1) 4294967295
+
 -- the place behind a byte
 unfoldable pub behind : Place → ℕ → Place
-behind here b = record { offset = here.offset + 1; line = if is_newline (class_of b) then here.line + 1 else here.line }
+behind here b = record { offset = here.offset + 1; line = if b == 10 then next_line here.line else here.line }
 
 -- where the command begins that a token at this offset belongs to
 abbrev pub begin_of : Option ℕ → ℕ → ℕ
