@@ -1,6 +1,10 @@
 //! The lexer (docs/syntax.md, "Tokens"). Begin at `Lexer::feed` in lexer/feed.rt.
+mod ends;
 mod feed;
 mod moves;
+mod names;
+mod quoted;
+mod step;
 
 use crate::Place;
 use crate::part::Part;
