@@ -33,11 +33,11 @@ Leaves n comment_open = ⊥
 
 -- a byte that is part of what stands before is passed over
 pub skip : (limits : Limits) (e : Ending) (total : ℕ) (here : Place) (command : Option ℕ) (left b : ℕ) (bs : List ℕ) → left ≤ length bs → tokens_from limits e total here command left (b ∷ bs) ≡ tokens_from limits e total (behind here b) command left bs
-skip limits e total here command left b bs h = let t = le_true left (length bs) h in rw t refl
+skip limits e total here command left b bs h = let t = le_true left (length bs) h in rw (t, tokens_from) refl
 
 -- a spelling begins where so many bytes are left
 pub begins : (limits : Limits) (e : Ending) (total : ℕ) (here : Place) (command : Option ℕ) (b : ℕ) (bs : List ℕ) → tokens_from limits e total here command (suc (length bs)) (b ∷ bs) ≡ outcome_at (record { limits = limits; ending = e; total = total; here = here; command = command }) (spelled limits.name_bytes b bs) (λ c left. tokens_from limits e total (behind here b) c left bs)
-begins limits e total here command b bs = let t : nat_le (suc (length bs)) (length bs) ≡ false = le_false (suc (length bs)) (length bs) (omega arith) in rw t refl
+begins limits e total here command b bs = let t : nat_le (suc (length bs)) (length bs) ≡ false = le_false (suc (length bs)) (length bs) (omega arith) in rw (t, tokens_from) refl
 
 pub through : (s : Setting) (begin : ℕ) (bd : Bound) (limits : Limits) (e : Ending) (total : ℕ) (here : Place) (b : ℕ) (bs : List ℕ) (spelling : Spelling) → Leaves (length bs) spelling → outcome s begin bd spelling (λ c left. tokens_from limits e total here c left (b ∷ bs)) ≡ outcome s begin bd spelling (λ c left. tokens_from limits e total (behind here b) c left bs)
 through s begin bd limits e total here b bs (token kind text left) h =
