@@ -36,7 +36,7 @@ quoted_more n m (closed body left) le h = omega arith
 quoted_more n m (faulty code left) le h = omega arith
 quoted_more n m open_ended le h = tt
 
-one_leaves : (n b : ℕ) (q : Quoted) → QuotedLeaves n q → QuotedLeaves n (one_more b q)
+pub one_leaves : (n b : ℕ) (q : Quoted) → QuotedLeaves n q → QuotedLeaves n (one_more b q)
 one_leaves n b (closed body left) h = h
 one_leaves n b (faulty code left) h = h
 one_leaves n b open_ended h = tt
