@@ -1,4 +1,4 @@
-//! Tokens of the bytes of a file, one byte at a time.
+//! Tokens of the bytes of a file, one byte at a time. Begin at `Lexer::feed`.
 #![tactic(auto)]
 
 mod class;
@@ -7,6 +7,7 @@ mod lexer;
 mod part;
 mod place;
 mod token;
+mod words;
 
 pub use fed::Fed;
 pub use lexer::Lexer;
