@@ -1,6 +1,6 @@
 -- Reading is exact: what the parser makes of a list of tokens is its one reading.
-use Rattle.std.proofs.Common.{◌≡◌, ℕ, zero, suc, ◌+◌, ◌<◌, ◌≤◌, Bool, true, false, List, [], ◌∷◌, ◌++◌, refl, sym, ap, ◌∙◌, subst, append_assoc, arith, inl, inr}
-use Rattle.std.specs.Prelude.{Option, Some, None, IsSome, option_map, unwrap_or, if◌then◌else◌, nat_lt, ◌⊎◌, map}
+use Rattle.std.proofs.Common.{◌≡◌, ℕ, ◌<◌, ◌≤◌, Bool, true, false, List, [], ◌∷◌, ◌++◌, refl, sym, ap, ◌∙◌, subst, append_assoc, arith, inl, inr}
+use Rattle.std.specs.Prelude.{Option, Some, None, IsSome, option_map, unwrap_or, if◌then◌else◌, nat_lt, ◌⊎◌}
 use Rattle.std.proofs.lemmas.Bool.Decides.{nat_tests}
 use Rattle.dk_model.specs.declared.code.Code.{Code}
 use Rattle.dk_model.specs.declared.code.Code.TheVariants.{E02, E04, E06}
@@ -10,11 +10,11 @@ use Rattle.dk_parser.specs.declared.terminal.Terminal.{Terminal}
 use Rattle.dk_parser.specs.declared.terminal.Terminal.TheVariants as terminal
 use Rattle.dk_parser.specs.Terminals.{terminal_of}
 use Rattle.dk_parser.specs.Written.{WrittenForm, WrittenCommand}
-use Rattle.dk_parser.specs.Grammar.{SpellsForm, terminals, first_line, Spells, Begins, IsBegun}
+use Rattle.dk_parser.specs.Grammar.{SpellsForm, terminals, first_line, Spells, Begins}
 use Rattle.dk_parser.specs.Levels.{level, IsWithin}
-use Rattle.dk_parser.specs.Parsing.{Part, command_due, PartStep, goes, ends, refuses, part_next, part_level, Parsing, started, more, command, refused, Turn, turn, turn_refused, turn_by_step, turn_by_terminal, turn_by_fault, parsing_from, answered, commands_from}
+use Rattle.dk_parser.specs.Parsing.{Part, command_due, PartStep, goes, ends, refuses, part_next, part_level, Parsing, started, more, refused, Turn, turn, turn_refused, turn_by_step, turn_by_terminal, turn_by_fault, parsing_from, answered, commands_from}
 use Rattle.dk_parser.specs.Reading.{IsFault, IsFront, TokenReading, with_command, Reads, reads_nothing, reads_front, reads_fault, reads_command, fault_of, read_tokens, Extends}
-use Rattle.dk_parser.proofs.Machine.{Run, going, ended, stuck, run_by, run, run_on, run_append, run_next, run_goes, front_goes}
+use Rattle.dk_parser.proofs.Machine.{going, ended, stuck, run_by, run, run_next, run_goes, front_goes}
 use Rattle.dk_parser.proofs.Language.{complete}
 use Rattle.dk_parser.proofs.Reached.{sound, begins}
 use Rattle.dk_parser.proofs.Leveled.{leveled, end_level, profile_refused}
@@ -134,7 +134,7 @@ module _ (limits : Limits) where
   profile_read front p t ts e =
       read_refused (state_at limits (first_begun front) p) t ts (first_line (front ++ t ∷ [])) E06
       (ap (λ (x : Terminal). turn_by_terminal (state_at limits (first_begun front) p) (unwrap_or (first_begun front) t.line) x) e
-          ∙ ap (λ line. turn_refused (state_at limits (first_begun front) p) line E06) (line_of front t))
+      ∙ ap (λ line. turn_refused (state_at limits (first_begun front) p) line E06) (line_of front t))
 
   refused_read : (front : List Token) (p : Part) (t : Token) (ts : List Token) → (terminal_of t ≡ terminal.Profile → ⊥) → part_next p (terminal_of t) ≡ refuses →
       read_from (state_at limits (first_begun front) p) (t ∷ ts) ≡ fault_reading (first_line (front ++ t ∷ [])) E02
@@ -238,7 +238,7 @@ module _ (limits : Limits) where
       let w_next : IsWithin limits.levels (terminals (front ++ t ∷ [])) = subst (IsWithin limits.levels) (sym (terminals_more front t)) (within_more limits.levels (terminals front) (terminal_of t) w deep) in
       subst (λ ts. Reads limits ts (read_from (state_at limits (first_begun front) p) (t ∷ us))) (append_assoc front (t ∷ []) us)
       (subst (Reads limits ((front ++ t ∷ []) ++ us)) (sym (ends_read limits front p t us form other e))
-          (reads_command (record { line = refl; form = spelt }) w_next (later [] command_due refl (within_nothing limits.levels))))
+      (reads_command (record { line = refl; form = spelt }) w_next (later [] command_due refl (within_nothing limits.levels))))
 
   exact_step : (step : PartStep) (front : List Token) (p : Part) (t : Token) (us : List Token) → run command_due (terminals front) ≡ going p → IsWithin limits.levels (terminals front) → (terminal_of t ≡ terminal.Profile → ⊥) → part_next p (terminal_of t) ≡ step → Behind us → Reads limits (front ++ t ∷ us) (read_from (state_at limits (first_begun front) p) (t ∷ us))
   exact_step (goes q) front p t us is w other e later = exact_goes front p q t us (nat_lt limits.levels (part_level q)) is w e refl later
@@ -374,8 +374,8 @@ only (reads_fault {limits} {front} {code} t rest f h) =
     sym (walk limits front [] command_due p.0 (t ∷ rest) refl p.1 f.within ∙ fault_read code limits front p.0 t rest f p.1 h)
 only (reads_command {limits} {ts} {us} {c} {r} s w h) =
     sym (end_walk limits ts [] command_due c.form us refl (complete s.form) w
-        ∙ ap (λ line. with_command (record { line = line; form = c.form }) (read_tokens limits us)) (sym s.line)
-        ∙ ap (with_command c) (sym (only h)))
+    ∙ ap (λ line. with_command (record { line = line; form = c.form }) (read_tokens limits us)) (sym s.line)
+    ∙ ap (with_command c) (sym (only h)))
 
 -- More tokens
 
@@ -407,9 +407,9 @@ extends limits ts us = record {
   later = commands_from (parsing_from (started limits) ts) us;
   commands = commands_append (started limits) ts us;
   stays = λ h.
-    ap (λ cs. reading_at cs (parsing_from (started limits) (ts ++ us))) (commands_append (started limits) ts us)
-    ∙ ap (reading_at (commands_from (started limits) ts ++ commands_from (parsing_from (started limits) ts) us)) (parsing_append (started limits) ts us)
-    ∙ fault_stays (parsing_from (started limits) ts).fault (parsing_from (started limits) ts) (commands_from (started limits) ts) us refl h;
+      ap (λ cs. reading_at cs (parsing_from (started limits) (ts ++ us))) (commands_append (started limits) ts us)
+      ∙ ap (reading_at (commands_from (started limits) ts ++ commands_from (parsing_from (started limits) ts) us)) (parsing_append (started limits) ts us)
+      ∙ fault_stays (parsing_from (started limits) ts).fault (parsing_from (started limits) ts) (commands_from (started limits) ts) us refl h;
 }
 
 -- a list of tokens spells at most one command

@@ -1,17 +1,16 @@
 -- What the parts of a command make of its terminals is what the grammar says.
-use Rattle.std.proofs.Common.{◌≡◌, ℕ, zero, suc, ◌+◌, ◌-◌, ◌<◌, Bool, true, false, List, [], ◌∷◌, ◌++◌, refl, sym, ap, ◌∙◌, subst, append_assoc, add-one, sub-one, arith, rules}
-use Rattle.std.specs.Prelude.{Option, Some, None, if◌then◌else◌, nat_lt, ◌==◌}
+use Rattle.std.proofs.Common.{◌≡◌, ℕ, zero, suc, ◌+◌, List, [], ◌∷◌, ◌++◌, refl, sym, ap, ◌∙◌, subst, append_assoc, add-one, arith}
+use Rattle.std.specs.Prelude.{Some}
 use Rattle.std.proofs.lemmas.Bool.Decides.{nat_tests}
 use Rattle.dk_model.specs.declared.signature.SymSort.{SymSort}
-use Rattle.dk_model.specs.declared.signature.SymSort.TheVariants.{Static, Definable, Theorem}
+use Rattle.dk_model.specs.declared.signature.SymSort.TheVariants.{Static, Theorem}
 use Rattle.dk_lexer.specs.declared.token.Sign.TheVariants as sign
 use Rattle.dk_parser.specs.declared.terminal.Terminal.{Terminal}
 use Rattle.dk_parser.specs.declared.terminal.Terminal.TheVariants as terminal
-use Rattle.dk_parser.specs.Written.{Written, written_name, written_qualified, written_star, written_wild, WrittenForm, written_declare}
-use Rattle.dk_parser.specs.Grammar.{colon, defined, dot, open_bracket, close_bracket, SpellsTerm, spells_name, spells_qualified, spells_star, spells_wildcard, spells_brackets, SpellsForm, spells_declaration, spells_theorem, IsBegun}
-use Rattle.dk_parser.specs.Levels.{nested, level_from, level}
-use Rattle.dk_parser.specs.Parsing.{TermPart, term_due, term_read, term_closed, term_next, term_done, term_level, Part, command_due, name_due, colon_due, in_type, in_body, PartStep, goes, ends, refuses, type_goes, type_next, body_goes, body_next, part_next, part_level}
-use Rattle.dk_parser.proofs.Machine.{Run, going, ended, stuck, run_by, run, run_on, run_append, run_next}
+use Rattle.dk_parser.specs.Written.{Written, written_star, WrittenForm}
+use Rattle.dk_parser.specs.Grammar.{defined, dot, open_bracket, close_bracket, SpellsTerm, spells_name, spells_qualified, spells_star, spells_wildcard, spells_brackets, SpellsForm, spells_declaration, spells_theorem}
+use Rattle.dk_parser.specs.Parsing.{TermPart, term_due, term_read, term_closed, term_next, term_done, Part, command_due, in_type, in_body, PartStep, goes, type_goes, body_goes, part_next}
+use Rattle.dk_parser.proofs.Machine.{ended, run_by, run}
 
 -- a part of a command that a term goes on in
 abbrev Steps : (TermPart → Part) → Type 0
@@ -102,8 +101,8 @@ read_closed zero xs zs a q e h s = cc
 read_closed (suc d) xs zs a q e h s =
     let to : term_read d a ≡ q = grind (arith) in
     let lists : xs ++ close_bracket ∷ [] ≡ opens d ++ (open_bracket ∷ (zs ++ close_bracket ∷ [])) =
-        ap (λ ys. ys ++ close_bracket ∷ []) (e ∙ ap (λ ys. ys ++ zs) (sym (opens_more d)) ∙ append_assoc (opens d) (open_bracket ∷ []) zs)
-        ∙ append_assoc (opens d) (open_bracket ∷ zs) (close_bracket ∷ []) in
+    ap (λ ys. ys ++ close_bracket ∷ []) (e ∙ ap (λ ys. ys ++ zs) (sym (opens_more d)) ∙ append_assoc (opens d) (open_bracket ∷ []) zs)
+    ∙ append_assoc (opens d) (open_bracket ∷ zs) (close_bracket ∷ []) in
     subst (ReachedTerm (xs ++ close_bracket ∷ [])) to (reached_read d (xs ++ close_bracket ∷ []) (open_bracket ∷ (zs ++ close_bracket ∷ [])) lists (spells_brackets h))
 
 -- one terminal more of a term

@@ -1,6 +1,6 @@
 -- The level after terminals that lead to a part is that part's.
-use Rattle.std.proofs.Common.{◌≡◌, ℕ, zero, suc, ◌+◌, ◌-◌, ◌<◌, ◌≤◌, Bool, true, false, List, [], ◌∷◌, ◌++◌, refl, sym, ap, ◌∙◌, subst, append_assoc, arith, rules}
-use Rattle.std.specs.Prelude.{Option, Some, None, if◌then◌else◌, nat_lt, ◌==◌}
+use Rattle.std.proofs.Common.{◌≡◌, ℕ, zero, suc, ◌+◌, ◌-◌, List, [], ◌∷◌, ◌++◌, refl, ap, ◌∙◌, arith}
+use Rattle.std.specs.Prelude.{Option, Some, None}
 use Rattle.std.proofs.lemmas.Bool.Decides.{nat_tests}
 use Rattle.dk_model.specs.declared.signature.SymSort.{SymSort}
 use Rattle.dk_model.specs.declared.signature.SymSort.TheVariants.{Static, Definable, Theorem}
@@ -9,7 +9,7 @@ use Rattle.dk_parser.specs.declared.terminal.Terminal.{Terminal}
 use Rattle.dk_parser.specs.declared.terminal.Terminal.TheVariants as terminal
 use Rattle.dk_parser.specs.Written.{Written, WrittenForm}
 use Rattle.dk_parser.specs.Levels.{nested, level_from, level}
-use Rattle.dk_parser.specs.Parsing.{TermPart, term_due, term_read, term_closed, term_next, term_done, term_level, Part, command_due, name_due, colon_due, in_type, in_body, PartStep, goes, ends, refuses, type_goes, type_ends, type_next, body_begins, body_goes, body_ends, body_next, part_next, part_level}
+use Rattle.dk_parser.specs.Parsing.{TermPart, term_due, term_read, term_closed, term_next, term_done, term_level, Part, command_due, name_due, colon_due, in_type, in_body, goes, ends, refuses, type_goes, type_ends, body_begins, body_goes, body_ends, part_next, part_level}
 use Rattle.dk_parser.proofs.Machine.{going, run, follow}
 
 level_from_more : (d : ℕ) (xs : List Terminal) (x : Terminal) → level_from d (xs ++ x ∷ []) ≡ nested (level_from d xs) x

@@ -1,5 +1,5 @@
 -- The parts of a command, one terminal after the other.
-use Rattle.std.proofs.Common.{◌≡◌, ℕ, List, [], ◌∷◌, ◌++◌, refl, sym, ap, ◌∙◌, subst, append_assoc}
+use Rattle.std.proofs.Common.{◌≡◌, List, [], ◌∷◌, ◌++◌, refl, sym, ap, ◌∙◌, subst, append_assoc}
 use Rattle.dk_parser.specs.declared.terminal.Terminal.{Terminal}
 use Rattle.dk_parser.specs.Written.{WrittenForm}
 use Rattle.dk_parser.specs.Parsing.{Part, PartStep, goes, ends, refuses, part_next, command_due}

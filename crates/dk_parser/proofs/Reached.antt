@@ -1,16 +1,14 @@
 -- The terminals that lead to a part of a command.
-use Rattle.std.proofs.Common.{◌≡◌, ℕ, zero, suc, ◌+◌, ◌-◌, ◌<◌, ◌≤◌, Bool, true, false, List, [], ◌∷◌, ◌++◌, refl, sym, ap, ◌∙◌, subst, append_assoc, arith, rules}
-use Rattle.std.specs.Prelude.{Option, Some, None, if◌then◌else◌, nat_lt, ◌==◌}
-use Rattle.std.proofs.lemmas.Bool.Decides.{nat_tests}
+use Rattle.std.proofs.Common.{◌≡◌, ℕ, List, [], ◌∷◌, ◌++◌, refl, sym, ap, ◌∙◌, subst, append_assoc}
+use Rattle.std.specs.Prelude.{Option, Some, None}
 use Rattle.dk_model.specs.declared.signature.SymSort.{SymSort}
-use Rattle.dk_model.specs.declared.signature.SymSort.TheVariants.{Static, Definable, Theorem}
+use Rattle.dk_model.specs.declared.signature.SymSort.TheVariants.{Static, Theorem}
 use Rattle.dk_lexer.specs.declared.token.Sign.TheVariants as sign
 use Rattle.dk_parser.specs.declared.terminal.Terminal.{Terminal}
 use Rattle.dk_parser.specs.declared.terminal.Terminal.TheVariants as terminal
 use Rattle.dk_parser.specs.Written.{Written, written_star, WrittenForm, written_declare}
-use Rattle.dk_parser.specs.Grammar.{colon, defined, dot, open_bracket, close_bracket, SpellsTerm, SpellsForm, spells_star, spells_declaration, spells_theorem, IsBegun}
-use Rattle.dk_parser.specs.Levels.{nested, level_from, level}
-use Rattle.dk_parser.specs.Parsing.{TermPart, term_due, term_read, term_closed, term_next, term_done, term_level, Part, command_due, name_due, colon_due, in_type, in_body, PartStep, goes, ends, refuses, type_goes, type_ends, type_next, body_begins, body_goes, body_ends, body_next, part_next, part_level}
+use Rattle.dk_parser.specs.Grammar.{colon, defined, dot, SpellsTerm, SpellsForm, spells_star, spells_declaration, spells_theorem, IsBegun}
+use Rattle.dk_parser.specs.Parsing.{TermPart, term_next, term_done, Part, command_due, name_due, colon_due, in_type, in_body, goes, ends, type_goes, type_ends, body_begins, body_goes, body_ends, part_next}
 use Rattle.dk_parser.proofs.Machine.{going, run, follow}
 use Rattle.dk_parser.proofs.Language.{ReachedTerm, nothing_reached, term_reached, term_sound, term_begun}
 
@@ -144,14 +142,14 @@ begun_by (reached_theorem_type {n} {ys} {p} h) =
     let t = term_begun h in
     due_more (terminal.Thm ∷ terminal.Name n ∷ colon ∷ ys) (t.0 ++ defined ∷ terminal.Star ∷ []) dot _
     (subst (λ zs. SpellsForm (terminal.Thm ∷ terminal.Name n ∷ colon ∷ zs) (written_declare Theorem n [] (Some t.1) (Some written_star)))
-        (append_assoc ys t.0 (defined ∷ terminal.Star ∷ dot ∷ []) ∙ ap (λ zs. ys ++ zs) (sym (append_assoc t.0 (defined ∷ terminal.Star ∷ []) (dot ∷ []))))
-        (spells_theorem t.2 spells_star))
+    (append_assoc ys t.0 (defined ∷ terminal.Star ∷ dot ∷ []) ∙ ap (λ zs. ys ++ zs) (sym (append_assoc t.0 (defined ∷ terminal.Star ∷ []) (dot ∷ []))))
+    (spells_theorem t.2 spells_star))
 begun_by (reached_body {n} {ts} {ys} {a} {p} k h) =
     let t = term_begun h in
     due_more (terminal.Thm ∷ terminal.Name n ∷ colon ∷ (ts ++ defined ∷ ys)) t.0 dot _
     (subst (λ zs. SpellsForm (terminal.Thm ∷ terminal.Name n ∷ colon ∷ zs) (written_declare Theorem n [] (Some a) (Some t.1)))
-        (ap (λ zs. ts ++ defined ∷ zs) (append_assoc ys t.0 (dot ∷ [])) ∙ sym (append_assoc ts (defined ∷ ys) (t.0 ++ dot ∷ [])))
-        (spells_theorem k t.2))
+    (ap (λ zs. ts ++ defined ∷ zs) (append_assoc ys t.0 (dot ∷ [])) ∙ sym (append_assoc ts (defined ∷ ys) (t.0 ++ dot ∷ [])))
+    (spells_theorem k t.2))
 
 -- terminals that lead to a part begin a command
 pub begins : (xs : List Terminal) (p : Part) → run command_due xs ≡ going p → IsBegun xs

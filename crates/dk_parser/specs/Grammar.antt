@@ -1,5 +1,5 @@
 -- The grammar: which terminals spell which commands (Dedukti manual, syntax; docs/grammar.md).
-use Rattle.std.specs.Prelude.{◌≡◌, ℕ, List, [], ◌∷◌, ◌++◌, Option, Some, None, map}
+use Rattle.std.specs.Prelude.{◌≡◌, ℕ, List, [], ◌∷◌, ◌++◌, Some, None, map}
 use Rattle.dk_model.specs.declared.signature.SymSort.TheVariants.{Static, Theorem}
 use Rattle.dk_lexer.specs.declared.token.Token.{Token}
 use Rattle.dk_lexer.specs.declared.token.Sign.TheVariants as sign

@@ -10,8 +10,7 @@ ghost use Rattle.dk_parser.specs.Written.{WrittenCommand};
 /// A list of tokens spells at most one command.
 pub fn grammar_law()
     ensures { (ts : List Token) (c d : WrittenCommand) → Spells ts c → Spells ts d → c ≡ d }
-{
-}
+{}
 
 /// What a list of tokens is read as: there is one reading of it, and `read_tokens` is that one.
 /// What more tokens are read as begins with it.
@@ -21,5 +20,4 @@ pub fn reading_law()
         → r ≡ read_tokens limits ts }
     ensures extends { (limits : Limits) (ts us : List Token)
         → Extends (read_tokens limits ts) (read_tokens limits (ts ++ us)) }
-{
-}
+{}
