@@ -1,4 +1,5 @@
 pub mod Assumed
+pub mod Bytes
 pub mod Lexes
 pub mod Sound
 pub mod Stands

@@ -1,5 +1,6 @@
 -- How far the reading of a file has come, and what it has settled.
 use Rattle.std.specs.Prelude.{◌≡◌, ◌≢◌, ◌⊎◌, ◌<◌, ◌≤◌, ℕ, ◌+◌, List, [], ◌∷◌, ◌++◌, length, Option, Some, None, unwrap_or}
+use Rattle.dk_model.specs.declared.code.Code.TheVariants.{E03}
 use Rattle.dk_model.specs.declared.code.Verdict.{Verdict}
 use Rattle.dk_model.specs.declared.code.Verdict.TheVariants as verdict
 use Rattle.dk_model.specs.declared.limits.Limits.{Limits}
@@ -155,3 +156,15 @@ stands_at limits budget given r (Some outcome) = StopsAtBytes limits budget give
 -- the reader after these bytes
 abbrev pub StandsAt : Limits → ℕ → List ℕ → Reader → Type 0
 StandsAt limits budget given r = stands_at limits budget given r r.stop
+
+-- the outcome behind the last token of a file, where no token was at fault: the begun command isn't ended, or all are accepted
+abbrev pub ended_outcome : ℕ → Option ℕ → Outcome
+ended_outcome count (Some line) = Stopped (count + 1) line (verdict.Refused E03)
+ended_outcome count None = Accepted count
+
+-- how a file ends that is read to its end, or up to a fault: memory ended, or this is its report
+abbrev pub EndsWith : Limits → ℕ → List ℕ → List (List ℕ) → Outcome → Type 0
+EndsWith limits budget bytes names (Unread number) = ⊥
+EndsWith limits budget bytes names (Stopped number line verdict.Accepted) = ⊥
+EndsWith limits budget bytes names (Stopped number line verdict.Memory) = MemoryIn limits budget bytes names number line
+EndsWith limits budget bytes names outcome = report_of_bytes limits budget bytes whole ≡ record { names = names; outcome = outcome }

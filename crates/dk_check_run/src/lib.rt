@@ -1,6 +1,7 @@
 //! Checks a file: reads it, checks its commands one after the other and writes the report. Begin at `run`.
 #![tactic(auto)]
 
+mod assumed;
 mod reader;
 mod theory;
 

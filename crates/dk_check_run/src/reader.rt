@@ -1,17 +1,22 @@
 //! Reads the commands of a file from its bytes and judges each as soon as it is whole.
 ghost use Rattle.std.specs.Prelude.{◌≡◌, ◌≢◌, ◌≤◌, ◌<◌, ◌+◌, length, ◌∷◌, ◌++◌, [], ℕ, List, IfOk, None, Some};
-ghost use Rattle.dk_lexer.specs.Given.{AddsTokens, with_token};
+ghost use Rattle.dk_lexer.specs.Given.{AddsTokens, begun_line, with_token};
+ghost use Rattle.dk_lexer.specs.Steps.{lexer_after};
+ghost use Rattle.dk_parser.specs.Parsing.{parsing_after};
+ghost use Rattle.dk_parser.specs.Reading.{read_tokens};
+ghost use Rattle.dk_parser.specs.Views.{parsing};
 ghost use Rattle.dk_lexer.specs.Tokens.{Ending, Lexed, tokens};
 ghost use Rattle.dk_lexer.specs.declared.token.Token.{Token};
 ghost use Rattle.dk_model.specs.declared.limits.Limits.{Limits};
 ghost use Rattle.dk_parser.specs.Written.{written_command};
 ghost use Rattle.verdict_book.specs.declared.outcome.Outcome.{Outcome};
 ghost use Rattle.dk_check_run.specs.Theories.{checked_of};
-ghost use Rattle.dk_check_run.specs.Progress.{GoesOnBehind, IsReady, JudgesWhole, StandsAt, StandsAtLexed, StandsAtTokens};
+ghost use Rattle.dk_check_run.specs.Progress.{EndsWith, GoesOnBehind, IsReady, JudgesWhole, StandsAt, StandsAtLexed, StandsAtTokens, due_line, ended_outcome};
 
 use crate::Theory;
+use crate::assumed::{finish, line};
 use dk_lexer::{Fed, Lexer, Token};
-use dk_model::{Fault, Limits, Listed, NoMemory, Verdict};
+use dk_model::{Code, Fault, Limits, Listed, NoMemory, Verdict};
 use dk_parser::{Parser, Raw, Step};
 use std::alloc::Global;
 use verdict_book::Outcome;
@@ -156,6 +161,65 @@ impl Reader {
         if let Some(code) = fault {
             let line = self.parser.begun().unwrap_or(place);
             self.stop_at(line, Verdict::Refused(code));
+        }
+    }
+
+    // The line of the command that is due: of its first token, else of what is begun, else of the next byte.
+    fn due_line(&self) -> u32
+        ensures { (limits : Limits) (bytes : List ℕ) (ts : List Token) → self.now.lexer ≡ lexer_after limits bytes →
+            parsing self.now.parser ≡ parsing_after limits ts → result ≡ due_line limits ts [] (begun_line limits bytes) }
+    {
+        self.parser.begun().unwrap_or(line(&self.lexer))
+    }
+
+    /// Takes the next byte.
+    pub fn feed(&mut self, alloc: Global, byte: u8)
+        requires ready { self.old.stop ≡ None → IsReady self.old }
+        ensures stands { (limits : Limits) (budget : ℕ) (bytes : List ℕ) → StandsAt limits budget bytes self.old →
+            StandsAt limits budget (bytes ++ byte ∷ []) self.new }
+        ensures ready { self.new.stop ≡ None → IsReady self.new }
+    {
+        if self.stop.is_some() {
+            return;
+        }
+        let due = self.due_line();
+        match self.lexer.feed(alloc, byte) {
+            Ok(fed) => {
+                let place = line(&self.lexer);
+                self.take(alloc, fed, place);
+            }
+            Err(_) => self.stop_at(due, Verdict::Memory),
+        }
+    }
+
+    /// The end of the input: how the file ends.
+    pub fn finish(&mut self, alloc: Global) -> Outcome
+        requires ready { self.old.stop ≡ None → IsReady self.old }
+        ensures ends { (limits : Limits) (budget : ℕ) (bytes : List ℕ) → StandsAt limits budget bytes self.old →
+            EndsWith limits budget bytes (checked_of self.new.theory).shown result }
+    {
+        if let Some(outcome) = self.stop {
+            return outcome;
+        }
+        let place = line(&self.lexer);
+        let fed = finish(&mut self.lexer, alloc);
+        self.take(alloc, fed, place);
+        if let Some(outcome) = self.stop {
+            return outcome;
+        }
+        self.ended()
+    }
+
+    // How a file ends that was read to its end without a fault.
+    fn ended(&self) -> Outcome
+        requires { IsReady self.now }
+        ensures { (limits : Limits) (ts : List Token) → parsing self.now.parser ≡ parsing_after limits ts →
+            result ≡ ended_outcome (length (checked_of self.now.theory).shown) (read_tokens limits ts).begun }
+    {
+        let count = self.theory.shown().len() as u32;
+        match self.parser.begun() {
+            Some(line) => Outcome::Stopped(count + 1, line, Verdict::Refused(Code::E03)),
+            None => Outcome::Accepted(count),
         }
     }
 }
