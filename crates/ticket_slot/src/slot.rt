@@ -41,6 +41,7 @@ impl<V: Kept> Model for Slot<V> {
 pub type Pass<V> = Seat<Option<V>, View<<V as Kept>::Event, <V as Kept>::Item>>;
 
 /// Memory ran out. The value comes back.
+#[derive(Drop)]
 pub struct NoMemory<V> {
     pub value: V,
 }
