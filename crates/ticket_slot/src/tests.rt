@@ -2,7 +2,7 @@
 ghost use Rattle.std.specs.Prelude.{◌≡◌, ℕ, ◌+◌, ◌≤◌, List, [], ◌∷◌, ◌++◌, length, ◌<◌, IsTrue, IsFalse};
 ghost use Rattle.ticket_slot.specs.Views.{IsFree, IsReader};
 
-use crate::{Kept, Pass, Slot};
+use crate::{Kept, Pass, Slot, crosses_threads};
 use std::alloc::{AllocError, Global};
 use std::sync::Wait;
 use std::test::Fail;
@@ -341,5 +341,6 @@ fn eight_threads_add_their_events(rt: HostRuntime) -> Result<(), Fail> {
 
 #[test]
 fn a_pass_has_no_bytes(rt: HostRuntime) {
+    crosses_threads::<Journal>();
     assert_eq!(rt; size_of::<Pass<Journal>>(), 0);
 }
