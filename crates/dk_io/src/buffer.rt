@@ -60,6 +60,7 @@ impl Buffer {
     pub fn flush<K: Sink>(&mut self, sink: &mut K) -> Result<(), Failed>
         ensures wrote { Wrote (K.taken sink.old) (K.taken sink.new) self.old result }
         ensures empty { OnOk result (self.new ≡ []) }
+        ensures nothing { self.old ≡ [] → IsOk result × (sink.new ≡ sink.old) }
         ensures cause { HasCause (K.faults sink.old) (K.faults sink.new) result }
     {
         put(sink, &self.bytes[..self.count])?;
