@@ -1,4 +1,4 @@
-ghost use Rattle.std.specs.Prelude.{◌≡◌, ◌≤◌, ◌+◌, ◌-◌, ◌++◌, [], length, min, take, IfOk, IsOk, Ok, IsTrue, OnErr, ◌<◌,  ◌↔◌, OnOk};
+ghost use Rattle.std.specs.Prelude.{◌≡◌, ◌≤◌, ◌+◌, ◌-◌, ◌++◌, [], length, min, take, IfOk, IsOk, Ok, IsTrue, OnErr, ◌<◌, ◌↔◌, OnOk};
 ghost use Rattle.dk_io.specs.Bytes.{AddsSome, Wrote, joined};
 ghost use Rattle.dk_io.specs.Causes.{HasCause};
 ghost use Rattle.dk_io.specs.Gathered.{Gathers, Moves};

@@ -12,7 +12,7 @@ returns-in-None-clause-other_names c = λ n other.
     let past = rw c.deref-2.ensures.value at c.in-None.ensures.none in
     let apart = rw (← c.self.view_is) at other in
     rw (← c.self.view_is) (other_count c.self.inside.books.items c.args.name.now n c.self.inside.missed.items
-      c.saturating_add-self-inside-in-None.result c.self.inside.others (search rules) past apart)
+    c.saturating_add-self-inside-in-None.result c.self.inside.others (search rules) past apart)
 
 pub returns-in-Some-clause-refused : goal.returns-in-Some-clause-refused
 returns-in-Some-clause-refused c =
@@ -25,7 +25,8 @@ returns-in-Some-2-clause-opened c =
 
 pub returns-in-Some-2-clause-refused : goal.returns-in-Some-2-clause-refused
 returns-in-Some-2-clause-refused c =
-    let held = rw c.deref-2.ensures.value at c.in-Some.ensures.held in
-    (λ never. cc,
-     either (λ fails. sym c.if-fails.false ∙ c.is_listed-fails.ensures.1 (listed_next _ _ _ _ (search rules) (search rules) fails))
-     (λ none. cc (rw (← c.self.view_is) at none, held)))
+    let held = rw c.deref-2.ensures.value at c.in-Some.ensures.held in (
+      λ never. cc,
+      either (λ fails. sym c.if-fails.false ∙ c.is_listed-fails.ensures.1 (listed_next _ _ _ _ (search rules) (search rules) fails))
+          (λ none. cc (rw (← c.self.view_is) at none, held)),
+    )
