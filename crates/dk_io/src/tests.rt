@@ -14,8 +14,8 @@ fn one_book(alloc: Global, name: &str, bytes: &[u8]) -> Result<Vec<Book>, Fail> 
 }
 
 // What the calls of a script answer, one letter each: a digit for so many bytes, `o` for an
-// opened book and `F` for a failure. In the script `a` and `b` open the book of that name, and `r` reads
-// into a buffer of four bytes.
+// opened book and `F` for a failure. In the script `a` and `b` open the book of that name, and
+// `r` reads into a buffer of four bytes.
 fn played(alloc: Global, shelf: &mut MemShelf, script: &str) -> Result<Vec<u8>, AllocError> {
     let mut answers = Vec::new(alloc);
     let mut buf = [0u8; 4];
@@ -209,11 +209,13 @@ fn an_output_flushes_and_takes_at_least_a_byte(rt: HostRuntime) -> Result<(), Fa
 }
 
 #[test]
-fn a_file_that_is_not_there_fails(rt: HostRuntime) -> Result<(), Fail> {
+fn a_shelf_of_files_opens_what_is_there(rt: HostRuntime) -> Result<(), Fail> {
     let mut shelf = OsShelf::new(&rt);
     let mut buf = [0u8; 4];
     assert_eq!(rt; shelf.read(&mut buf), Ok(0));
     assert_eq!(rt; shelf.open_book("no/such/file.dk"), Err(Failed));
     assert_eq!(rt; shelf.read(&mut buf), Ok(0));
+    assert_eq!(rt; shelf.open_book("/dev/zero"), Ok(()));
+    assert_eq!(rt; shelf.read(&mut buf), Ok(4));
     Ok(())
 }
