@@ -1,12 +1,12 @@
 -- Texts that go through a buffer, one after another.
-use Rattle.std.proofs.Common.{◌≡◌, ◌≤◌, ◌<◌, ◌+◌, ◌-◌, ℕ, List, [], ◌∷◌, ◌++◌, length, take, drop, refl, sym, ap, subst, ◌∙◌, arith, min, length-append, length-drop}
+use Rattle.std.proofs.Common.{◌≡◌, ◌≤◌, ◌+◌, ℕ, List, [], ◌∷◌, ◌++◌, length, take, drop, refl, sym, ap, subst, ◌∙◌, arith, min, length-append, length-drop}
 use Rattle.std.proofs.lemmas.List.{append_assoc, take-append-le, take_min, take_all, length-take-le, take-append-drop}
 use Rattle.std.proofs.Math.Seq.{take-add, take-append-add}
 use Rattle.std.specs.Prelude.{Option, Some, None, Result, Ok, Err}
 use denote.Ref.{Bor}
 use Rattle.dk_io.specs.Bytes.{added, AddsSome, Wrote, joined}
 use Rattle.dk_io.specs.Gathered.{Moves, Gathers}
-use Rattle.dk_io.proofs.Adds.{added-added, wrote_stop, wrote_then}
+use Rattle.dk_io.proofs.Adds.{added-added}
 
 append_none : (s : List ℕ) → s ++ [] ≡ s
 append_none [] = refl
