@@ -150,3 +150,58 @@ ends_brace_by broken total l text dot brace b t is place test at dot_fits in_inp
     late_wide : (t : Bool) (c p total : ℕ) → (c + 1 == total) ≡ t → brace.offset ≤ c → p ≡ brace.offset + 1 → p + 0 ≡ total → p ≤ (if t then c + 1 else c)
     late_wide true c p total h above o at = omega arith
     late_wide false c p total h above o at = grind (arith, nat_tests)
+
+pub ends_brace : (e : Ending) (total : ℕ) (l : Lexer) (text : List ℕ) (dot brace : Place) (b : ℕ) → class_of b ≡ class.OpenBrace → l.here ≡ behind brace b → l.here.offset + 0 ≡ total →
+    brace.offset ≤ (bound l.limits (Some (own l))).last → l.here.offset ≤ input_limit l.limits → dot ≡ run_end l.first text →
+    stop (with_part l (part.RunBrace text dot brace)) e ≡ outcome (setting l e total) (own l) (late_bound (setting l e total) (own l) 1) (behind_brace l.limits.name_bytes text []) (λ c n. tokens_from l.limits e total brace c n (b ∷ []))
+unfolding bound
+ends_brace e total l text dot brace b is place at dot_fits in_input dot_place =
+    ends_brace_by e total l text dot brace b ((own l + command_limit l.limits) + 1 == total) is place refl at dot_fits in_input dot_place
+
+ends_nothing : (e : Ending) (l : Lexer) → stop (with_part l part.Nothing) e ≡ nothing_at l.here
+ends_nothing whole l = refl
+ends_nothing broken l = refl
+
+-- at the end of the bytes
+pub agree_none : (e : Ending) (total : ℕ) → AllAgree e total []
+agree_none e total l part.Nothing = λ at fits. ends_nothing e l
+agree_none e total l (part.Failed code) = run_failed l code [] e
+agree_none e total l (part.Comment depth last) = λ at fits deep. ends_comment e total l depth last at fits
+agree_none e total l (part.Run text) = λ at fits short place. ends_run e total l text at fits short
+agree_none e total l (part.RunDot text dot) = λ at fits place. ends_dot e total l text dot at fits place
+agree_none e total l (part.RunBrace text dot brace) = λ b is place at dot_fits in_input dot_place. ends_brace e total l text dot brace b is place at dot_fits in_input dot_place
+agree_none e total l (part.Second text bytes lone) = λ first second spelt count alone some short at fits. ends_second_all e total l first second text bytes lone spelt alone short at fits
+agree_none e total l (part.Quoted kind text room) = λ at fits. ends_quoted e total l (part.Quoted kind text room) kind text room at fits refl refl
+agree_none e total l (part.Bar kind text room) = λ at fits. ends_bar e total l kind text room at fits
+agree_none e total l part.Hash = λ at fits. ends_wrong e total l part.Hash E01 at fits refl refl
+agree_none e total l (part.Word text) = λ x xs spelt at fits. ends_word e total l text x xs spelt at fits
+agree_none e total l part.Bracket = λ at fits. ends_token e total l part.Bracket (kind.Sign sign.OpenBracket) [] at fits refl refl
+agree_none e total l part.Brace = λ at fits. ends_token e total l part.Brace (kind.Sign sign.OpenBrace) [] at fits refl refl
+agree_none e total l part.Colon = λ at fits. ends_token e total l part.Colon (kind.Sign sign.Colon) [] at fits refl refl
+agree_none e total l part.Equals = λ at fits. ends_wrong e total l part.Equals E03 at fits refl refl
+agree_none e total l part.Minus = λ at fits. ends_wrong e total l part.Minus E03 at fits refl refl
+agree_none e total l part.TwoMinus = λ at fits. ends_wrong e total l part.TwoMinus E03 at fits refl refl
+
+-- at one more byte
+pub agree_more : (e : Ending) (total b : ℕ) (bs : List ℕ) → AllAgree e total bs → AllAgree e total (b ∷ bs)
+agree_more e total b bs ih l part.Nothing = λ at fits. run_one l part.Nothing b bs e ∙ begin_does e total (with_part l part.Nothing) (class_of b) b bs ih refl at fits
+agree_more e total b bs ih l (part.Failed code) = run_failed l code (b ∷ bs) e
+agree_more e total b bs ih l (part.Comment depth last) = λ at fits deep. run_one l (part.Comment depth last) b bs e ∙ comment_does e total (with_part l part.Nothing) depth last b bs ih at fits deep
+agree_more e total b bs ih l (part.Run text) = λ at fits short place. run_one l (part.Run text) b bs e ∙ run_does e total (with_part l part.Nothing) text b bs ih at fits short place
+agree_more e total b bs ih l (part.RunDot text dot) = λ at fits place. run_one l (part.RunDot text dot) b bs e ∙ dot_does e total (with_part l part.Nothing) text dot b bs ih at fits place
+agree_more e total b bs ih l (part.RunBrace text dot brace) = λ c is place at dot_fits in_input dot_place. run_one l (part.RunBrace text dot brace) b bs e ∙ brace_does e total (with_part l part.Nothing) text dot brace c b bs ih is place at dot_fits in_input dot_place
+agree_more e total b bs ih l (part.Second text bytes lone) = λ first second spelt count alone some short at fits. run_one l (part.Second text bytes lone) b bs e ∙ second_does e total (with_part l part.Nothing) first second text bytes lone b bs ih spelt count alone some short at fits
+agree_more e total b bs ih l (part.Quoted kind text room) = λ at fits. run_one l (part.Quoted kind text room) b bs e ∙ quoted_does e total (with_part l part.Nothing) kind text room (class_of b) b bs ih refl at fits
+agree_more e total b bs ih l (part.Bar kind text room) = λ at fits. run_one l (part.Bar kind text room) b bs e ∙ bar_does e total (with_part l part.Nothing) kind text room b bs ih at fits
+agree_more e total b bs ih l part.Hash = λ at fits. run_one l part.Hash b bs e ∙ hash_does e total (with_part l part.Nothing) b bs ih at fits
+agree_more e total b bs ih l (part.Word text) = λ x xs spelt at fits. run_one l (part.Word text) b bs e ∙ word_does e total (with_part l part.Nothing) text x xs b bs ih spelt at fits
+agree_more e total b bs ih l part.Bracket = λ at fits. run_one l part.Bracket b bs e ∙ bracket_does e total (with_part l part.Nothing) (class_of b) b bs ih refl at fits
+agree_more e total b bs ih l part.Brace = λ at fits. run_one l part.Brace b bs e ∙ open_does e total (with_part l part.Nothing) (class_of b) b bs ih refl at fits
+agree_more e total b bs ih l part.Colon = λ at fits. run_one l part.Colon b bs e ∙ colon_does e total (with_part l part.Nothing) (class_of b) b bs ih refl at fits
+agree_more e total b bs ih l part.Equals = λ at fits. run_one l part.Equals b bs e ∙ equals_does e total (with_part l part.Nothing) (class_of b) b bs ih at fits
+agree_more e total b bs ih l part.Minus = λ at fits. run_one l part.Minus b bs e ∙ minus_does e total (with_part l part.Nothing) (class_of b) b bs ih at fits
+agree_more e total b bs ih l part.TwoMinus = λ at fits. run_one l part.TwoMinus b bs e ∙ two_minus_does e total (with_part l part.Nothing) (class_of b) b bs ih at fits
+
+pub all_agree : (e : Ending) (total : ℕ) (bs : List ℕ) → AllAgree e total bs
+all_agree e total [] = agree_none e total
+all_agree e total (b ∷ bs) = agree_more e total b bs (all_agree e total bs)

@@ -118,7 +118,7 @@ comment_ends : (e : Ending) (total : ℕ) (l : Lexer) (b : ℕ) (bs : List ℕ) 
 comment_ends e total l b bs ih at fits =
     blank_mid e total l part.Nothing b bs (blank (length bs)) at fits (omega arith)
     (λ lt. ih (ahead l b) part.Nothing (ahead_total l b bs total at) (ahead_fits l b _ lt)
-        ∙ sym (within_true (setting l e total) (bound l.limits l.command) (length bs) (onward l e total b bs l.command (length bs)) (omega arith)))
+    ∙ sym (within_true (setting l e total) (bound l.limits l.command) (length bs) (onward l e total b bs l.command (length bs)) (omega arith)))
 
 closes_by : (e : Ending) (total : ℕ) (l : Lexer) (t : Bool) (depth : ℕ) (b : ℕ) (bs : List ℕ) → AllAgree e total bs → l.here.offset + suc (length bs) ≡ total → Fits l l.command → depth ≤ l.here.offset →
     does (one (comment_closes l t depth b)) bs e ≡ mid l e total (elim t [ true ↦ blank (length bs) | false ↦ comment (depth - 1) class.Other bs ]) (b ∷ bs)
@@ -127,10 +127,10 @@ closes_by e total l false depth b bs ih at fits deep = comment_goes e total l (d
 
 comment_by : (e : Ending) (total : ℕ) (l : Lexer) (p : Pair) (depth : ℕ) (c : Class) (b : ℕ) (bs : List ℕ) → AllAgree e total bs → l.here.offset + suc (length bs) ≡ total → Fits l l.command → depth ≤ l.here.offset →
     does (one (comment_pair l p depth c b)) bs e ≡ mid l e total (elim p [
-      opens ↦ comment (depth + 1) class.Other bs
+      | opens ↦ comment (depth + 1) class.Other bs
       | closes ↦ elim (nat_le depth 1) [ true ↦ blank (length bs) | false ↦ comment (depth - 1) class.Other bs ]
       | apart ↦ comment depth c bs
-      ]) (b ∷ bs)
+    ]) (b ∷ bs)
 comment_by e total l opens depth c b bs ih at fits deep =
     let in_input : l.here.offset ≤ input_limit l.limits = bound_input l.limits l.command l.here.offset fits in
     let small : depth + 1 ≡ min (depth + 1) 4294967295 = omega arith in

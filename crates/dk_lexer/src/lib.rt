@@ -3,6 +3,7 @@
 
 mod class;
 mod fed;
+mod laws;
 mod lexer;
 mod part;
 mod place;
@@ -10,6 +11,7 @@ mod token;
 mod words;
 
 pub use fed::Fed;
+pub use laws::{front_law, pieces_law};
 pub use lexer::Lexer;
 pub use place::Place;
 pub use token::{Sign, Token, TokenKind};
