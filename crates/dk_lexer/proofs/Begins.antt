@@ -86,7 +86,7 @@ name_by e total l b bs false ih is named here at fits =
     let some_limit : 0 < limit = leb-false limit 0 is in
     goes_gives e total l (part.Run (b ∷ [])) b bs (name_spelled limit (b ∷ run_of bs) (behind_run bs)) (onward l e total b bs) at fits (name_leaves limit (b ∷ []) bs (omega arith))
     (λ lt. ih (ahead l b) (part.Run (b ∷ [])) (ahead_total l b bs total at) (ahead_fits l b _ lt) (omega arith)
-        (first_end l.here b named ∙ ap (λ (p : Place). run_end p (b ∷ [])) (sym here)))
+    (first_end l.here b named ∙ ap (λ (p : Place). run_end p (b ∷ [])) (sym here)))
 
 -- comments
 blank_more : (n m : ℕ) (spelling : Spelling) → n ≤ m → IsBlank n spelling → IsBlank m spelling
@@ -102,14 +102,14 @@ pub comment_blank : (depth : ℕ) (last : Class) (bs : List ℕ) → IsBlank (le
 comment_blank depth last [] = tt
 comment_blank depth last (b ∷ bs) =
     elim (pair last (class_of b)) as (λ p. IsBlank (suc (length bs)) (elim p [
-      opens ↦ comment (depth + 1) class.Other bs
+      | opens ↦ comment (depth + 1) class.Other bs
       | closes ↦ elim (nat_le depth 1) [ true ↦ blank (length bs) | false ↦ comment (depth - 1) class.Other bs ]
       | apart ↦ comment depth (class_of b) bs
-      ])) [
-      opens ↦ blank_more (length bs) (suc (length bs)) (comment (depth + 1) class.Other bs) (omega arith) (comment_blank (depth + 1) class.Other bs)
+    ])) [
+      | opens ↦ blank_more (length bs) (suc (length bs)) (comment (depth + 1) class.Other bs) (omega arith) (comment_blank (depth + 1) class.Other bs)
       | closes ↦ closes_blank (nat_le depth 1) bs (comment (depth - 1) class.Other bs) (comment_blank (depth - 1) class.Other bs)
       | apart ↦ blank_more (length bs) (suc (length bs)) (comment depth (class_of b) bs) (omega arith) (comment_blank depth (class_of b) bs)
-      ]
+    ]
 
 -- an opening bracket past the bound
 bracket_past : (e : Ending) (total : ℕ) (l : Lexer) (c : Class) (d : ℕ) (ds : List ℕ) (more : Option ℕ → ℕ → Lexed) → l.first ≡ l.here → l.here.offset + suc (suc (length ds)) ≡ total →
@@ -131,7 +131,7 @@ blank_begun : (e : Ending) (total : ℕ) (l : Lexer) (b : ℕ) (bs : List ℕ) �
 blank_begun e total l b bs ih at fit =
     blank_gives e total l part.Nothing b bs (blank (length bs)) (onward l e total b bs) at fit (omega arith)
     (λ lt. ih (ahead l b) part.Nothing (ahead_total l b bs total at) (ahead_fits l b _ lt)
-        ∙ sym (within_true (setting l e total) (bound l.limits l.command) (length bs) (onward l e total b bs l.command (length bs)) (omega arith)))
+    ∙ sym (within_true (setting l e total) (bound l.limits l.command) (length bs) (onward l e total b bs l.command (length bs)) (omega arith)))
 
 begun_by : (e : Ending) (total : ℕ) (l : Lexer) (c : Class) (b : ℕ) (bs : List ℕ) → AllAgree e total bs → class_of b ≡ c → l.first ≡ l.here →
     l.here.offset + suc (length bs) ≡ total → Fits l l.command → FitsOwn l →

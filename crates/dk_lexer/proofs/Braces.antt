@@ -67,7 +67,7 @@ bar_by e total l text brace b d ds true ih place t at dot_fits in_input =
     ∙ ap (λ (bd : Bound). fault_at l.first bd.code) own_is
     ∙ ap (λ (bd : Bound). fault_at l.first bd.code) (sym late_is)
     ∙ sym (over (setting l e total) (own l) (nearer (c + 1) i) (length ds) (Second l text ds) (λ c n. tokens_from l.limits e total brace c n (b ∷ d ∷ ds))
-        (spelled_leaves (length ds) kind.Qualified (text ++ codes ".{|") (quoted l.limits.name_bytes ds) (quoted_leaves l.limits.name_bytes ds)) (omega arith))
+    (spelled_leaves (length ds) kind.Qualified (text ++ codes ".{|") (quoted l.limits.name_bytes ds) (quoted_leaves l.limits.name_bytes ds)) (omega arith))
 bar_by e total l text brace b d ds false ih place t at dot_fits in_input =
     let c = own l + command_limit l.limits in
     let i = input_limit l.limits in

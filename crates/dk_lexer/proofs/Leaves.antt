@@ -106,7 +106,7 @@ second_leaves limit first text bs h =
     let second = text ++ run_of bs in
     choice_leaves (nat_le (length second) limit) (length bs) _ _
     (up_to_leaves (second_settled (is_wildcard second) first second (length (behind_run bs))) (length (behind_run bs)) (length bs)
-        (settled_leaves (is_wildcard second) first second (length (behind_run bs)) (length bs) (run_leaves bs)))
+    (settled_leaves (is_wildcard second) first second (length (behind_run bs)) (length bs) (run_leaves bs)))
     (too_long_leaves limit text bs h)
 
 brace_leaves_by : (limit : ℕ) (text : List ℕ) (c : Class) (ds : List ℕ) → Leaves (suc (suc (length ds))) (brace_before limit text c ds)
@@ -126,7 +126,7 @@ second_begins_leaves limit text c cs =
     let f : length (run_of cs) + length (behind_run cs) ≡ length cs = run_length cs in
     choice_leaves (nat_le (length second) limit) (suc (length cs)) _ _
     (up_to_leaves (second_settled (is_wildcard second) text second (length (behind_run cs))) (length (behind_run cs)) (suc (length cs))
-        (settled_leaves (is_wildcard second) text second (length (behind_run cs)) (suc (length cs)) (omega arith)))
+    (settled_leaves (is_wildcard second) text second (length (behind_run cs)) (suc (length cs)) (omega arith)))
     (omega arith)
 
 dot_leaves_by : (limit : ℕ) (text : List ℕ) (k : Class) (c : ℕ) (cs : List ℕ) → Leaves (suc (length cs)) (dot_before limit text k c cs)

@@ -71,7 +71,7 @@ run_name_by e total l text b bs false ih is named at fits short place =
     let same : (text ++ b ∷ []) ++ run_of bs ≡ text ++ (b ∷ run_of bs) = append_assoc text (b ∷ []) (run_of bs) in
     subst (λ (r : List ℕ). does (one (goes_on l (part.Run (text ++ b ∷ [])) b)) bs e ≡ mid l e total (name_spelled limit r (behind_run bs)) (b ∷ bs)) same
     (goes_mid e total l (part.Run (text ++ b ∷ [])) b bs (name_spelled limit ((text ++ b ∷ []) ++ run_of bs) (behind_run bs)) at fits (name_leaves limit (text ++ b ∷ []) bs longer)
-        (λ lt. ih (ahead l b) (part.Run (text ++ b ∷ [])) (ahead_total l b bs total at) (ahead_fits l b _ lt) longer (run_end_more l.first l.here text b named place)))
+    (λ lt. ih (ahead l b) (part.Run (text ++ b ∷ [])) (ahead_total l b bs total at) (ahead_fits l b _ lt) longer (run_end_more l.first l.here text b named place)))
 
 run_name_does : (e : Ending) (total : ℕ) (l : Lexer) (text : List ℕ) (b : ℕ) (bs : List ℕ) → AllAgree e total bs → in_name (class_of b) ≡ true →
     l.here.offset + suc (length bs) ≡ total → FitsOwn l → length text ≤ l.limits.name_bytes → l.here ≡ run_end l.first text →
@@ -141,7 +141,7 @@ second_name_by e total l first second text bytes b bs false ih is named spelt co
     let spelt_more : text ++ b ∷ [] ≡ first ++ 46 ∷ (second ++ b ∷ []) = ap (λ (x : List ℕ). x ++ b ∷ []) spelt ∙ append_assoc first (46 ∷ second) (b ∷ []) in
     subst (λ (r : List ℕ). does (one (goes_on l (part.Second (text ++ b ∷ []) (bytes + 1) false) b)) bs e ≡ mid l e total (second_spelled limit first r (length (behind_run bs))) (b ∷ bs)) same
     (goes_mid e total l (part.Second (text ++ b ∷ []) (bytes + 1) false) b bs (second_spelled limit first ((second ++ b ∷ []) ++ run_of bs) (length (behind_run bs))) at fits (second_leaves limit first (second ++ b ∷ []) bs longer)
-        (λ lt. ih (ahead l b) (part.Second (text ++ b ∷ []) (bytes + 1) false) first (second ++ b ∷ []) spelt_more (omega arith) (sym (longer_name second b some)) (omega arith) longer (ahead_total l b bs total at) (ahead_fits l b _ lt)))
+    (λ lt. ih (ahead l b) (part.Second (text ++ b ∷ []) (bytes + 1) false) first (second ++ b ∷ []) spelt_more (omega arith) (sym (longer_name second b some)) (omega arith) longer (ahead_total l b bs total at) (ahead_fits l b _ lt)))
   where
     longer_name : (second : List ℕ) (b : ℕ) → 1 ≤ length second → is_wildcard (second ++ b ∷ []) ≡ false
     longer_name [] b h = absurd (omega arith)

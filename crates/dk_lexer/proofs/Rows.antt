@@ -11,8 +11,8 @@ use Rattle.dk_lexer.specs.Tokens.{Lexed, tokens, bound, behind, whole, broken}
 
 qualified_name : tokens standard (codes "a.b c.") whole ≡ record {
   tokens = (record { kind = kind.Qualified; spelling = codes "a.b"; offset = 0; line = 1 })
-    ∷ (record { kind = kind.Plain; spelling = codes "c"; offset = 4; line = 1 })
-    ∷ (record { kind = kind.Sign sign.Dot; spelling = []; offset = 5; line = 1 }) ∷ [];
+      ∷ (record { kind = kind.Plain; spelling = codes "c"; offset = 4; line = 1 })
+      ∷ (record { kind = kind.Sign sign.Dot; spelling = []; offset = 5; line = 1 }) ∷ [];
   fault = None;
   line = 1;
 }

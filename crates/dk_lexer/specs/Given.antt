@@ -23,7 +23,7 @@ pub record AddsTokens (old : Lexed) (fed : Fed) (new : Lexed) : Type 0 where
 abbrev pub begun_line : Limits → List ℕ → ℕ
 begun_line limits bytes = (tokens limits bytes broken).line
 
--- a fault that stands stays, with its line
+-- a fault that stands stays, with its line, and no token comes after it
 abbrev pub Stays : Option Code → Lexed → Lexed → Type 0
 Stays None old new = Unit {0}
 Stays (Some code) old new = new ≡ old

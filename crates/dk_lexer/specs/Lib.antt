@@ -4,3 +4,4 @@ pub mod Tokens
 pub mod Parts
 pub mod Steps
 pub mod Given
+pub mod Pieces

@@ -138,10 +138,10 @@ pair _ _ = apart
 abbrev pub comment : ℕ → Class → List ℕ → Spelling
 comment depth last [] = comment_open
 comment depth last (b ∷ bs) = elim (pair last (class_of b)) [
-  opens ↦ comment (depth + 1) class.Other bs
+  | opens ↦ comment (depth + 1) class.Other bs
   | closes ↦ elim (nat_le depth 1) [ true ↦ blank (length bs) | false ↦ comment (depth - 1) class.Other bs ]
   | apart ↦ comment depth (class_of b) bs
-  ]
+]
 
 -- a qualified name whose second part is a run: the wildcard can't be one
 abbrev pub second_settled : Bool → List ℕ → List ℕ → ℕ → Spelling

@@ -331,6 +331,10 @@ closed_part (Some code) = part.Failed code
 abbrev pub after_end : Lexer → Lexer
 after_end l = record l { part = closed_part (ends l).fault }
 
+-- the lexer after these bytes and their end
+unfoldable pub lexer_ended : Limits → List ℕ → Lexer
+lexer_ended limits bytes = after_end (lexer_after limits bytes)
+
 -- a byte of a name, a quoted name or a word
 abbrev pub is_text : Lexer → ℕ → Bool
 is_text l b = in_name (class_of b) || in_quoted l.part (class_of b)

@@ -124,12 +124,11 @@ outcome_at s spelling more = let begin = begin_of s.command s.here.offset in out
 abbrev pub tokens_from : Limits → Ending → ℕ → Place → Option ℕ → ℕ → List ℕ → Lexed
 tokens_from limits ending total here command left [] = nothing_at here
 tokens_from limits ending total here command left (b ∷ bs) = elim (nat_le left (length bs)) [
-  true ↦ tokens_from limits ending total (behind here b) command left bs
+  | true ↦ tokens_from limits ending total (behind here b) command left bs
   | false ↦ outcome_at (record { limits = limits; ending = ending; total = total; here = here; command = command }) (spelled limits.name_bytes b bs)
-    (λ command left. tokens_from limits ending total (behind here b) command left bs)
-  ]
+      (λ command left. tokens_from limits ending total (behind here b) command left bs)
+]
 
 -- the tokens of the bytes of an input
 unfoldable pub tokens : Limits → List ℕ → Ending → Lexed
 tokens limits bytes ending = tokens_from limits ending (length bytes) (record { offset = 0; line = 1 }) None (length bytes) bytes
-

@@ -3,13 +3,19 @@
 
 mod class;
 mod fed;
+mod laws;
 mod lexer;
 mod part;
 mod place;
+#[cfg(test)]
+mod rows;
+#[cfg(test)]
+mod tests;
 mod token;
 mod words;
 
 pub use fed::Fed;
+pub use laws::{front_law, pieces_law};
 pub use lexer::Lexer;
 pub use place::Place;
 pub use token::{Sign, Token, TokenKind};

@@ -18,7 +18,11 @@ impl Place {
     {
         Place {
             offset: self.offset + 1,
-            line: if byte == b'\n' { self.line.saturating_add(1) } else { self.line },
+            line: if byte == b'\n' {
+                self.line.saturating_add(1)
+            } else {
+                self.line
+            },
         }
     }
 }

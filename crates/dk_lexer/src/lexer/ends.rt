@@ -73,9 +73,12 @@ impl Lexer {
             Part::Bracket => self.ends_sign(alloc, Sign::OpenBracket),
             Part::Brace => self.ends_sign(alloc, Sign::OpenBrace),
             Part::Colon => self.ends_sign(alloc, Sign::Colon),
-            Part::Comment(_, _) | Part::Quoted(_, _, _) | Part::Bar(_, _, _) | Part::Equals | Part::Minus | Part::TwoMinus => {
-                fed_fault(Code::E03)
-            }
+            Part::Comment(_, _)
+            | Part::Quoted(_, _, _)
+            | Part::Bar(_, _, _)
+            | Part::Equals
+            | Part::Minus
+            | Part::TwoMinus => { fed_fault(Code::E03) }
         }
     }
 

@@ -28,7 +28,11 @@ impl Lexer {
                 return if offset < last { None } else { Some(Code::E05) };
             }
         }
-        if offset < input { None } else { Some(Code::E07) }
+        if offset < input {
+            None
+        } else {
+            Some(Code::E07)
+        }
     }
 
     // Where the command begins that the part belongs to.

@@ -15,7 +15,14 @@ use std::alloc::Global;
 
 impl Lexer {
     // A token has ended before the byte.
-    pub(super) fn settles(&mut self, alloc: Global, kind: TokenKind, text: Listed<u8>, class: Class, byte: u8) -> Result<Fed, NoMemory>
+    pub(super) fn settles(
+        &mut self,
+        alloc: Global,
+        kind: TokenKind,
+        text: Listed<u8>,
+        class: Class,
+        byte: u8,
+    ) -> Result<Fed, NoMemory>
         ensures fed { IfOk result (λ fed. fed ≡ (settles self.old kind text class byte).fed) }
         ensures after { OnOk result (self.new ≡ (settles self.old kind text class byte).lexer) }
         ensures err { OnErr result (IsTrue (in_name class)) }
@@ -26,13 +33,21 @@ impl Lexer {
     }
 
     // A plain run goes on or ends.
-    pub(super) fn run_step(&mut self, alloc: Global, text: Listed<u8>, class: Class, byte: u8) -> Result<Fed, NoMemory>
+    pub(super) fn run_step(
+        &mut self,
+        alloc: Global,
+        text: Listed<u8>,
+        class: Class,
+        byte: u8,
+    ) -> Result<Fed, NoMemory>
         ensures fed { IfOk result (λ fed. fed ≡ (run_step self.old text class byte).fed) }
         ensures after { OnOk result (self.new ≡ (run_step self.old text class byte).lexer) }
         ensures err { OnErr result (IsTrue (in_name class)) }
     {
         match class {
-            Class::Letter | Class::Digit | Class::Underscore | Class::Quote => self.run_name(text, byte),
+            Class::Letter | Class::Digit | Class::Underscore | Class::Quote => self.run_name(
+                text, byte,
+            ),
             Class::Dot if !is_wildcard(text.as_slice()) => {
                 let dot = self.here;
                 Ok(self.goes_on(Part::RunDot(text, dot), byte).one())
@@ -73,7 +88,14 @@ impl Lexer {
     }
 
     // A byte behind a plain run and a dot.
-    pub(super) fn dot_step(&mut self, alloc: Global, text: Listed<u8>, dot: Place, class: Class, byte: u8) -> Result<Fed, NoMemory>
+    pub(super) fn dot_step(
+        &mut self,
+        alloc: Global,
+        text: Listed<u8>,
+        dot: Place,
+        class: Class,
+        byte: u8,
+    ) -> Result<Fed, NoMemory>
         ensures fed { IfOk result (λ fed. fed ≡ (dot_step self.old text dot class byte).fed) }
         ensures after { OnOk result (self.new ≡ (dot_step self.old text dot class byte).lexer) }
         ensures err { OnErr result (IsTrue (in_name class)) }
@@ -82,14 +104,24 @@ impl Lexer {
             Class::Letter | Class::Digit | Class::Underscore => self.second_begins(text, byte),
             Class::OpenBrace => {
                 let brace = self.here;
-                Ok(self.takes(None, Part::RunBrace(text, dot, brace), byte).one())
+                Ok(
+                    self.takes(None, Part::RunBrace(text, dot, brace), byte)
+                        .one(),
+                )
             }
             _ => self.dot_ends(alloc, text, dot, class, byte),
         }
     }
 
     // The dot was the sign.
-    fn dot_ends(&mut self, alloc: Global, text: Listed<u8>, dot: Place, class: Class, byte: u8) -> Result<Fed, NoMemory>
+    fn dot_ends(
+        &mut self,
+        alloc: Global,
+        text: Listed<u8>,
+        dot: Place,
+        class: Class,
+        byte: u8,
+    ) -> Result<Fed, NoMemory>
         ensures fed { IfOk result (λ fed. fed ≡ (dot_ends self.old text dot class byte).fed) }
         ensures after { OnOk result (self.new ≡ (dot_ends self.old text dot class byte).lexer) }
         ensures err { OnErr result (IsTrue (in_name class)) }
@@ -122,7 +154,15 @@ impl Lexer {
     }
 
     // A byte behind a plain run, a dot and a brace.
-    pub(super) fn brace_step(&mut self, alloc: Global, text: Listed<u8>, dot: Place, brace: Place, class: Class, byte: u8) -> Result<Fed, NoMemory>
+    pub(super) fn brace_step(
+        &mut self,
+        alloc: Global,
+        text: Listed<u8>,
+        dot: Place,
+        brace: Place,
+        class: Class,
+        byte: u8,
+    ) -> Result<Fed, NoMemory>
         ensures fed { IfOk result (λ fed. fed ≡ (brace_step self.old text dot brace class byte).fed) }
         ensures after { OnOk result (self.new ≡ (brace_step self.old text dot brace class byte).lexer) }
         ensures err { OnErr result (IsTrue (in_name class) ⊎ (class ≡ Class.Bar)) }
@@ -177,13 +217,23 @@ impl Lexer {
     }
 
     // A second run goes on or ends.
-    pub(super) fn second_step(&mut self, alloc: Global, text: Listed<u8>, bytes: u32, lone: bool, class: Class, byte: u8) -> Result<Fed, NoMemory>
+    pub(super) fn second_step(
+        &mut self,
+        alloc: Global,
+        text: Listed<u8>,
+        bytes: u32,
+        lone: bool,
+        class: Class,
+        byte: u8,
+    ) -> Result<Fed, NoMemory>
         ensures fed { IfOk result (λ fed. fed ≡ (second_step self.old text bytes lone class byte).fed) }
         ensures after { OnOk result (self.new ≡ (second_step self.old text bytes lone class byte).lexer) }
         ensures err { OnErr result (IsTrue (in_name class)) }
     {
         match class {
-            Class::Letter | Class::Digit | Class::Underscore | Class::Quote => self.second_name(text, bytes, byte),
+            Class::Letter | Class::Digit | Class::Underscore | Class::Quote => self.second_name(
+                text, bytes, byte,
+            ),
             _ => {
                 if lone {
                     Ok(self.fails(Code::E01).one())

@@ -13,7 +13,14 @@ use std::alloc::Global;
 
 impl Lexer {
     // A byte in a quoted name.
-    pub(super) fn quoted_step(&mut self, kind: TokenKind, text: Listed<u8>, room: u32, class: Class, byte: u8) -> Result<Begun, NoMemory>
+    pub(super) fn quoted_step(
+        &mut self,
+        kind: TokenKind,
+        text: Listed<u8>,
+        room: u32,
+        class: Class,
+        byte: u8,
+    ) -> Result<Begun, NoMemory>
         ensures begun { IfOk result (λ begun. begun ≡ (quoted_step self.old kind text room class byte).begun) }
         ensures after { OnOk result (self.new ≡ (quoted_step self.old kind text room class byte).lexer) }
         ensures err { OnErr result (class ≢ Class.Newline) }
@@ -32,10 +39,14 @@ impl Lexer {
     }
 
     // One more byte of a quoted name.
-    fn quoted_more(&mut self, kind: TokenKind, mut text: Listed<u8>, room: u32, byte: u8) -> Result<Begun, NoMemory>
-        ensures begun {
-            IfOk result (λ begun. begun ≡ (goes_on self.old (Part.Quoted kind (text ++ byte ∷ []) room) byte).begun)
-        }
+    fn quoted_more(
+        &mut self,
+        kind: TokenKind,
+        mut text: Listed<u8>,
+        room: u32,
+        byte: u8,
+    ) -> Result<Begun, NoMemory>
+        ensures begun { IfOk result (λ begun. begun ≡ (goes_on self.old (Part.Quoted kind (text ++ byte ∷ []) room) byte).begun) }
         ensures after { OnOk result (self.new ≡ (goes_on self.old (Part.Quoted kind (text ++ byte ∷ []) room) byte).lexer) }
     {
         let begin = self.own();
@@ -48,7 +59,14 @@ impl Lexer {
     }
 
     // A byte behind a bar in a quoted name.
-    pub(super) fn bar_step(&mut self, kind: TokenKind, mut text: Listed<u8>, room: u32, class: Class, byte: u8) -> Result<Begun, NoMemory>
+    pub(super) fn bar_step(
+        &mut self,
+        kind: TokenKind,
+        mut text: Listed<u8>,
+        room: u32,
+        class: Class,
+        byte: u8,
+    ) -> Result<Begun, NoMemory>
         ensures begun { IfOk result (λ begun. begun ≡ (bar_step self.old kind text room class byte).begun) }
         ensures after { OnOk result (self.new ≡ (bar_step self.old kind text room class byte).lexer) }
         ensures err { OnErr result (class ≢ Class.Newline) }
@@ -66,7 +84,14 @@ impl Lexer {
 
     // The bar is a byte of the name.
     #[tactic(auto, using(crate::proofs::Bars::bar_room))]
-    fn bar_more(&mut self, kind: TokenKind, mut text: Listed<u8>, room: u32, class: Class, byte: u8) -> Result<Begun, NoMemory>
+    fn bar_more(
+        &mut self,
+        kind: TokenKind,
+        mut text: Listed<u8>,
+        room: u32,
+        class: Class,
+        byte: u8,
+    ) -> Result<Begun, NoMemory>
         ensures begun { IfOk result (λ begun. begun ≡ (bar_more self.old kind text room class byte).begun) }
         ensures after { OnOk result (self.new ≡ (bar_more self.old kind text room class byte).lexer) }
     {
@@ -78,14 +103,25 @@ impl Lexer {
     }
 
     // A byte behind `{`.
-    pub(super) fn open_step(&mut self, alloc: Global, class: Class, byte: u8) -> Result<Fed, NoMemory>
+    pub(super) fn open_step(
+        &mut self,
+        alloc: Global,
+        class: Class,
+        byte: u8,
+    ) -> Result<Fed, NoMemory>
         ensures fed { IfOk result (λ fed. fed ≡ (open_step self.old class byte).fed) }
         ensures after { OnOk result (self.new ≡ (open_step self.old class byte).lexer) }
         ensures err { OnErr result (IsTrue (in_name class) ⊎ (class ≡ Class.Bar)) }
     {
         match class {
             Class::Bar => self.quoted_opens(alloc, byte),
-            _ => self.settles(alloc, TokenKind::Sign(Sign::OpenBrace), Listed::new(alloc), class, byte),
+            _ => self.settles(
+                alloc,
+                TokenKind::Sign(Sign::OpenBrace),
+                Listed::new(alloc),
+                class,
+                byte,
+            ),
         }
     }
 
@@ -105,7 +141,12 @@ impl Lexer {
     }
 
     // A byte behind `#`.
-    pub(super) fn hash_step(&mut self, alloc: Global, class: Class, byte: u8) -> Result<Fed, NoMemory>
+    pub(super) fn hash_step(
+        &mut self,
+        alloc: Global,
+        class: Class,
+        byte: u8,
+    ) -> Result<Fed, NoMemory>
         ensures fed { IfOk result (λ fed. fed ≡ (hash_step self.old class byte).fed) }
         ensures after { OnOk result (self.new ≡ (hash_step self.old class byte).lexer) }
         ensures err { OnErr result (IsTrue (in_name class)) }
@@ -127,7 +168,13 @@ impl Lexer {
     }
 
     // A byte behind `#` and letters.
-    pub(super) fn word_step(&mut self, alloc: Global, mut text: Listed<u8>, class: Class, byte: u8) -> Result<Fed, NoMemory>
+    pub(super) fn word_step(
+        &mut self,
+        alloc: Global,
+        mut text: Listed<u8>,
+        class: Class,
+        byte: u8,
+    ) -> Result<Fed, NoMemory>
         ensures fed { IfOk result (λ fed. fed ≡ (word_step self.old text class byte).fed) }
         ensures after { OnOk result (self.new ≡ (word_step self.old text class byte).lexer) }
         ensures err { OnErr result (IsTrue (in_name class)) }

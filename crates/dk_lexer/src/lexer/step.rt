@@ -28,7 +28,13 @@ impl Lexer {
     }
 
     // A byte behind this part.
-    fn part_step(&mut self, alloc: Global, part: Part, class: Class, byte: u8) -> Result<Fed, NoMemory>
+    fn part_step(
+        &mut self,
+        alloc: Global,
+        part: Part,
+        class: Class,
+        byte: u8,
+    ) -> Result<Fed, NoMemory>
         ensures fed { IfOk result (λ fed. fed ≡ (part_step self.old part class byte).fed) }
         ensures after { OnOk result (self.new ≡ (part_step self.old part class byte).lexer) }
         ensures err { OnErr result (IsTrue (in_name class || in_quoted part class)) }
@@ -45,8 +51,12 @@ impl Lexer {
             Part::Comment(depth, last) => Ok(self.comment_step(depth, last, class, byte).one()),
             Part::Run(text) => self.run_step(alloc, text, class, byte),
             Part::RunDot(text, dot) => self.dot_step(alloc, text, dot, class, byte),
-            Part::RunBrace(text, dot, brace) => self.brace_step(alloc, text, dot, brace, class, byte),
-            Part::Second(text, bytes, lone) => self.second_step(alloc, text, bytes, lone, class, byte),
+            Part::RunBrace(text, dot, brace) => self.brace_step(
+                alloc, text, dot, brace, class, byte,
+            ),
+            Part::Second(text, bytes, lone) => self.second_step(
+                alloc, text, bytes, lone, class, byte,
+            ),
             Part::Quoted(kind, text, room) => {
                 let begun = self.quoted_step(kind, text, room, class, byte)?;
                 Ok(begun.one())
@@ -74,7 +84,11 @@ impl Lexer {
         let command = self.command;
         match (last, class) {
             (Class::OpenBracket, Class::Semicolon) => {
-                self.takes(command, Part::Comment(depth.saturating_add(1), Class::Other), byte)
+                self.takes(
+                    command,
+                    Part::Comment(depth.saturating_add(1), Class::Other),
+                    byte,
+                )
             }
             (Class::Semicolon, Class::CloseBracket) => {
                 if depth <= 1 {
@@ -96,9 +110,18 @@ impl Lexer {
         match class {
             Class::Semicolon => {
                 let command = self.command;
-                Ok(self.takes(command, Part::Comment(1, Class::Other), byte).one())
+                Ok(
+                    self.takes(command, Part::Comment(1, Class::Other), byte)
+                        .one(),
+                )
             }
-            _ => self.settles(alloc, TokenKind::Sign(Sign::OpenBracket), Listed::new(alloc), class, byte),
+            _ => self.settles(
+                alloc,
+                TokenKind::Sign(Sign::OpenBracket),
+                Listed::new(alloc),
+                class,
+                byte,
+            ),
         }
     }
 
@@ -110,7 +133,13 @@ impl Lexer {
     {
         match class {
             Class::Equals => Ok(self.sign(alloc, Sign::Defined, byte).one()),
-            _ => self.settles(alloc, TokenKind::Sign(Sign::Colon), Listed::new(alloc), class, byte),
+            _ => self.settles(
+                alloc,
+                TokenKind::Sign(Sign::Colon),
+                Listed::new(alloc),
+                class,
+                byte,
+            ),
         }
     }
 
