@@ -3,3 +3,7 @@ pub mod Evaluation
 pub mod Bodies
 pub mod Typing
 pub mod Commands
+pub mod Matrix
+pub mod Loose
+pub mod Rows
+pub mod Selection
