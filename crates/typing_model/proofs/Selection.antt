@@ -31,7 +31,7 @@ AreRows S k ts cols [] = Unit {0}
 AreRows S k ts cols (r ∷ rs) = IsRow S k ts cols r × AreRows S k ts cols rs
 
 -- cells that are numbered
-numbered_append : (vars : ℕ) (xs ys : List Cell) → AreNumberedCells vars xs → AreNumberedCells vars ys → AreNumberedCells vars (xs ++ ys)
+pub numbered_append : (vars : ℕ) (xs ys : List Cell) → AreNumberedCells vars xs → AreNumberedCells vars ys → AreNumberedCells vars (xs ++ ys)
 numbered_append vars [] ys i j = j
 numbered_append vars (x ∷ xs) ys i j = (i.0, numbered_append vars xs ys i.1 j)
 
@@ -50,7 +50,7 @@ numbered_at vars i [] h = tt
 numbered_at vars zero (x ∷ xs) h = h.0
 numbered_at vars (suc i) (x ∷ xs) h = numbered_at vars i xs h.1
 
-numbered_blanks : (vars n : ℕ) → AreNumberedCells vars (replicate n blank)
+pub numbered_blanks : (vars n : ℕ) → AreNumberedCells vars (replicate n blank)
 numbered_blanks vars zero = tt
 numbered_blanks vars (suc n) = (tt, numbered_blanks vars n)
 
@@ -58,7 +58,7 @@ numbered_inner : (vars : ℕ) (ps : Patterns) → AreNumberedPatterns vars ps �
 numbered_inner vars no_patterns h = tt
 numbered_inner vars (more_patterns p ps) h = (h.0, numbered_inner vars ps h.1)
 
-numbered_cells : (vars : ℕ) (ps : List Pattern) → AreNumbered vars ps → AreNumberedCells vars (map cell ps)
+pub numbered_cells : (vars : ℕ) (ps : List Pattern) → AreNumbered vars ps → AreNumberedCells vars (map cell ps)
 numbered_cells vars [] h = tt
 numbered_cells vars (p ∷ ps) h = (h.0, numbered_cells vars ps h.1)
 
