@@ -7,3 +7,4 @@ pub mod Loose
 pub mod Rows
 pub mod Selection
 pub mod Rules
+pub mod Worked

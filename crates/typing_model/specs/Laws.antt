@@ -62,3 +62,7 @@ CheckedFits S = (types : List Tree) (context : Context) (n m : ℕ) (t T : Tree)
 -- a command that the plain check accepts has a derivation
 abbrev pub AcceptedHasDerivation : PlainSignature → Type 0
 AcceptedHasDerivation S = (command : PlainCommand) (budget : ℕ) → verdict_of S command budget ≡ Accepted → HasDerivation S command
+
+-- no context gives the term a type
+abbrev pub HasNoType : PlainSignature → Tree → Type 0
+HasNoType S t = (types : List Tree) (context : Context) (T : Tree) → ¬ HasType S types context t T

@@ -2,10 +2,12 @@
 //!
 //! A caller that needs a law calls its function, whose clauses then stand among what is known.
 
+ghost use Rattle.dk_model.specs.Trees.{bare, kind};
 ghost use Rattle.typing_model.specs.Laws.{
   AcceptedHasDerivation,
   CheckedFits,
   ComparisonJoins,
+  HasNoType,
   HasNoRules,
   InferredHasType,
   IsNumbered,
@@ -44,4 +46,12 @@ pub fn without_rules_is_numbered()
     ensures { (S : _) → HasNoRules S → IsNumbered S }
 {
     // Proved by the list of its entries.
+}
+
+/// `Kind` has no type, and an abstraction without annotation none of its own.
+pub fn some_have_no_type()
+    ensures kind { (S : _) → HasNoType S kind }
+    ensures bare_abstraction { (S b : _) → HasNoType S (bare b) }
+{
+    // Proved by the rules of typing: none is for such a term.
 }
