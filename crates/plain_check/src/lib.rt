@@ -4,5 +4,8 @@
 #![tactic(auto)]
 
 mod check;
+mod evaluate;
+mod fault;
+mod machine;
 
 pub use check::{check_plain, entry_of, infer_plain};

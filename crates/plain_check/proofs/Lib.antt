@@ -1,0 +1,2 @@
+mod Winding
+mod Turning
