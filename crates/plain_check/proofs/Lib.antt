@@ -1,2 +1,3 @@
 mod Winding
 mod Turning
+mod Comparing

@@ -1,5 +1,5 @@
 //! The weak head form, by turns over a head and a stack of arguments.
-ghost use Rattle.std.specs.Prelude.{◌≡◌, IfOk, false};
+ghost use Rattle.std.specs.Prelude.{◌≡◌, ◌≤◌, IfOk, false};
 ghost use Rattle.dk_model.specs.Trees.{tree};
 ghost use Rattle.dk_model.specs.Signatures.{plain_signature};
 ghost use Rattle.dk_model.specs.Evaluation.{whnf_of};
@@ -23,12 +23,13 @@ pub enum Turn {
 
 /// The weak head form. Each turn takes a unit: a contraction, a definition unfolded, or the end.
 #[tactic(auto, using(crate::proofs::Turning::whnf_turns, crate::proofs::Turning::whnf_stands, crate::proofs::Turning::whnf_ends))]
-pub fn whnf(alloc: Global, signature: &Signature, term: &Term, left: &mut u64) -> Result<Term, Stop>
+pub fn whnf(alloc: Global, signature: &Signature, term: Term, left: &mut u64) -> Result<Term, Stop>
     requires { HasNoRules (plain_signature signature.now) }
-    ensures { GivesTerm (whnf_of (plain_signature signature.now) left.old (tree term.now)) result left.new }
+    ensures gives { GivesTerm (whnf_of (plain_signature signature.now) left.old (tree term)) result left.new }
+    ensures spent { left.new ≤ left.old }
 {
     let mut stack = Vec::new(alloc);
-    let mut head = unwind(term.copy(alloc)?, &mut stack)?;
+    let mut head = unwind(term, &mut stack)?;
     loop {
         if *left == 0 {
             return Err(Stop::Ended);

@@ -4,6 +4,7 @@
 #![tactic(auto)]
 
 mod check;
+mod compare;
 mod evaluate;
 mod fault;
 mod machine;
