@@ -1,3 +1,4 @@
 mod Winding
 mod Turning
 mod Comparing
+mod Contexts

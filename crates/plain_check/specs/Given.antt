@@ -7,6 +7,7 @@ use Rattle.dk_model.specs.declared.term.Term.{Term}
 use Rattle.plain_check.specs.declared.fault.Stop.{Stop}
 use Rattle.plain_check.specs.declared.fault.Stop.TheVariants.{Ended as Over, NoMemory as NoRoom}
 use Rattle.plain_check.specs.declared.fault.TypeFault.{TypeFault}
+use Rattle.plain_check.specs.declared.expect.Product.{Product}
 use Rattle.plain_check.specs.declared.fault.TypeFault.TheVariants.{Refused, Ended, NoMemory}
 
 -- a term, with the units left
@@ -29,11 +30,11 @@ GivesType due (Err Ended) left = due ≡ ended
 GivesType due (Err NoMemory) left = Unit {0}
 
 -- the two parts of a product, with the units left
-abbrev pub GivesParts : Judged (Tree × Tree) → Result (Term × Term) TypeFault → ℕ → Type 0
-GivesParts due (Ok p) left = due ≡ answer (tree p.0, tree p.1) left
-GivesParts due (Err (Refused c)) left = due ≡ refused c
-GivesParts due (Err Ended) left = due ≡ ended
-GivesParts due (Err NoMemory) left = Unit {0}
+abbrev pub GivesProduct : Judged (Tree × Tree) → Result Product TypeFault → ℕ → Type 0
+GivesProduct due (Ok p) left = due ≡ answer (tree p.domain, tree p.codomain) left
+GivesProduct due (Err (Refused c)) left = due ≡ refused c
+GivesProduct due (Err Ended) left = due ≡ ended
+GivesProduct due (Err NoMemory) left = Unit {0}
 
 -- that a test is met, with the units left
 abbrev pub GivesFit : Judged (Unit {0}) → Result Unit TypeFault → ℕ → Type 0
@@ -41,3 +42,7 @@ GivesFit due (Ok u) left = due ≡ answer tt left
 GivesFit due (Err (Refused c)) left = due ≡ refused c
 GivesFit due (Err Ended) left = due ≡ ended
 GivesFit due (Err NoMemory) left = Unit {0}
+
+abbrev pub fault_of : Stop → TypeFault
+fault_of Over = Ended
+fault_of NoRoom = NoMemory

@@ -5,7 +5,9 @@
 
 mod check;
 mod compare;
+mod context;
 mod evaluate;
+mod expect;
 mod fault;
 mod machine;
 
