@@ -1,3 +1,5 @@
 pub mod Entries
 pub mod Inference
+pub mod Fuel
+pub mod Turns
 mod Worked

@@ -1,0 +1,5 @@
+pub mod Machine
+pub mod Given
+pub mod Pending
+pub mod Contexts
+pub mod Spine

@@ -4,5 +4,11 @@
 #![tactic(auto)]
 
 mod check;
+mod compare;
+mod context;
+mod evaluate;
+mod expect;
+mod fault;
+mod machine;
 
 pub use check::{check_plain, entry_of, infer_plain};

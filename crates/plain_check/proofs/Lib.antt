@@ -1,0 +1,4 @@
+mod Winding
+mod Turning
+mod Comparing
+mod Contexts
