@@ -1,5 +1,5 @@
 -- The code's binders, meanings and declarations as plain data.
-use Rattle.std.specs.Prelude.{Option, Some, None, List, [], ◌∷◌}
+use Rattle.std.specs.Prelude.{List, [], ◌∷◌}
 use Rattle.std.specs.Option.{option_map}
 use Rattle.scope_terms.specs.Scopes.{Binder, Meaning, means_variable, means_rule_variable, means_symbol, unknown, Declaration}
 use Rattle.dk_model.specs.Signatures.{maybe_tree}

@@ -8,6 +8,7 @@ mod declaration;
 mod left;
 mod names;
 mod place;
+mod rule;
 mod term;
 
 pub use names::{Names, ScopeFault};

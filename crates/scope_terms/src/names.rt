@@ -1,5 +1,5 @@
 //! The names that the commands so far declare.
-ghost use Rattle.std.specs.Prelude.{◌≡◌, ◌<◌, None, IfOk, IfErr, OnOk, OnErr};
+ghost use Rattle.std.specs.Prelude.{◌≡◌, ◌<◌, is_some, None, IfOk, IfErr, OnOk, OnErr};
 ghost use Rattle.dk_model.specs.Scoping.{plain_command};
 ghost use Rattle.dk_parser.specs.Written.{written_form};
 ghost use Rattle.scope_terms.specs.Scopes.{no_names, number_of, with_name, names_after, scope_of, scoped};
@@ -7,6 +7,7 @@ ghost use Rattle.scope_terms.specs.Answers.{IsFaultOf};
 
 use crate::declaration::{TypeAndBody, declaration_at};
 use crate::place::Binders;
+use crate::rule::rules_at;
 use dk_model::{Code, Fault, Listed, NoMemory, Scoped};
 use dk_parser::{Raw, RawForm};
 use indexmap::IndexMap;
@@ -77,7 +78,7 @@ impl Names {
                 typ,
                 body,
             } => {
-                if self.number(name.as_slice()).is_some() {
+                if self.has(name) {
                     return Err(Fault::Refused(Code::E11));
                 }
                 let none = Names::new(alloc)?;
@@ -97,8 +98,19 @@ impl Names {
                     body,
                 })
             }
-            RawForm::Rules(_) => Err(Fault::NoMemory),
+            RawForm::Rules(rules) => {
+                let rules = rules_at(rules.as_slice(), alloc, self)?;
+                self.count += 1;
+                Ok(Scoped::Rules(rules))
+            }
         }
+    }
+
+    /// Whether the name has a number.
+    pub(crate) fn has(&self, name: &Listed<u8>) -> bool
+        ensures { result ≡ is_some (number_of self.now name.now) }
+    {
+        self.number(name.as_slice()).is_some()
     }
 
     /// Adds a name with the next number.
