@@ -1,3 +1,4 @@
 pub mod Entries
 pub mod Stages
 pub mod Contexts
+pub mod Rows

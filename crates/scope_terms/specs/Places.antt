@@ -1,10 +1,20 @@
--- The code's binders, meanings and declarations as plain data.
-use Rattle.std.specs.Prelude.{List, [], ◌∷◌}
+-- What the code holds as plain data, and its scoping.
+use Rattle.std.specs.Prelude.{ℕ, Option, List, [], ◌∷◌, map}
 use Rattle.std.specs.Option.{option_map}
-use Rattle.scope_terms.specs.Scopes.{Binder, Meaning, means_variable, means_rule_variable, means_symbol, unknown, Declaration}
+use Rattle.dk_model.specs.Trees.{Tree}
+use Rattle.dk_model.specs.Scoping.{PlainLeft, PlainScopedRule, PlainCommand}
+use Rattle.dk_parser.specs.Written.{written, maybe_written, written_pattern, written_param, written_note, written_rule, written_form}
+use Rattle.dk_parser.specs.declared.raw.Raw.{Raw}
+use Rattle.dk_parser.specs.declared.raw.RawTerm.{RawTerm}
+use Rattle.dk_parser.specs.declared.raw.RawPat.{RawPat}
+use Rattle.dk_parser.specs.declared.raw.RawParam.{RawParam}
+use Rattle.dk_parser.specs.declared.raw.RawNote.{RawNote}
+use Rattle.dk_parser.specs.declared.raw.RawRule.{RawRule}
+use Rattle.scope_terms.specs.Scopes.{Binder, Meaning, means_variable, means_rule_variable, means_symbol, unknown, Declaration, Numbered, no_names, Scoping, meaning_of, term_of, maybe_term_of, left_of, declaration_of, notes_of, variables_of, rule_of, rules_of, scope_of}
 use Rattle.dk_model.specs.Signatures.{maybe_tree}
 use Rattle.scope_terms.specs.declared.declaration.TypeAndBody.{TypeAndBody}
 use Rattle.scope_terms.specs.declared.place.Binders.{Binders, Outermost, Under'}
+use Rattle.scope_terms.specs.declared.place.Scope.{Scope}
 use Rattle.scope_terms.specs.declared.place.Named.{Named}
 use Rattle.scope_terms.specs.declared.place.Named.TheVariants.{Variable, RuleVariable, Symbol, Unknown}
 
@@ -21,3 +31,38 @@ meaning Unknown = unknown
 
 abbrev pub declaration : TypeAndBody → Declaration
 declaration d = record { typ = maybe_tree d.typ; body = maybe_tree d.body }
+
+-- ---- the scoping of what the parser gives
+
+-- what the name means under these binders
+abbrev pub sense : Scope → Binders → List ℕ → Meaning
+sense scope bound x = meaning_of scope.names.now scope.variables.now (binders bound) x
+
+abbrev pub term_scoping : Scope → Binders → RawTerm → Scoping Tree
+term_scoping scope bound t = term_of scope.names.now scope.variables.now (binders bound) (written t)
+
+abbrev pub maybe_scoping : Scope → Binders → Option RawTerm → Scoping (Option Tree)
+maybe_scoping scope bound t = maybe_term_of scope.names.now scope.variables.now (binders bound) (maybe_written t)
+
+abbrev pub left_scoping : Scope → Binders → RawPat → Scoping PlainLeft
+left_scoping scope bound p = left_of scope.names.now scope.variables.now (binders bound) (written_pattern p)
+
+-- the type and the body under these parameters
+abbrev pub declaring : Scope → Binders → List RawParam → Option RawTerm → Option RawTerm → Scoping Declaration
+declaring scope bound params typ body = declaration_of scope.names.now (binders bound) (map written_param params) (maybe_written typ) (maybe_written body)
+
+abbrev pub notes_scoping : Numbered → List RawNote → Scoping (List (Option Tree))
+notes_scoping names context = notes_of names no_names (map written_note context)
+
+-- the rule variables of the context
+abbrev pub declared : List RawNote → Numbered
+declared context = variables_of no_names (map written_note context)
+
+abbrev pub rule_scoping : Numbered → RawRule → Scoping PlainScopedRule
+rule_scoping names rule = rule_of names (written_rule rule)
+
+abbrev pub rules_scoping : Numbered → List RawRule → Scoping (List PlainScopedRule)
+rules_scoping names rules = rules_of names (map written_rule rules)
+
+abbrev pub scoping_of : Numbered → Raw → Scoping PlainCommand
+scoping_of names raw = scope_of names (written_form raw.form)

@@ -4,10 +4,9 @@ ghost use Rattle.dk_model.specs.Trees.{tree};
 ghost use Rattle.dk_parser.specs.Written.{written_param, maybe_written};
 ghost use Rattle.scope_terms.specs.Scopes.{no_names, scoped, with_parameter, declaration_of};
 ghost use Rattle.scope_terms.specs.Answers.{IsFaultOf};
-ghost use Rattle.scope_terms.specs.Places.{binders, declaration};
+ghost use Rattle.scope_terms.specs.Places.{declaration, declaring};
 
-use crate::Names;
-use crate::place::Binders;
+use crate::place::{Binders, Scope};
 use crate::term::{maybe_term_at, term_at};
 use dk_model::{Fault, NoMemory, Term, make_annotated, make_product};
 use dk_parser::{RawParam, RawTerm};
@@ -43,28 +42,27 @@ fn under_parameter(
 /// The type and the body under these parameters, or the first code. There are no rule variables.
 #[tactic(auto, using(crate::proofs::Stages::both_scoped, crate::proofs::Stages::both_first, crate::proofs::Stages::both_second))]
 pub(crate) fn declaration_at<'a>(
+    alloc: Global,
+    scope: &Scope,
     params: &'a [RawParam],
     typ: &'a Option<RawTerm>,
     body: &'a Option<RawTerm>,
-    alloc: Global,
-    names: &Names,
-    none: &Names,
     bound: &'a Binders<'a>,
 ) -> Result<TypeAndBody, Fault>
-    requires { none.now ≡ no_names }
-    ensures ok { IfOk result (λ d. declaration_of names.now (binders bound.now) (map written_param params.now) (maybe_written typ.now) (maybe_written body.now) ≡ scoped (declaration d)) }
-    ensures refused { IfErr result (IsFaultOf (declaration_of names.now (binders bound.now) (map written_param params.now) (maybe_written typ.now) (maybe_written body.now))) }
+    requires { scope.now.variables.now ≡ no_names }
+    ensures ok { IfOk result (λ d. declaring scope.now bound.now params.now typ.now body.now ≡ scoped (declaration d)) }
+    ensures refused { IfErr result (IsFaultOf (declaring scope.now bound.now params.now typ.now body.now)) }
 {
     match params {
         [] => {
-            let typ = maybe_term_at(typ, alloc, names, none, bound)?;
-            let body = maybe_term_at(body, alloc, names, none, bound)?;
+            let typ = maybe_term_at(alloc, scope, typ, bound)?;
+            let body = maybe_term_at(alloc, scope, body, bound)?;
             Ok(TypeAndBody { typ, body })
         }
         [param, rest @ ..] => {
-            let parameter = term_at(&param.typ, alloc, names, none, bound)?;
+            let parameter = term_at(alloc, scope, &param.typ, bound)?;
             let under = Binders::Under(param.binder.as_ref(), bound);
-            let inner = declaration_at(rest, typ, body, alloc, names, none, &under)?;
+            let inner = declaration_at(alloc, scope, rest, typ, body, &under)?;
             Ok(under_parameter(alloc, parameter, inner)?)
         }
     }

@@ -10,5 +10,7 @@ mod names;
 mod place;
 mod rule;
 mod term;
+#[cfg(test)]
+mod tests;
 
 pub use names::{Names, ScopeFault};

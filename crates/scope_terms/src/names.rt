@@ -4,9 +4,10 @@ ghost use Rattle.dk_model.specs.Scoping.{plain_command};
 ghost use Rattle.dk_parser.specs.Written.{written_form};
 ghost use Rattle.scope_terms.specs.Scopes.{no_names, number_of, with_name, names_after, scope_of, scoped};
 ghost use Rattle.scope_terms.specs.Answers.{IsFaultOf};
+ghost use Rattle.scope_terms.specs.Places.{scoping_of};
 
 use crate::declaration::{TypeAndBody, declaration_at};
-use crate::place::Binders;
+use crate::place::{Binders, Scope};
 use crate::rule::rules_at;
 use dk_model::{Code, Fault, Listed, NoMemory, Scoped};
 use dk_parser::{Raw, RawForm};
@@ -61,13 +62,13 @@ impl Names {
 
     /// The command with its names as numbers, or its first code from left to right.
     ///
-    /// Accepted, the declared name is added with the next number; rules take a number without a name. After a
-    /// refusal, want of memory too, the names are as before. `docs/scoping.md` has the rules.
+    /// Accepted, the declared name is added with the next number; rules take a number without a
+    /// name. After a refusal, want of memory too, the names are as before (docs/scoping.md).
     pub fn scope(&mut self, alloc: Global, raw: &Raw) -> Result<Scoped, ScopeFault>
         requires { self.old.count < 4294967295 }
-        ensures ok { IfOk result (λ c. scope_of self.old (written_form raw.now.form) ≡ scoped (plain_command c)) }
+        ensures ok { IfOk result (λ c. scoping_of self.old raw.now ≡ scoped (plain_command c)) }
         ensures added { OnOk result (self.new ≡ names_after self.old (written_form raw.now.form)) }
-        ensures refused { IfErr result (IsFaultOf (scope_of self.old (written_form raw.now.form))) }
+        ensures refused { IfErr result (IsFaultOf (scoping_of self.old raw.now)) }
         ensures err { OnErr result (self.new ≡ self.old) }
     {
         match &raw.form {
@@ -82,13 +83,16 @@ impl Names {
                     return Err(Fault::Refused(Code::E11));
                 }
                 let none = Names::new(alloc)?;
+                let scope = Scope {
+                    names: self,
+                    variables: &none,
+                };
                 let TypeAndBody { typ, body } = declaration_at(
+                    alloc,
+                    &scope,
                     params.as_slice(),
                     typ,
                     body,
-                    alloc,
-                    self,
-                    &none,
                     &Binders::Outermost,
                 )?;
                 self.add(alloc, name)?;
@@ -99,7 +103,7 @@ impl Names {
                 })
             }
             RawForm::Rules(rules) => {
-                let rules = rules_at(rules.as_slice(), alloc, self)?;
+                let rules = rules_at(alloc, rules.as_slice(), self)?;
                 self.count += 1;
                 Ok(Scoped::Rules(rules))
             }

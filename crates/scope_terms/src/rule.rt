@@ -5,10 +5,11 @@ ghost use Rattle.dk_model.specs.Scoping.{plain_scoped_rule};
 ghost use Rattle.dk_parser.specs.Written.{written_note, written_rule};
 ghost use Rattle.scope_terms.specs.Scopes.{no_names, scoped, notes_of, variables_of, rule_of, rules_of};
 ghost use Rattle.scope_terms.specs.Answers.{IsFaultOf};
+ghost use Rattle.scope_terms.specs.Places.{notes_scoping, declared, rule_scoping, rules_scoping};
 
 use crate::Names;
 use crate::left::left_at;
-use crate::place::Binders;
+use crate::place::{Binders, Scope};
 use crate::term::{maybe_term_at, term_at};
 use dk_model::{Code, Fault, Listed, ScopedRule, Term};
 use dk_parser::{RawNote, RawRule};
@@ -22,10 +23,10 @@ struct Context {
 }
 
 /// The context, or its first code.
-fn context_at(context: &[RawNote], alloc: Global, names: &Names) -> Result<Context, Fault>
-    ensures ok { IfOk result (λ c. notes_of names.now no_names (map written_note context.now) ≡ scoped (map maybe_tree c.notes)) }
-    ensures variables { IfOk result (λ c. c.variables ≡ variables_of no_names (map written_note context.now)) }
-    ensures refused { IfErr result (IsFaultOf (notes_of names.now no_names (map written_note context.now))) }
+fn context_at(alloc: Global, context: &[RawNote], names: &Names) -> Result<Context, Fault>
+    ensures ok { IfOk result (λ c. notes_scoping names.now context.now ≡ scoped (map maybe_tree c.notes)) }
+    ensures variables { IfOk result (λ c. c.variables ≡ declared context.now) }
+    ensures refused { IfErr result (IsFaultOf (notes_scoping names.now context.now)) }
 {
     let mut variables = Names::new(alloc)?;
     let mut notes = Listed::new(alloc);
@@ -33,7 +34,11 @@ fn context_at(context: &[RawNote], alloc: Global, names: &Names) -> Result<Conte
         if variables.has(&entry.name) {
             return Err(Fault::Refused(Code::E13));
         }
-        let note = maybe_term_at(&entry.note, alloc, names, &variables, &Binders::Outermost)?;
+        let scope = Scope {
+            names,
+            variables: &variables,
+        };
+        let note = maybe_term_at(alloc, &scope, &entry.note, &Binders::Outermost)?;
         notes.push(note)?;
         if variables.count() == u32::MAX {
             return Err(Fault::NoMemory);
@@ -44,13 +49,17 @@ fn context_at(context: &[RawNote], alloc: Global, names: &Names) -> Result<Conte
 }
 
 /// The rule, or its first code.
-fn rule_at(rule: &RawRule, alloc: Global, names: &Names) -> Result<ScopedRule, Fault>
-    ensures ok { IfOk result (λ r. rule_of names.now (written_rule rule.now) ≡ scoped (plain_scoped_rule r)) }
-    ensures refused { IfErr result (IsFaultOf (rule_of names.now (written_rule rule.now))) }
+fn rule_at(alloc: Global, rule: &RawRule, names: &Names) -> Result<ScopedRule, Fault>
+    ensures ok { IfOk result (λ r. rule_scoping names.now rule.now ≡ scoped (plain_scoped_rule r)) }
+    ensures refused { IfErr result (IsFaultOf (rule_scoping names.now rule.now)) }
 {
-    let Context { variables, notes } = context_at(rule.context.as_slice(), alloc, names)?;
-    let left = left_at(&rule.left, alloc, names, &variables, &Binders::Outermost)?;
-    let right = term_at(&rule.right, alloc, names, &variables, &Binders::Outermost)?;
+    let Context { variables, notes } = context_at(alloc, rule.context.as_slice(), names)?;
+    let scope = Scope {
+        names,
+        variables: &variables,
+    };
+    let left = left_at(alloc, &scope, &rule.left, &Binders::Outermost)?;
+    let right = term_at(alloc, &scope, &rule.right, &Binders::Outermost)?;
     Ok(ScopedRule {
         vars: variables.count(),
         notes,
@@ -61,16 +70,16 @@ fn rule_at(rule: &RawRule, alloc: Global, names: &Names) -> Result<ScopedRule, F
 
 /// The rules in order, or their first code.
 pub(crate) fn rules_at(
-    rules: &[RawRule],
     alloc: Global,
+    rules: &[RawRule],
     names: &Names,
 ) -> Result<Listed<ScopedRule>, Fault>
-    ensures ok { IfOk result (λ rs. rules_of names.now (map written_rule rules.now) ≡ scoped (map plain_scoped_rule rs)) }
-    ensures refused { IfErr result (IsFaultOf (rules_of names.now (map written_rule rules.now))) }
+    ensures ok { IfOk result (λ rs. rules_scoping names.now rules.now ≡ scoped (map plain_scoped_rule rs)) }
+    ensures refused { IfErr result (IsFaultOf (rules_scoping names.now rules.now)) }
 {
     let mut scoped = Listed::new(alloc);
     for rule in rules {
-        let rule = rule_at(rule, alloc, names)?;
+        let rule = rule_at(alloc, rule, names)?;
         scoped.push(rule)?;
     }
     Ok(scoped)
