@@ -1,8 +1,7 @@
 //! The type and the body of a declaration under its parameters.
-ghost use Rattle.std.specs.Prelude.{◌≡◌, IfOk, IfErr, map};
+ghost use Rattle.std.specs.Prelude.{◌≡◌, IfOk, IfErr};
 ghost use Rattle.dk_model.specs.Trees.{tree};
-ghost use Rattle.dk_parser.specs.Written.{written_param, maybe_written};
-ghost use Rattle.scope_terms.specs.Scopes.{no_names, scoped, with_parameter, declaration_of};
+ghost use Rattle.scope_terms.specs.Scopes.{no_names, scoped, with_parameter};
 ghost use Rattle.scope_terms.specs.Answers.{IsFaultOf};
 ghost use Rattle.scope_terms.specs.Places.{declaration, declaring};
 
@@ -19,21 +18,17 @@ pub(crate) struct TypeAndBody {
     pub body: Option<Term>,
 }
 
-/// The declaration under a parameter of this type.
-fn under_parameter(
-    alloc: Global,
-    parameter: Term,
-    inner: TypeAndBody,
-) -> Result<TypeAndBody, NoMemory>
-    ensures { IfOk result (λ d. declaration d ≡ with_parameter (tree parameter) (declaration inner)) }
+/// The declaration under a parameter of type `domain`.
+fn under_parameter(alloc: Global, domain: Term, inner: TypeAndBody) -> Result<TypeAndBody, NoMemory>
+    ensures { IfOk result (λ d. declaration d ≡ with_parameter (tree domain) (declaration inner)) }
 {
     let TypeAndBody { typ, body } = inner;
     let typ = match typ {
-        Some(typ) => Some(make_product(alloc, parameter.copy(alloc)?, typ)?),
+        Some(typ) => Some(make_product(alloc, domain.copy(alloc)?, typ)?),
         None => None,
     };
     let body = match body {
-        Some(body) => Some(make_annotated(alloc, parameter, body)?),
+        Some(body) => Some(make_annotated(alloc, domain, body)?),
         None => None,
     };
     Ok(TypeAndBody { typ, body })
@@ -60,10 +55,10 @@ pub(crate) fn declaration_at<'a>(
             Ok(TypeAndBody { typ, body })
         }
         [param, rest @ ..] => {
-            let parameter = term_at(alloc, scope, &param.typ, bound)?;
+            let domain = term_at(alloc, scope, &param.typ, bound)?;
             let under = Binders::Under(param.binder.as_ref(), bound);
             let inner = declaration_at(alloc, scope, rest, typ, body, &under)?;
-            Ok(under_parameter(alloc, parameter, inner)?)
+            Ok(under_parameter(alloc, domain, inner)?)
         }
     }
 }

@@ -1,10 +1,9 @@
 //! The left side that a pattern stands for.
-ghost use Rattle.std.specs.Prelude.{◌≡◌, IfOk, IfErr, []};
-ghost use Rattle.dk_model.specs.Scoping.{plain_left, left_apply, left_abstraction, left_guard};
-ghost use Rattle.dk_parser.specs.Written.{written_pattern};
-ghost use Rattle.scope_terms.specs.Scopes.{scoped, left_of, meant_left, meaning_of};
+ghost use Rattle.std.specs.Prelude.{◌≡◌, IfOk, IfErr};
+ghost use Rattle.dk_model.specs.Scoping.{plain_left, left_apply, left_abstraction};
+ghost use Rattle.scope_terms.specs.Scopes.{scoped};
 ghost use Rattle.scope_terms.specs.Answers.{IsFaultOf};
-ghost use Rattle.scope_terms.specs.Places.{sense, left_scoping};
+ghost use Rattle.scope_terms.specs.Places.{named_left, left_sense};
 
 use crate::place::{Binders, Named, Scope, look_up};
 use crate::term::term_at;
@@ -36,13 +35,9 @@ fn narrow(place: u64) -> Result<u32, NoMemory>
     }
 }
 
-fn name_at<'a>(
-    scope: &Scope,
-    name: &Listed<u8>,
-    bound: &'a Binders<'a>,
-) -> Result<Left, Fault>
-    ensures ok { IfOk result (λ l. meant_left (sense scope.now bound.now name.now) ≡ scoped (plain_left l)) }
-    ensures refused { IfErr result (IsFaultOf (meant_left (sense scope.now bound.now name.now))) }
+fn name_at<'a>(scope: &Scope, name: &Listed<u8>, bound: &'a Binders<'a>) -> Result<Left, Fault>
+    ensures ok { IfOk result (λ l. named_left scope.now bound.now name.now ≡ scoped (plain_left l)) }
+    ensures refused { IfErr result (IsFaultOf (named_left scope.now bound.now name.now)) }
 {
     match look_up(scope, bound, name.as_slice())? {
         Named::Variable(place) => Ok(Left::Var(narrow(place)?)),
@@ -60,8 +55,8 @@ pub(crate) fn left_at<'a>(
     raw: &'a RawPat,
     bound: &'a Binders<'a>,
 ) -> Result<Left, Fault>
-    ensures ok { IfOk result (λ l. left_scoping scope.now bound.now raw.now ≡ scoped (plain_left l)) }
-    ensures refused { IfErr result (IsFaultOf (left_scoping scope.now bound.now raw.now)) }
+    ensures ok { IfOk result (λ l. left_sense scope.now bound.now raw.now ≡ scoped (plain_left l)) }
+    ensures refused { IfErr result (IsFaultOf (left_sense scope.now bound.now raw.now)) }
 {
     match raw {
         RawPat::Name(name) => name_at(scope, name, bound),

@@ -1,7 +1,7 @@
 //! What a name means at a place of a command.
 ghost use Rattle.std.specs.Prelude.{◌≡◌, IfOk};
 ghost use Rattle.std.specs.Option.{option_map};
-ghost use Rattle.scope_terms.specs.Scopes.{binds, place_from, meaning_of};
+ghost use Rattle.scope_terms.specs.Scopes.{binds, place_from};
 ghost use Rattle.scope_terms.specs.Places.{binders, meaning, sense};
 
 use crate::Names;

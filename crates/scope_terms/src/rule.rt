@@ -1,11 +1,9 @@
 //! The rules that a rule command stands for.
-ghost use Rattle.std.specs.Prelude.{◌≡◌, IfOk, IfErr, map};
-ghost use Rattle.dk_model.specs.Signatures.{maybe_tree};
+ghost use Rattle.std.specs.Prelude.{◌≡◌, IfOk, IfErr};
 ghost use Rattle.dk_model.specs.Scoping.{plain_scoped_rule};
-ghost use Rattle.dk_parser.specs.Written.{written_note, written_rule};
-ghost use Rattle.scope_terms.specs.Scopes.{no_names, scoped, notes_of, variables_of, rule_of, rules_of};
+ghost use Rattle.scope_terms.specs.Scopes.{scoped};
 ghost use Rattle.scope_terms.specs.Answers.{IsFaultOf};
-ghost use Rattle.scope_terms.specs.Places.{notes_scoping, declared, rule_scoping, rules_scoping};
+ghost use Rattle.scope_terms.specs.Places.{noted, plain_rules, notes_sense, declared, rule_sense, rules_sense};
 
 use crate::Names;
 use crate::left::left_at;
@@ -24,9 +22,9 @@ struct Context {
 
 /// The context, or its first code.
 fn context_at(alloc: Global, context: &[RawNote], names: &Names) -> Result<Context, Fault>
-    ensures ok { IfOk result (λ c. notes_scoping names.now context.now ≡ scoped (map maybe_tree c.notes)) }
+    ensures ok { IfOk result (λ c. notes_sense names.now context.now ≡ scoped (noted c)) }
     ensures variables { IfOk result (λ c. c.variables ≡ declared context.now) }
-    ensures refused { IfErr result (IsFaultOf (notes_scoping names.now context.now)) }
+    ensures refused { IfErr result (IsFaultOf (notes_sense names.now context.now)) }
 {
     let mut variables = Names::new(alloc)?;
     let mut notes = Listed::new(alloc);
@@ -50,8 +48,8 @@ fn context_at(alloc: Global, context: &[RawNote], names: &Names) -> Result<Conte
 
 /// The rule, or its first code.
 fn rule_at(alloc: Global, rule: &RawRule, names: &Names) -> Result<ScopedRule, Fault>
-    ensures ok { IfOk result (λ r. rule_scoping names.now rule.now ≡ scoped (plain_scoped_rule r)) }
-    ensures refused { IfErr result (IsFaultOf (rule_scoping names.now rule.now)) }
+    ensures ok { IfOk result (λ r. rule_sense names.now rule.now ≡ scoped (plain_scoped_rule r)) }
+    ensures refused { IfErr result (IsFaultOf (rule_sense names.now rule.now)) }
 {
     let Context { variables, notes } = context_at(alloc, rule.context.as_slice(), names)?;
     let scope = Scope {
@@ -74,8 +72,8 @@ pub(crate) fn rules_at(
     rules: &[RawRule],
     names: &Names,
 ) -> Result<Listed<ScopedRule>, Fault>
-    ensures ok { IfOk result (λ rs. rules_scoping names.now rules.now ≡ scoped (map plain_scoped_rule rs)) }
-    ensures refused { IfErr result (IsFaultOf (rules_scoping names.now rules.now)) }
+    ensures ok { IfOk result (λ rs. rules_sense names.now rules.now ≡ scoped (plain_rules rs)) }
+    ensures refused { IfErr result (IsFaultOf (rules_sense names.now rules.now)) }
 {
     let mut scoped = Listed::new(alloc);
     for rule in rules {

@@ -2,23 +2,19 @@
 ghost use Rattle.std.specs.Prelude.{◌≡◌, IfOk, IfErr};
 ghost use Rattle.dk_model.specs.Trees.{tree};
 ghost use Rattle.dk_model.specs.Signatures.{maybe_tree};
-ghost use Rattle.dk_parser.specs.Written.{written, maybe_written};
-ghost use Rattle.scope_terms.specs.Scopes.{scoped, term_of, maybe_term_of, meant_term, meaning_of};
+ghost use Rattle.dk_parser.specs.Written.{written};
+ghost use Rattle.scope_terms.specs.Scopes.{scoped};
 ghost use Rattle.scope_terms.specs.Answers.{IsFaultOf};
-ghost use Rattle.scope_terms.specs.Places.{sense, term_scoping, maybe_scoping};
+ghost use Rattle.scope_terms.specs.Places.{named_term, term_sense, maybe_sense};
 
 use crate::place::{Binders, Named, Scope, look_up};
 use dk_model::{Code, Fault, Listed, Term, make_annotated, make_app, make_bare, make_product};
 use dk_parser::RawTerm;
 use std::alloc::Global;
 
-fn name_at<'a>(
-    scope: &Scope,
-    name: &Listed<u8>,
-    bound: &'a Binders<'a>,
-) -> Result<Term, Fault>
-    ensures ok { IfOk result (λ t. meant_term (sense scope.now bound.now name.now) ≡ scoped (tree t)) }
-    ensures refused { IfErr result (IsFaultOf (meant_term (sense scope.now bound.now name.now))) }
+fn name_at<'a>(scope: &Scope, name: &Listed<u8>, bound: &'a Binders<'a>) -> Result<Term, Fault>
+    ensures ok { IfOk result (λ t. named_term scope.now bound.now name.now ≡ scoped (tree t)) }
+    ensures refused { IfErr result (IsFaultOf (named_term scope.now bound.now name.now)) }
 {
     match look_up(scope, bound, name.as_slice())? {
         Named::Variable(place) => Ok(Term::Var(place)),
@@ -36,8 +32,8 @@ pub(crate) fn term_at<'a>(
     raw: &'a RawTerm,
     bound: &'a Binders<'a>,
 ) -> Result<Term, Fault>
-    ensures ok { IfOk result (λ t. term_scoping scope.now bound.now raw.now ≡ scoped (tree t)) }
-    ensures refused { IfErr result (IsFaultOf (term_scoping scope.now bound.now raw.now)) }
+    ensures ok { IfOk result (λ t. term_sense scope.now bound.now raw.now ≡ scoped (tree t)) }
+    ensures refused { IfErr result (IsFaultOf (term_sense scope.now bound.now raw.now)) }
 {
     match raw {
         RawTerm::Name(name) => name_at(scope, name, bound),
@@ -82,8 +78,8 @@ pub(crate) fn maybe_term_at<'a>(
     raw: &'a Option<RawTerm>,
     bound: &'a Binders<'a>,
 ) -> Result<Option<Term>, Fault>
-    ensures ok { IfOk result (λ t. maybe_scoping scope.now bound.now raw.now ≡ scoped (maybe_tree t)) }
-    ensures refused { IfErr result (IsFaultOf (maybe_scoping scope.now bound.now raw.now)) }
+    ensures ok { IfOk result (λ t. maybe_sense scope.now bound.now raw.now ≡ scoped (maybe_tree t)) }
+    ensures refused { IfErr result (IsFaultOf (maybe_sense scope.now bound.now raw.now)) }
 {
     match raw {
         None => Ok(None),

@@ -175,11 +175,13 @@ fn counts_binders_from_the_innermost(rt: HostRuntime) -> Result<(), Fail> {
     let body = make_annotated(alloc, Term::Sym(0), make_bare(alloc, Term::Var(1))?)?;
     assert!(rt; names.count() < 2);
     match names.scope(alloc, &raw) {
-        Ok(Scoped::Declare {
-            sort,
-            typ: scoped_typ,
-            body: scoped_body,
-        }) => {
+        Ok(
+            Scoped::Declare {
+                sort,
+                typ: scoped_typ,
+                body: scoped_body,
+            },
+        ) => {
             assert_eq!(rt; sort, SymSort::Definable);
             assert!(rt; is_term(&scoped_typ, &typ));
             assert!(rt; is_term(&scoped_body, &body));
