@@ -2,3 +2,5 @@ mod Winding
 mod Turning
 mod Comparing
 mod Contexts
+mod Judging
+mod Spines

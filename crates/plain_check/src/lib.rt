@@ -9,6 +9,7 @@ mod context;
 mod evaluate;
 mod expect;
 mod fault;
+mod infer;
 mod machine;
 
 pub use check::{check_plain, entry_of, infer_plain};
