@@ -1,11 +1,10 @@
 -- What inference and checking give, from what their parts gave.
-use Rattle.std.proofs.Common.{List, [], ◌∷◌, ◌≡◌, ℕ, Bool, true, false, refl, ap, ◌∙◌, sym as flip}
-use Rattle.dk_model.specs.Trees.{Tree, bare, annotated, product, apply}
+use Rattle.std.proofs.Common.{List, [], ◌∷◌, ◌≡◌, ℕ, false, refl, ap, ◌∙◌, sym as flip}
+use Rattle.dk_model.specs.Trees.{Tree, bare, annotated, product}
 use Rattle.dk_model.specs.Substitution.{substitute}
 use Rattle.dk_model.specs.Erasure.{erased}
 use Rattle.dk_model.specs.Signatures.{PlainSignature}
-use Rattle.dk_model.specs.Typing.{Judged, answer, refused, ended, next, not_kind, as_product, as_sort, as_star, as_same, inferred, checked, against, is_abstraction, application_type}
-use Rattle.dk_model.specs.declared.code.Code.{Code}
+use Rattle.dk_model.specs.Typing.{Judged, answer, refused, ended, next, not_kind, as_product, as_sort, as_star, as_same, inferred, checked, is_abstraction}
 use Rattle.dk_model.specs.declared.code.Code.TheVariants.{E20, E24}
 use Rattle.dk_model.proofs.Inference.{checked_by_inference}
 use Rattle.plain_check.specs.declared.fault.TypeFault.{TypeFault}

@@ -4,3 +4,4 @@ mod Comparing
 mod Contexts
 mod Judging
 mod Spines
+mod Verdict

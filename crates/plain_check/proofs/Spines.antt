@@ -3,7 +3,7 @@ use Rattle.std.proofs.Common.{List, [], ◌∷◌, ◌++◌, ◌≡◌, ◌+◌,
 use Rattle.std.specs.Borrow.{Bor}
 use Rattle.dk_model.specs.Trees.{Tree, star, kind, symbol, variable, rule_variable, bare, annotated, product, apply, tree}
 use Rattle.dk_model.specs.Signatures.{PlainSignature}
-use Rattle.dk_model.specs.Typing.{Judged, answer, refused, ended, next, inferred, checked, application_type}
+use Rattle.dk_model.specs.Typing.{answer, next, inferred, checked, application_type}
 use Rattle.dk_model.specs.declared.term.Term.{Term}
 use Rattle.plain_check.specs.declared.fault.TypeFault.{TypeFault}
 use Rattle.plain_check.specs.Given.{Fails}

@@ -1,9 +1,11 @@
 -- What a call gives, by the cases of its result. Want of memory says nothing.
-use Rattle.std.specs.Prelude.{ℕ, ◌≡◌, Option, Some, None, Bool, Result, Ok, Err}
+use Rattle.std.specs.Prelude.{ℕ, ◌≡◌, Some, None, Bool, Result, Ok, Err}
 use Rattle.dk_model.specs.Trees.{Tree, tree}
 use Rattle.dk_model.specs.Units.{Units}
 use Rattle.dk_model.specs.Typing.{Judged, answer, refused, ended}
 use Rattle.dk_model.specs.declared.term.Term.{Term}
+use Rattle.dk_model.specs.declared.code.Verdict.{Verdict}
+use Rattle.dk_model.specs.declared.code.Verdict.TheVariants.{Refused as RefusedBy, Ended as OutOfUnits, Memory as OutOfMemory}
 use Rattle.plain_check.specs.declared.fault.Stop.{Stop}
 use Rattle.plain_check.specs.declared.fault.Stop.TheVariants.{Ended as Over, NoMemory as NoRoom}
 use Rattle.plain_check.specs.declared.fault.TypeFault.{TypeFault}
@@ -46,3 +48,8 @@ GivesFit due (Err fault) left = Fails fault due
 abbrev pub fault_of : Stop → TypeFault
 fault_of Over = Ended
 fault_of NoRoom = NoMemory
+
+abbrev pub fault_verdict : TypeFault → Verdict
+fault_verdict (Refused c) = RefusedBy c
+fault_verdict Ended = OutOfUnits
+fault_verdict NoMemory = OutOfMemory

@@ -1,7 +1,7 @@
 -- Inference along the arguments of an application.
 use Rattle.std.specs.Prelude.{ℕ, ◌+◌, List, [], ◌∷◌, map}
 use Rattle.std.specs.Borrow.{Bor}
-use Rattle.dk_model.specs.Trees.{Tree, star, apply, bare, annotated, product, tree}
+use Rattle.dk_model.specs.Trees.{Tree, apply, bare, annotated, product, tree}
 use Rattle.dk_model.specs.Signatures.{PlainSignature}
 use Rattle.dk_model.specs.Typing.{Judged, answer, next, application_type, inferred, checked, as_star}
 use Rattle.dk_model.specs.declared.term.Term.{Term}

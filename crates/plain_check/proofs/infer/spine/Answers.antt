@@ -1,4 +1,3 @@
-use Rattle.std.proofs.Common.{rules, ◌≡◌}
 use Rattle.dk_model.specs.Trees.{tree}
 use Rattle.plain_check.specs.Spine.{behind_references}
 use Rattle.plain_check.proofs.Spines.{spine_size, arguments_smaller}
