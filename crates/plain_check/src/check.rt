@@ -4,7 +4,7 @@ ghost use Rattle.dk_model.specs.Trees.{tree};
 ghost use Rattle.dk_model.specs.Signatures.{plain_signature, plain_entry, maybe_tree};
 ghost use Rattle.dk_model.specs.Scoping.{plain_command};
 ghost use Rattle.dk_model.specs.Typing.{sort_of};
-ghost use Rattle.dk_model.specs.Verdicts.{verdict_of, entry_of, inferred_type, is_untyped, IsVerdictOrMemory, HasNoRules, body_type, body_checked, declaration_checked, entry_type_of, kept_body};
+ghost use Rattle.dk_model.specs.Verdicts.{verdict_of, entry_of, inferred_type, is_untyped, IsVerdictOrMemory, HasNoRules, AddsNoRules, body_type, body_checked, declaration_checked, entry_type_of, kept_body};
 ghost use Rattle.plain_check.specs.Given.{GivesType, GivesFit, fault_verdict};
 
 use crate::context::Context;
@@ -67,6 +67,48 @@ pub fn infer_plain(
             }
         }
         _ => Err(Verdict::Memory),
+    }
+}
+
+/// Whether a command is a definition without a declared type.
+pub fn is_untyped(command: &Scoped) -> bool
+    ensures { result ≡ is_untyped (plain_command command.now) }
+{
+    match command {
+        Scoped::Declare { typ, body, .. } => typ.is_none() && body.is_some(),
+        Scoped::Rules(_) => false,
+    }
+}
+
+/// The entry that a command adds, where it is accepted; else its verdict.
+pub fn enter_plain(
+    alloc: Global,
+    signature: &Signature,
+    command: &Scoped,
+    budget: u64,
+) -> Result<Entry, Verdict>
+    requires { HasNoRules (plain_signature signature.now) }
+    ensures ok { IfOk result (λ e. plain_entry e ≡ entry_of (plain_signature signature.now) (plain_command command.now) (inferred_type (plain_signature signature.now) (plain_command command.now) budget)) }
+    ensures accepted { IfOk result (λ _. verdict_of (plain_signature signature.now) (plain_command command.now) budget ≡ Verdict.Accepted) }
+    ensures no_rules { IfOk result (λ e. AddsNoRules (plain_entry e)) }
+    ensures err { IfErr result (λ v. IsVerdictOrMemory (verdict_of (plain_signature signature.now) (plain_command command.now) budget) v) }
+    ensures refused { IfErr result (λ v. ¬ (v ≡ Verdict.Accepted)) }
+{
+    let mut inferred = None;
+    if is_untyped(command) {
+        match infer_plain(alloc, signature, command, budget) {
+            Ok(typ) => inferred = Some(typ),
+            Err(verdict) => return Err(verdict),
+        }
+    } else {
+        match check_plain(alloc, signature, command, budget) {
+            Verdict::Accepted => {}
+            verdict => return Err(verdict),
+        }
+    }
+    match entry_of(alloc, signature, command, inferred) {
+        Ok(entry) => Ok(entry),
+        Err(_) => Err(Verdict::Memory),
     }
 }
 
@@ -176,7 +218,8 @@ pub fn entry_of(
     command: &Scoped,
     inferred: Option<Term>,
 ) -> Result<Entry, NoMemory>
-    ensures { IfOk result (λ e. plain_entry e ≡ entry_of (plain_signature signature.now) (plain_command command.now) (maybe_tree inferred)) }
+    ensures value { IfOk result (λ e. plain_entry e ≡ entry_of (plain_signature signature.now) (plain_command command.now) (maybe_tree inferred)) }
+    ensures no_rules { IfOk result (λ e. AddsNoRules (plain_entry e)) }
 {
     match command {
         Scoped::Declare { sort, typ, body } => {
