@@ -5,8 +5,7 @@ use Rattle.dk_model.specs.Substitution.{equal}
 use Rattle.dk_model.specs.Signatures.{PlainSignature}
 use Rattle.dk_model.specs.Units.{Units, bind}
 use Rattle.dk_model.specs.Spines.{pairs_of}
-use Rattle.dk_model.specs.Selection.{each_same}
-use Rattle.dk_model.specs.Evaluation.{whnf_of, comparison_of, normal_of}
+use Rattle.dk_model.specs.Evaluation.{whnf_of, comparison_of}
 use Rattle.dk_model.specs.declared.term.Term.{Term}
 use Rattle.dk_model.proofs.Turns.{comparison_is}
 use Rattle.plain_check.specs.Pending.{pending, comparisons, parts_before}

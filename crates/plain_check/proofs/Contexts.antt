@@ -1,5 +1,5 @@
 -- A context by its innermost variable.
-use Rattle.std.proofs.Common.{List, [], ◌∷◌, ◌++◌, ◌≡◌, ◌+◌, ◌<◌, ◌≤◌, ℕ, zero, suc, Option, Some, None, refl, ap, ◌∙◌, sym as flip, arith, length, get_or, length-append}
+use Rattle.std.proofs.Common.{List, [], ◌∷◌, ◌++◌, ◌≡◌, ◌+◌, ◌≤◌, ℕ, zero, suc, Some, None, refl, ap, ◌∙◌, arith, length, get_or, length-append}
 use Rattle.std.specs.Prelude.{slice_get}
 use Rattle.dk_model.specs.Trees.{Tree, kind, tree}
 use Rattle.dk_model.specs.Substitution.{shift}

@@ -2,3 +2,6 @@ mod Winding
 mod Turning
 mod Comparing
 mod Contexts
+mod Judging
+mod Spines
+mod Verdict

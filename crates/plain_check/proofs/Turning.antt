@@ -1,13 +1,13 @@
 -- The turns of the weak head form, where no entry has a rule.
-use Rattle.std.proofs.Common.{List, [], ◌∷◌, ◌++◌, ◌≡◌, ◌-◌, ◌<◌, ◌*◌, ◌+◌, ℕ, zero, suc, Bool, true, false, Option, Some, None, refl, ap, ◌∙◌, sym as flip, arith, drop, length, subst}
+use Rattle.std.proofs.Common.{List, [], ◌∷◌, ◌++◌, ◌≡◌, ◌-◌, ◌<◌, ◌+◌, ℕ, zero, suc, true, false, Option, Some, None, refl, ap, ◌∙◌, sym as flip, arith, length}
 use Rattle.std.specs.Prelude.{slice_get, nat_lt}
 use Rattle.std.proofs.lemmas.Bool.{le-ltb}
 use Rattle.dk_model.specs.Trees.{Tree, star, kind, symbol, variable, rule_variable, apply, bare, annotated, product, tree}
 use Rattle.dk_model.specs.Substitution.{substitute}
 use Rattle.dk_model.specs.Signatures.{PlainRule, PlainEntry, symbol_entry, rules_entry, PlainSignature}
-use Rattle.dk_model.specs.Units.{Units, bind}
+use Rattle.dk_model.specs.Units.{bind}
 use Rattle.dk_model.specs.Spines.{contraction, head_symbol, body_of, arguments, applied}
-use Rattle.dk_model.specs.Selection.{rules_of, declared_rules, body_rule, filled, Captures}
+use Rattle.dk_model.specs.Selection.{rules_of, declared_rules, body_rule, filled}
 use Rattle.dk_model.specs.Evaluation.{whnf_of, selection_of, columns, rows, rewritten}
 use Rattle.dk_model.specs.Verdicts.{HasNoRules}
 use Rattle.dk_model.specs.declared.term.Term.{Term}

@@ -1,8 +1,8 @@
 -- A term apart and together again.
-use Rattle.std.proofs.Common.{List, [], ◌∷◌, ◌++◌, ◌≡◌, Bool, true, false, Option, Some, None, refl, ap, ◌∙◌, sym as flip}
-use Rattle.dk_model.specs.Trees.{Tree, star, kind, symbol, variable, rule_variable, apply, bare, annotated, product, tree}
+use Rattle.std.proofs.Common.{List, [], ◌∷◌, ◌++◌, ◌≡◌, refl, ap}
+use Rattle.dk_model.specs.Trees.{Tree, apply, tree}
 use Rattle.dk_model.specs.declared.term.Term.{Term}
-use Rattle.plain_check.specs.Machine.{trees, wound, is_application}
+use Rattle.plain_check.specs.Machine.{trees, wound}
 
 pub wound_pushed : (t : Tree) (ts : List Term) (a : Term) → wound t (trees (ts ++ (a ∷ []))) ≡ wound (apply t (tree a)) (trees ts)
 wound_pushed t [] a = refl

@@ -1,6 +1,6 @@
 -- How the evaluating code holds a term: its head beside a stack of arguments.
 use Rattle.std.specs.Prelude.{◌≡◌, ℕ, Option, Some, None, Bool, true, false, List, [], ◌∷◌, map, slice_get}
-use Rattle.dk_model.specs.Trees.{Tree, star, kind, symbol, variable, rule_variable, apply, bare, annotated, product, tree}
+use Rattle.dk_model.specs.Trees.{Tree, symbol, apply, bare, tree}
 use Rattle.dk_model.specs.Signatures.{PlainEntry, symbol_entry, rules_entry, PlainSignature}
 use Rattle.dk_model.specs.Spines.{contraction, head_symbol, arguments, applied}
 use Rattle.dk_model.specs.declared.term.Term.{Term}

@@ -8,6 +8,7 @@ use dk_model::{NoMemory, Term};
 use std::alloc::Global;
 
 /// Types, each over the variables outside of it, the innermost last.
+#[derive(Drop)]
 pub struct Context {
     pub types: Vec<Term>,
 }

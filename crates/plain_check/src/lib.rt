@@ -9,6 +9,10 @@ mod context;
 mod evaluate;
 mod expect;
 mod fault;
+mod infer;
 mod machine;
 
-pub use check::{check_plain, entry_of, infer_plain};
+pub use check::{check_plain, enter_plain, entry_of, infer_plain, is_untyped};
+
+#[cfg(test)]
+mod tests;
