@@ -1,10 +1,10 @@
 -- What the words of the command line ask of the program (docs/command-line.md).
-use Rattle.std.specs.Prelude.{ℕ, Bool, false, List, Option, Some, None, if◌then◌else◌, codes, option_map, option_and_then}
+use Rattle.std.specs.Prelude.{ℕ, Bool, false, List, [], ◌∷◌, Option, Some, None, if◌then◌else◌, codes, option_map, option_and_then}
 use Rattle.std.specs.Option.{option_map_or}
 use Rattle.std.specs.Str.{bytes_eq}
 use Rattle.std.specs.Str.Parse.{digits_value, without_leading_plus}
 use Rattle.clap.specs.ValueTests.{accepts}
-use Rattle.clap.specs.Walk.{is_empty}
+use Rattle.clap.specs.Kinds.{Kinds}
 use Rattle.clap.specs.Words.{Row, Text, fault_of, first_of, one_of, subcommand_of}
 use Rattle.command_line.specs.Words.{budgets, program}
 use Rattle.command_line.specs.declared.request.Request as given
@@ -39,6 +39,11 @@ quiet_in rows = option_map_or is_true (one_of (codes "quiet") rows) false
 abbrev pub request_in : List Row → Option Request
 request_in rows = option_and_then (λ f. option_map (λ b. record { file = f; budget = b; quiet = quiet_in rows }) (budget_in rows)) (file_in rows)
 
+-- the request, where no fault stands against it
+abbrev pub unless_fault : Kinds → Option Request → Option Request
+unless_fault [] request = request
+unless_fault (kind ∷ kinds) request = None
+
 -- what clap takes the words to mean, the first of which is the program's name; none where it refuses them
 unfoldable pub request_of : List Text → Option Request
-request_of words = if is_empty (fault_of program words) then option_and_then (λ found. request_in found.1) (subcommand_of program words) else None
+request_of words = unless_fault (fault_of program words) (option_and_then (λ found. request_in found.1) (subcommand_of program words))

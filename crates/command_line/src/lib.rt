@@ -4,6 +4,7 @@
 //! with `usage_text` (docs/command-line.md).
 #![tactic(auto)]
 
+mod command;
 mod request;
 mod usage;
 
