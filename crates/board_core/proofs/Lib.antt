@@ -1,0 +1,4 @@
+pub mod Histories
+pub mod Lawful
+pub mod Keeping
+pub mod Holding
