@@ -1,8 +1,8 @@
 -- What every lawful history has.
-use Rattle.std.proofs.Common.{◌≡◌, ◌⊎◌, ℕ, zero, suc, ◌+◌, ◌-◌, ◌<◌, ◌≤◌, Bool, true, false, not, ◌&&◌, ◌||◌, cond, eqb, leb, ltb, le-leb, lt_of_not-le, List, [], ◌∷◌, ◌++◌, length, get_or, sym, refl, ap, ◌∙◌, subst, inl, inr, ⊎_elim, arith, append_assoc, append-nil, Option, Some, None}
+use Rattle.std.proofs.Common.{◌≡◌, ◌⊎◌, ℕ, zero, suc, ◌+◌, ◌-◌, ◌<◌, ◌≤◌, Bool, true, false, not, ◌&&◌, ◌||◌, cond, eqb, leb, ltb, lt_of_not-le, List, [], ◌∷◌, ◌++◌, length, get_or, sym, refl, ap, ◌∙◌, subst, inl, inr, ⊎_elim, arith, append_assoc, append-nil, Option, Some, None}
 use Rattle.std.specs.Prelude.{count_by, Contains}
 use Rattle.std.specs.List.{list_any}
-use Rattle.std.proofs.lemmas.Bool.{eqb-true, leb-true, ltb-true, lt-ltb}
+use Rattle.std.proofs.lemmas.Bool.{eqb-true, leb-true, ltb-true, lt-ltb, le-leb}
 use mathlib.Core.Logic.{dite}
 use native.Mathlib.Decide.{dec_le, ℕ_discrete}
 use Rattle.std.proofs.lemmas.List.Sums.{sum_by-append}
@@ -202,8 +202,8 @@ test_free marks es n h = let r = and_right (ltb 0 n) (leb n (puts es) && (not (i
 
 free_tests : (marks : List Bool) (es : List Event) (n : ℕ) → IsFree marks es n → free_test marks es n ≡ true
 unfolding free_test
-free_tests marks es n f = let a = f.0 in let b = f.1 in both (ltb 0 n) (leb n (puts es) && (not (is_settled marks n) && not (list_any (claims n) es))) lt-ltb
-    (both (leb n (puts es)) (not (is_settled marks n) && not (list_any (claims n) es)) le-leb (both (not (is_settled marks n)) (not (list_any (claims n) es)) (ap not f.2) (ap not f.3)))
+free_tests marks es n f = let a = f.0 in let b = f.1 in both (ltb 0 n) (leb n (puts es) && (not (is_settled marks n) && not (list_any (claims n) es))) (lt-ltb 0 n a)
+    (both (leb n (puts es)) (not (is_settled marks n) && not (list_any (claims n) es)) (le-leb n (puts es) b) (both (not (is_settled marks n)) (not (list_any (claims n) es)) (ap not f.2) (ap not f.3)))
 
 -- a sealed history with nothing held and nothing claimable is finished
 pub finished : (marks : List Bool) (es : List Event) → IsLawful marks es → list_any is_seal es ≡ true → ((w : ℕ) → HoldsNone w es) → ((n : ℕ) → ¬ IsClaimable marks es n) → IsFinished marks es

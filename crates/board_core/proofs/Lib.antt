@@ -2,3 +2,4 @@ pub mod Histories
 pub mod Lawful
 pub mod Keeping
 pub mod Holding
+pub mod Replaying

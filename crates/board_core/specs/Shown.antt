@@ -1,5 +1,5 @@
 -- A book as contracts see it, and what its calls answer.
-use Rattle.std.specs.Prelude.{◌≡◌, ℕ, ◌-◌, ◌⊎◌, true, false, Bool, List, [], ◌∷◌, ◌++◌, slice_get, Option, Some, None}
+use Rattle.std.specs.Prelude.{◌≡◌, ℕ, ◌-◌, ◌⊎◌, true, false, Bool, List, [], ◌∷◌, ◌++◌, take, slice_get, Option, Some, None}
 use Rattle.std.specs.List.{list_any}
 use Rattle.std.specs.Arc.{arc_value}
 use Rattle.board_core.specs.declared.event.Event.{Event}
@@ -8,7 +8,7 @@ use Rattle.board_core.specs.declared.task.PutRefused.{PutRefused}
 use Rattle.board_core.specs.declared.task.PutRefused.TheVariants.{Stopped, NoMemory}
 use Rattle.board_core.specs.declared.task.Claimed.{Claimed}
 use Rattle.board_core.specs.declared.task.Claimed.TheVariants.{Task, Empty, Over}
-use Rattle.board_core.specs.Events.{is_seal, is_fault, IsFirstFault}
+use Rattle.board_core.specs.Events.{is_seal, is_fault, puts, IsFirstFault}
 use Rattle.board_core.specs.Machine.{IsClaimable, Allowed, marks_of}
 
 -- the jobs in the order in which they were put, each settled or not, and all that happened
@@ -24,6 +24,10 @@ added b e = record { jobs = b.jobs; events = b.events ++ e ∷ [] }
 abbrev pub put_on : {J : Type 0} → Shown J → J → Bool → ℕ → Shown J
 put_on b job settled n =
     record { jobs = b.jobs ++ (job, settled) ∷ []; events = b.events ++ Put n ∷ [] }
+
+-- the book that these events make of the first of these jobs
+abbrev pub part_of : {J : Type 0} → List (J × Bool) → List Event → Shown J
+part_of jobs es = record { jobs = take (puts es) jobs; events = es }
 
 -- nothing can be claimed
 abbrev pub IsDrained : {J : Type 0} → Shown J → Type 0

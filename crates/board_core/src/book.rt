@@ -1,11 +1,13 @@
 //! The book: the jobs, what was done with them, and the history that says so.
-ghost use Rattle.std.specs.Prelude.{◌≡◌, ◌+◌, ◌-◌, ◌*◌, ◌^◌, ◌<◌, ◌≤◌, false, [], length, slice_get, IfOk, IfErr};
+ghost use Rattle.std.specs.Prelude.{◌≡◌, ◌+◌, ◌-◌, ◌*◌, ◌^◌, ◌<◌, ◌≤◌, false, [], length, slice_get, IfOk, IfErr, IfSome, IfNone, IsSomeAnd};
 ghost use Rattle.std.specs.List.{list_any};
 ghost use Rattle.std.specs.Arc.{arc_value};
 ghost use Rattle.board_core.specs.declared.event.Event.{Event};
-ghost use Rattle.board_core.specs.Events.{is_seal, is_fault, puts, end_of, verdict_at, is_settled};
+ghost use Rattle.board_core.specs.Events.{is_seal, is_fault, puts, end_of, verdict_at, is_settled, IsFirstFault};
 ghost use Rattle.board_core.specs.Machine.{Allowed, HoldsNone, IsLawful, marks_of};
 ghost use Rattle.board_core.specs.Shown.{added, put_on, ClaimReply, IsRefusal};
+
+mod replay;
 
 use crate::event::{End, Event};
 use crate::steps::{fault_after, idle, let_wait, make_room, share_of, take_below};
@@ -82,6 +84,56 @@ impl<J> Book<J> {
         ensures few_events { length self.now.events ≤ 3 * length self.now.jobs + 1 }
     {
         self.history.as_slice()
+    }
+
+    /// How many jobs were put.
+    pub fn len(&self) -> usize
+        ensures { result ≡ length self.now.jobs }
+    {
+        self.jobs.len()
+    }
+
+    /// The job of this number.
+    pub fn job(&self, number: u32) -> &Arc<J>
+        requires { (0 < number) × (number ≤ length self.now.jobs) }
+        ensures { IsSomeAnd (slice_get self.now.jobs (number - 1)) (λ j. j.0 ≡ arc_value result.now) }
+    {
+        &self.jobs[number as usize - 1].job
+    }
+
+    /// Whether that job was put as settled.
+    pub fn is_settled(&self, number: u32) -> bool
+        requires { (0 < number) × (number ≤ length self.now.jobs) }
+        ensures { result ≡ is_settled (marks_of self.now.jobs) number }
+    {
+        self.jobs[number as usize - 1].settled
+    }
+
+    /// The verdict that stands for that job: the answered one, or `Accepted` where it is settled.
+    pub fn verdict(&self, number: u32) -> Option<Verdict>
+        requires { (0 < number) × (number ≤ length self.now.jobs) }
+        ensures { result ≡ verdict_at (marks_of self.now.jobs) self.now.events number }
+    {
+        let at = number as usize - 1;
+        if self.jobs[at].settled {
+            return Some(Verdict::Accepted);
+        }
+        self.verdicts[at]
+    }
+
+    /// The least number with a verdict other than `Accepted`, and that verdict.
+    pub fn fault(&self) -> Option<(u32, Verdict)>
+        ensures none { IfNone result (list_any is_fault self.now.events ≡ false) }
+        ensures first { IfSome result (λ f. IsFirstFault self.now.events f.0 f.1) }
+    {
+        self.fault
+    }
+
+    /// How the board was sealed, if it was.
+    pub fn end(&self) -> Option<End>
+        ensures { result ≡ end_of self.now.events }
+    {
+        self.end
     }
 }
 
