@@ -1,17 +1,14 @@
 -- The same with the jobs themselves, whose shares wait with their numbers.
-use Rattle.std.proofs.Common.{◌≡◌, ◌⊎◌, ℕ, zero, suc, ◌+◌, ◌-◌, ◌*◌, ◌^◌, ◌<◌, ◌≤◌, Bool, true, false, ◌||◌, eqb, List, [], ◌∷◌, ◌++◌, length, map, sym, refl, ap, ◌∙◌, subst, arith, inl, inr, append-nil, Option, Some, None}
+use Rattle.std.proofs.Common.{◌≡◌, ℕ, zero, suc, ◌+◌, ◌-◌, ◌*◌, ◌^◌, ◌<◌, ◌≤◌, Bool, true, false, List, [], ◌∷◌, ◌++◌, length, sym, refl, ap, ◌∙◌, subst, arith, inl, inr, append-nil, Option, Some, None}
 use Rattle.std.specs.Prelude.{slice_get}
 use Rattle.std.specs.List.{list_any}
 use Rattle.std.proofs.lemmas.List.{map-append}
-use Rattle.std.proofs.lemmas.Option.{slice_get_within}
-use lib.ListN.{length-map}
 use Rattle.dk_model.specs.declared.code.Verdict.{Verdict}
 use Rattle.board_core.specs.declared.event.End.{End}
 use Rattle.board_core.specs.declared.event.Event.{Event}
 use Rattle.board_core.specs.declared.event.Event.TheVariants.{Put, Claim}
-use Rattle.board_core.specs.declared.task.Claimed.{Claimed}
 use Rattle.board_core.specs.Events.{is_seal, is_fault, end_of}
-use Rattle.board_core.specs.Machine.{IsClaimable, HoldsNone, Allowed, marks_of}
+use Rattle.board_core.specs.Machine.{HoldsNone, Allowed, marks_of}
 use Rattle.board_core.specs.Shown.{Shown, ClaimReply, IsDrained}
 use Rattle.board_core.specs.Kept.{Keeps, IsFaultOf, Each, HasShare, numbers}
 use Rattle.board_core.specs.Parts.{reaches, Blocked, idle_reply, newcomers, share_due}

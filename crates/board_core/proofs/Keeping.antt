@@ -1,6 +1,6 @@
 -- Each call keeps what the fields of a book say.
-use Rattle.std.proofs.Common.{◌≡◌, ◌≢◌, ◌⊎◌, ℕ, zero, suc, ◌+◌, ◌-◌, ◌*◌, ◌^◌, ◌<◌, ◌≤◌, Bool, true, false, not, ◌&&◌, ◌||◌, cond, eqb, List, [], ◌∷◌, ◌++◌, length, map, get_or, set, sym, refl, ap, ◌∙◌, subst, arith, inl, inr, ⊎_elim, append_assoc, append-nil, length-set, length-append, get_or-set_same, get_or-set_other, leb, eq-eqb, le-leb, lt_of_not-le, ne_eqb, Option, Some, None}
-use Rattle.std.specs.Prelude.{count_by, is_none, slice_get}
+use Rattle.std.proofs.Common.{◌≡◌, ◌≢◌, ◌⊎◌, ℕ, zero, suc, ◌+◌, ◌-◌, ◌*◌, ◌^◌, ◌<◌, ◌≤◌, Bool, true, false, not, ◌||◌, cond, eqb, List, [], ◌∷◌, ◌++◌, length, get_or, set, sym, refl, ap, ◌∙◌, subst, arith, inl, inr, ⊎_elim, append_assoc, append-nil, length-set, length-append, get_or-set_other, leb, eq-eqb, le-leb, lt_of_not-le, ne_eqb, Option, Some, None}
+use Rattle.std.specs.Prelude.{is_none}
 use Rattle.std.specs.List.{list_any}
 use Rattle.std.proofs.lemmas.List.Folds.{list_any-append}
 use Rattle.std.proofs.lemmas.List.Sums.{sum_by-append}
@@ -14,8 +14,8 @@ use Rattle.dk_model.specs.declared.code.Verdict.{Verdict}
 use Rattle.board_core.specs.declared.event.End.{End}
 use Rattle.board_core.specs.declared.event.Event.{Event}
 use Rattle.board_core.specs.declared.event.Event.TheVariants.{Put, Claim, Answer, Seal}
-use Rattle.board_core.specs.Events.{is_accepted, is_put, is_seal, is_fault, claims, claims_by, answers, answers_by, faults, puts, answered_verdict, end_of, is_settled, IsFirstFault}
-use Rattle.board_core.specs.Machine.{IsFree, IsBelowFaults, IsClaimable, HoldsNone, Allowed, AllowedFrom, IsLawful}
+use Rattle.board_core.specs.Events.{is_accepted, is_put, is_seal, is_fault, claims, claims_by, faults, puts, answered_verdict, is_settled}
+use Rattle.board_core.specs.Machine.{IsFree, IsBelowFaults, IsClaimable, HoldsNone, Allowed, AllowedFrom}
 use Rattle.board_core.specs.Kept.{Keeps, IsFaultOf, Each, Ascends}
 use Rattle.board_core.specs.Parts.{lesser, fault_with, reaches, Blocked}
 use Rattle.board_core.proofs.Histories.{or_left, kept_or, or_right, not_before, not_after, and_left, not_true, any_snoc, any_same, any_kept, any_hit, any_cases, puts_snoc, claimed_by, no_fault, fault_any, first_of, unanswered, verdict_same, verdict_new, verdict_kept, verdict_faults, unsealed, end_append, end_same, count_answered}
@@ -101,22 +101,22 @@ module _ {room : ℕ} {marks : List Bool} {waiting : List ℕ} {verdicts : List 
 
   pub answer_keeps : (w n : ℕ) (v : Verdict) → Allowed marks es (Answer w n v) → Keeps room marks waiting (set verdicts (n - 1) (Some v)) (fault_with fault n v) end (es ++ Answer w n v ∷ [])
   answer_keeps w n v ok = let e = Answer w n v in let at = at_verdict w n v ok in let inside = at.1 in let one = count_answered verdicts (n - 1) v at.1 at.2 in record {
-      few = k.few;
-      as_many = length-set verdicts (n - 1) (Some v) ∙ k.as_many;
-      all_put = (let t = puts_snoc es e in let u = k.all_put in omega (arith, t, u));
-      only_put = λ m h. k.only_put m (sym (any_same (claims m) es e refl) ∙ h);
-      waits = each_map (IsFree marks es) (IsFree marks (es ++ e ∷ [])) (quiet marks es e refl (λ m. refl)) waiting k.waits;
-      all_wait = λ m h. k.all_wait m (unquiet marks es e refl (λ m. refl) m h);
-      in_order = k.in_order;
-      verdicts_kept = λ m h. dite (ℕ_discrete m n)
-          (λ i. let j : m - 1 ≡ n - 1 = omega arith in get_or-set_at verdicts (n - 1) (m - 1) (Some v) None j inside ∙ sym (subst (λ z. answered_verdict z (es ++ e ∷ []) ≡ Some v) (sym i) (verdict_new w n v es [] at.3)))
-          (λ ne. let pos = at.0 in let o : (m - 1) ≢ (n - 1) = λ x. ne (omega (arith, x, pos, h)) in let miss : eqb n m ≡ false = ne_eqb n m (λ x. ne (sym x)) in get_or-set_other verdicts (n - 1) (m - 1) (Some v) None o ∙ (k.verdicts_kept m h ∙ sym (verdict_same m es e miss)));
-      fault_kept = fault_answered es w n v fault (is_accepted v) refl at.3 k.fault_kept;
-      end_kept = k.end_kept ∙ sym (end_same es e refl);
-      few_events = (let t = length-append es (e ∷ []) in let u = k.few_events in omega (arith, t, u, one));
-      has_room = k.has_room;
-      lawful = lawful_snoc marks [] es e k.lawful ok;
-    }
+    few = k.few;
+    as_many = length-set verdicts (n - 1) (Some v) ∙ k.as_many;
+    all_put = (let t = puts_snoc es e in let u = k.all_put in omega (arith, t, u));
+    only_put = λ m h. k.only_put m (sym (any_same (claims m) es e refl) ∙ h);
+    waits = each_map (IsFree marks es) (IsFree marks (es ++ e ∷ [])) (quiet marks es e refl (λ m. refl)) waiting k.waits;
+    all_wait = λ m h. k.all_wait m (unquiet marks es e refl (λ m. refl) m h);
+    in_order = k.in_order;
+    verdicts_kept = λ m h. dite (ℕ_discrete m n)
+        (λ i. let j : m - 1 ≡ n - 1 = omega arith in get_or-set_at verdicts (n - 1) (m - 1) (Some v) None j inside ∙ sym (subst (λ z. answered_verdict z (es ++ e ∷ []) ≡ Some v) (sym i) (verdict_new w n v es [] at.3)))
+        (λ ne. let pos = at.0 in let o : (m - 1) ≢ (n - 1) = λ x. ne (omega (arith, x, pos, h)) in let miss : eqb n m ≡ false = ne_eqb n m (λ x. ne (sym x)) in get_or-set_other verdicts (n - 1) (m - 1) (Some v) None o ∙ (k.verdicts_kept m h ∙ sym (verdict_same m es e miss)));
+    fault_kept = fault_answered es w n v fault (is_accepted v) refl at.3 k.fault_kept;
+    end_kept = k.end_kept ∙ sym (end_same es e refl);
+    few_events = (let t = length-append es (e ∷ []) in let u = k.few_events in omega (arith, t, u, one));
+    has_room = k.has_room;
+    lawful = lawful_snoc marks [] es e k.lawful ok;
+  }
 
   no_end : list_any is_seal es ≡ false → end ≡ None
   no_end h = k.end_kept ∙ unsealed es h
@@ -126,20 +126,20 @@ module _ {room : ℕ} {marks : List Bool} {waiting : List ℕ} {verdicts : List 
 
   pub seal_keeps : (x : End) → Allowed marks es (Seal x) → Keeps room marks waiting verdicts fault (Some x) (es ++ Seal x ∷ [])
   seal_keeps x ok = let e = Seal x in let one : ◌≡◌ {A = ℕ} (cond (is_none end) 1 0) 1 = ap (λ x. cond (is_none x) 1 0) (no_end ok.0) in record {
-      few = k.few;
-      as_many = k.as_many;
-      all_put = (let t = puts_snoc es e in let u = k.all_put in omega (arith, t, u));
-      only_put = λ m h. k.only_put m (sym (any_same (claims m) es e refl) ∙ h);
-      waits = each_map (IsFree marks es) (IsFree marks (es ++ e ∷ [])) (quiet marks es e refl (λ m. refl)) waiting k.waits;
-      all_wait = λ m h. k.all_wait m (unquiet marks es e refl (λ m. refl) m h);
-      in_order = k.in_order;
-      verdicts_kept = λ m h. k.verdicts_kept m h ∙ sym (verdict_same m es e refl);
-      fault_kept = fault_same es e fault refl k.fault_kept;
-      end_kept = sym (end_append es (e ∷ []) ∙ ap (λ o. first_of o (Some x)) (unsealed es ok.0));
-      few_events = (let t = length-append es (e ∷ []) in let u = k.few_events in omega (arith, t, u, one));
-      has_room = k.has_room;
-      lawful = lawful_snoc marks [] es e k.lawful ok;
-    }
+    few = k.few;
+    as_many = k.as_many;
+    all_put = (let t = puts_snoc es e in let u = k.all_put in omega (arith, t, u));
+    only_put = λ m h. k.only_put m (sym (any_same (claims m) es e refl) ∙ h);
+    waits = each_map (IsFree marks es) (IsFree marks (es ++ e ∷ [])) (quiet marks es e refl (λ m. refl)) waiting k.waits;
+    all_wait = λ m h. k.all_wait m (unquiet marks es e refl (λ m. refl) m h);
+    in_order = k.in_order;
+    verdicts_kept = λ m h. k.verdicts_kept m h ∙ sym (verdict_same m es e refl);
+    fault_kept = fault_same es e fault refl k.fault_kept;
+    end_kept = sym (end_append es (e ∷ []) ∙ ap (λ o. first_of o (Some x)) (unsealed es ok.0));
+    few_events = (let t = length-append es (e ∷ []) in let u = k.few_events in omega (arith, t, u, one));
+    has_room = k.has_room;
+    lawful = lawful_snoc marks [] es e k.lawful ok;
+  }
 
   pub roomier : (room' : ℕ) → room ≤ room' → Keeps room' marks waiting verdicts fault end es
   roomier room' more = let h = k.has_room in record {
@@ -179,23 +179,23 @@ module _ {room : ℕ} {marks : List Bool} {verdicts : List (Option Verdict)} {fa
 
     pub claim_keeps : (w : ℕ) → Allowed marks es (Claim w n) → Keeps room marks ns verdicts fault end (es ++ Claim w n ∷ [])
     claim_keeps w ok = let e = Claim w n in record {
-        few = k.few;
-        as_many = k.as_many;
-        all_put = (let t = puts_snoc es e in let u = k.all_put in omega (arith, t, u));
-        only_put = λ m h. ⊎_elim (k.only_put m) (λ u. let i = eqb-true n m u in let f = k.waits.0 in let a = f.0 in let b = f.1 in let c = k.all_put in (omega (arith, i, a), omega (arith, i, b, c))) (any_cases (claims m) es e h);
-        waits = each_both (IsFree marks es) (λ m. n < m) (IsFree marks (es ++ e ∷ [])) (λ m f above. let t = puts_snoc es e in let b = f.1 in (f.0, omega (arith, t, b), f.2, any_same (claims m) es e (ne_eqb n m (λ x. omega arith)) ∙ f.3)) ns k.waits.1 k.in_order.0;
-        all_wait = λ m f. let un : list_any (claims m) es ≡ false = not_before (list_any (claims m) es) (eqb n m) (sym (any_snoc (claims m) es e) ∙ f.3) in
-            let other : eqb n m ≡ false = not_after (list_any (claims m) es) (eqb n m) (sym (any_snoc (claims m) es e) ∙ f.3) in
-            let t = puts_snoc es e in let b = f.1 in
-            ⊎_elim (λ u. cc) (λ u. u) (or_left (eqb n m) (list_any (λ j. eqb j m) ns) (k.all_wait m (f.0, omega (arith, t, b), f.2, un)));
-        in_order = k.in_order.1;
-        verdicts_kept = λ m h. k.verdicts_kept m h ∙ sym (verdict_same m es e refl);
-        fault_kept = fault_same es e fault refl k.fault_kept;
-        end_kept = k.end_kept ∙ sym (end_same es e refl);
-        few_events = (let t = length-append es (e ∷ []) in let u = k.few_events in omega (arith, t, u));
-        has_room = k.has_room;
-        lawful = lawful_snoc marks [] es e k.lawful ok;
-      }
+      few = k.few;
+      as_many = k.as_many;
+      all_put = (let t = puts_snoc es e in let u = k.all_put in omega (arith, t, u));
+      only_put = λ m h. ⊎_elim (k.only_put m) (λ u. let i = eqb-true n m u in let f = k.waits.0 in let a = f.0 in let b = f.1 in let c = k.all_put in (omega (arith, i, a), omega (arith, i, b, c))) (any_cases (claims m) es e h);
+      waits = each_both (IsFree marks es) (λ m. n < m) (IsFree marks (es ++ e ∷ [])) (λ m f above. let t = puts_snoc es e in let b = f.1 in (f.0, omega (arith, t, b), f.2, any_same (claims m) es e (ne_eqb n m (λ x. omega arith)) ∙ f.3)) ns k.waits.1 k.in_order.0;
+      all_wait = λ m f. let un : list_any (claims m) es ≡ false = not_before (list_any (claims m) es) (eqb n m) (sym (any_snoc (claims m) es e) ∙ f.3) in
+          let other : eqb n m ≡ false = not_after (list_any (claims m) es) (eqb n m) (sym (any_snoc (claims m) es e) ∙ f.3) in
+          let t = puts_snoc es e in let b = f.1 in
+          ⊎_elim (λ u. cc) (λ u. u) (or_left (eqb n m) (list_any (λ j. eqb j m) ns) (k.all_wait m (f.0, omega (arith, t, b), f.2, un)));
+      in_order = k.in_order.1;
+      verdicts_kept = λ m h. k.verdicts_kept m h ∙ sym (verdict_same m es e refl);
+      fault_kept = fault_same es e fault refl k.fault_kept;
+      end_kept = k.end_kept ∙ sym (end_same es e refl);
+      few_events = (let t = length-append es (e ∷ []) in let u = k.few_events in omega (arith, t, u));
+      has_room = k.has_room;
+      lawful = lawful_snoc marks [] es e k.lawful ok;
+    }
 
 get_snoc : {X : Type 0} (xs : List X) (d : X) (i : ℕ) → get_or (xs ++ d ∷ []) i d ≡ get_or xs i d
 get_snoc [] d zero = refl

@@ -1,5 +1,5 @@
 -- What every lawful history has.
-use Rattle.std.proofs.Common.{◌≡◌, ◌⊎◌, ℕ, zero, suc, ◌+◌, ◌-◌, ◌<◌, ◌≤◌, Bool, true, false, not, ◌&&◌, ◌||◌, cond, eqb, leb, ltb, lt_of_not-le, List, [], ◌∷◌, ◌++◌, length, get_or, sym, refl, ap, ◌∙◌, subst, inl, inr, ⊎_elim, arith, append_assoc, append-nil, Option, Some, None}
+use Rattle.std.proofs.Common.{◌≡◌, ◌⊎◌, ℕ, zero, suc, ◌+◌, ◌<◌, ◌≤◌, Bool, true, false, not, ◌&&◌, ◌||◌, cond, eqb, leb, ltb, lt_of_not-le, List, [], ◌∷◌, ◌++◌, length, get_or, sym, refl, ap, ◌∙◌, subst, inl, inr, ⊎_elim, arith, append_assoc, append-nil, Some}
 use Rattle.std.specs.Prelude.{count_by, Contains}
 use Rattle.std.specs.List.{list_any}
 use Rattle.std.proofs.lemmas.Bool.{eqb-true, leb-true, ltb-true, lt-ltb, le-leb}
@@ -80,6 +80,7 @@ claimers marks n before (e ∷ es) one a u w p q = claimers marks n (before ++ e
   where
     fresh : (u : ℕ) → claims_by u n e ≡ true → (w : ℕ) → list_any (claims_by w n) before ≡ true → ⊥
     fresh u p w q = let new = claim_new marks n before e a.0 (ap (claims n) (claims_by-shape u n e p) ∙ same_number n) in let old = claimed_by w n before q in cc
+
     next : (u w : ℕ) → list_any (claims_by u n) (before ++ e ∷ []) ≡ true → list_any (claims_by w n) (before ++ e ∷ []) ≡ true → u ≡ w
     next u w p q = ⊎_elim (λ x. ⊎_elim (λ y. one u w x y) (λ y. absurd (fresh w y u x)) (or_left _ _ (sym (any_snoc (claims_by w n) before e) ∙ q)))
         (λ x. ⊎_elim (λ y. absurd (fresh u x w y)) (λ y. let i = claims_by-shape u n e x in let j = claims_by-shape w n e y in let k = sym i ∙ j in cc) (or_left _ _ (sym (any_snoc (claims_by w n) before e) ∙ q)))
@@ -115,6 +116,7 @@ count_from marks p new before (e ∷ es) l a = go (p e) refl (list_any p before)
   where
     cons : count_by p (e ∷ es) ≡ cond (p e) 1 0 + count_by p es
     cons = let t = sum_by-append (λ x. cond (p x) 1 0) (e ∷ []) es in omega (arith, t)
+
     go : (b : Bool) → p e ≡ b → (d : Bool) → list_any p before ≡ d → count_by p es ≤ cond (list_any p (before ++ e ∷ [])) 0 1 → count_by p (e ∷ es) ≤ cond d 0 1
     go true q d r rec = let n = new before e l a.0 q in let r' : count_by p es ≤ 0 = subst (λ x. count_by p es ≤ cond x 0 1) (any_snoc p before e ∙ (λ i. n i || q i)) rec in
         let c : cond (p e) 1 0 ≡ suc zero = ap (λ x. cond x 1 0) q in subst (λ x. count_by p (e ∷ es) ≤ cond x 0 1) (sym n ∙ r) (omega (arith, cons, c, r'))
@@ -194,11 +196,12 @@ not_is false h = refl
 test_free : (marks : List Bool) (es : List Event) (n : ℕ) → free_test marks es n ≡ true → IsFree marks es n
 unfolding free_test
 test_free marks es n h = let r = and_right (ltb 0 n) (leb n (puts es) && (not (is_settled marks n) && not (list_any (claims n) es))) h in
-    let s = and_right (leb n (puts es)) (not (is_settled marks n) && not (list_any (claims n) es)) r in
-    (ltb-true 0 n (and_left (ltb 0 n) (leb n (puts es) && (not (is_settled marks n) && not (list_any (claims n) es))) h),
+    let s = and_right (leb n (puts es)) (not (is_settled marks n) && not (list_any (claims n) es)) r in (
+      ltb-true 0 n (and_left (ltb 0 n) (leb n (puts es) && (not (is_settled marks n) && not (list_any (claims n) es))) h),
       leb-true n (puts es) (and_left (leb n (puts es)) (not (is_settled marks n) && not (list_any (claims n) es)) r),
       not_is (is_settled marks n) (and_left (not (is_settled marks n)) (not (list_any (claims n) es)) s),
-      not_is (list_any (claims n) es) (and_right (not (is_settled marks n)) (not (list_any (claims n) es)) s))
+      not_is (list_any (claims n) es) (and_right (not (is_settled marks n)) (not (list_any (claims n) es)) s),
+    )
 
 free_tests : (marks : List Bool) (es : List Event) (n : ℕ) → IsFree marks es n → free_test marks es n ≡ true
 unfolding free_test
@@ -208,9 +211,9 @@ free_tests marks es n f = let a = f.0 in let b = f.1 in both (ltb 0 n) (leb n (p
 -- a sealed history with nothing held and nothing claimable is finished
 pub finished : (marks : List Bool) (es : List Event) → IsLawful marks es → list_any is_seal es ≡ true → ((w : ℕ) → HoldsNone w es) → ((n : ℕ) → ¬ IsClaimable marks es n) → IsFinished marks es
 finished marks es a sealed none drained = record {
-    sealed = sealed;
-    answered = λ n pos put unsettled below. go n below pos put unsettled (list_any (claims n) es) refl;
-  }
+  sealed = sealed;
+  answered = λ n pos put unsettled below. go n below pos put unsettled (list_any (claims n) es) refl;
+}
   where
     go : (n : ℕ) → IsBelowFaults es n → 0 < n → n ≤ puts es → is_settled marks n ≡ false → (b : Bool) → list_any (claims n) es ≡ b → list_any (answers n) es ≡ true
     go n below pos put unsettled true h = let r = claimer n es h in answered_by r.0 n es (none r.0 n r.1)

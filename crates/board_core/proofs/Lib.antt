@@ -3,3 +3,4 @@ pub mod Lawful
 pub mod Keeping
 pub mod Holding
 pub mod Replaying
+pub mod Reading

@@ -1,18 +1,17 @@
 -- A lawful history, event by event, over the jobs put so far.
-use Rattle.std.proofs.Common.{◌≡◌, ◌⊎◌, ℕ, zero, suc, ◌+◌, ◌-◌, ◌*◌, ◌^◌, ◌<◌, ◌≤◌, Bool, true, false, cond, List, [], ◌∷◌, ◌++◌, length, map, take, drop, get_or, min, sym, refl, ap, ◌∙◌, subst, arith, inl, inr, append_assoc, append-nil, add-zero, Option, Some, None}
+use Rattle.std.proofs.Common.{◌≡◌, ℕ, zero, suc, ◌+◌, ◌-◌, ◌<◌, ◌≤◌, Bool, false, cond, List, [], ◌∷◌, ◌++◌, length, take, drop, get_or, sym, refl, ap, ◌∙◌, subst, arith, add-zero, Some}
 use Rattle.std.specs.Prelude.{slice_get}
 use Rattle.std.specs.List.{list_any}
-use Rattle.std.proofs.lemmas.List.{map-append, take_more, get_or-take, take-map, take-append-drop, length-take-le}
+use Rattle.std.proofs.lemmas.List.{take_more, get_or-take, take-map, take-append-drop, length-take-le}
 use Rattle.std.proofs.Math.Seq.{take-length}
 use Rattle.std.proofs.lemmas.List.Sums.{sum_by-append}
 use Rattle.board_core.specs.declared.event.Event.{Event}
 use Rattle.board_core.specs.declared.event.Event.TheVariants.{Put, Claim, Answer, Seal}
 use Rattle.board_core.specs.Events.{is_put, is_seal, is_fault, puts, is_settled}
-use Rattle.board_core.specs.Machine.{IsFree, IsClaimable, HoldsNone, Allowed, IsLawful, marks_of}
+use Rattle.board_core.specs.Machine.{IsFree, Allowed, IsLawful, marks_of}
 use Rattle.board_core.specs.Shown.{Shown, added, put_on, part_of}
 use Rattle.board_core.proofs.Histories.{puts_snoc}
 use Rattle.board_core.proofs.Lawful.{allowed_at, lawful_before}
-use Rattle.board_core.proofs.Holding.{count_marks}
 
 settled_within : (marks : List Bool) (p n : ℕ) → 0 < n → n ≤ p → is_settled (take p marks) n ≡ is_settled marks n
 settled_within marks p n a b = get_or-take p marks (n - 1) false (omega arith)
@@ -79,3 +78,21 @@ lawful_next marks es i d h a = subst (IsLawful marks) (take_more es i d h) (lawf
 
 pub puts_next : (es : List Event) (i : ℕ) (d : Event) → i < length es → puts (take i es ++ get_or es i d ∷ []) ≤ puts es
 puts_next es i d h = let t = puts_part (take (i + 1) es) (drop (i + 1) es) in let u = ap puts (take-append-drop (i + 1) es) in let v = ap puts (take_more es i d h) in omega (arith, t, u, v)
+
+-- the book so far, told by its own events
+pub part_own : {J : Type 0} (jobs : List (J × Bool)) (b : Shown J) (es : List Event) → b ≡ part_of jobs es → b ≡ part_of jobs b.events
+part_own jobs b es h = h ∙ ap (part_of jobs) (sym (ap (λ c. c.events) h))
+
+pub next_lawful : {J : Type 0} (jobs : List (J × Bool)) (b : Shown J) (marks : List Bool) (all es : List Event) (i : ℕ) (d : Event) → b ≡ part_of jobs (take i es) → es ≡ all → i < length es → IsLawful marks all
+    → IsLawful marks (b.events ++ get_or es i d ∷ [])
+next_lawful jobs b marks all es i d h e within a = subst (λ l. IsLawful marks (l ++ get_or es i d ∷ [])) (sym (ap (λ c. c.events) h)) (lawful_next marks es i d within (subst (IsLawful marks) (sym e) a))
+
+pub next_within : {J : Type 0} (jobs : List (J × Bool)) (b : Shown J) (all es : List Event) (i : ℕ) (d : Event) → b ≡ part_of jobs (take i es) → es ≡ all → i < length es → puts all ≡ length jobs
+    → puts (b.events ++ get_or es i d ∷ []) ≤ length jobs
+next_within jobs b all es i d h e within count = let t = puts_next es i d within in let u = ap puts e in let v = ap (λ c. puts (c.events ++ get_or es i d ∷ [])) h in omega (arith, t, u, v, count)
+
+pub part_step : {J : Type 0} (jobs : List (J × Bool)) (b c : Shown J) (es : List Event) (i : ℕ) (d : Event) → b ≡ part_of jobs (take i es) → i < length es → c ≡ part_of jobs (b.events ++ get_or es i d ∷ []) → c ≡ part_of jobs (take (i + 1) es)
+part_step jobs b c es i d h within e = e ∙ ap (part_of jobs) (ap (λ x. x.events ++ get_or es i d ∷ []) h ∙ sym (take_more es i d within))
+
+pub part_end : {J : Type 0} (all b : Shown J) (es : List Event) (i : ℕ) → b ≡ part_of all.jobs (take i es) → es ≡ all.events → i ≡ length es → puts all.events ≡ length all.jobs → b ≡ all
+part_end all b es i h e last count = h ∙ (ap (part_of all.jobs) (ap (λ n. take n es) last ∙ (take-length es ∙ e)) ∙ part_all all count)

@@ -1,6 +1,6 @@
 -- The board machine: which event may come after a list of events, at a list of jobs, of which each was put as
 -- settled or not (docs/board.md).
-use Rattle.std.specs.Prelude.{◌≡◌, ◌⊎◌, ℕ, ◌+◌, ◌-◌, ◌<◌, ◌≤◌, Bool, true, false, List, [], ◌∷◌, ◌++◌, map, All, slice_get, Option, Some, None}
+use Rattle.std.specs.Prelude.{◌≡◌, ◌⊎◌, ℕ, ◌+◌, ◌-◌, ◌<◌, ◌≤◌, Bool, true, false, List, [], ◌∷◌, ◌++◌, map, All, slice_get, Some}
 use Rattle.std.specs.List.{list_any}
 use Rattle.dk_model.specs.declared.code.Verdict.{Verdict}
 use Rattle.dk_model.specs.declared.code.Verdict.TheVariants.{Accepted, Memory}
@@ -78,5 +78,5 @@ pub record IsLegal {J : Type 0} (due : J → Verdict) (early : J → Bool) (jobs
 pub record IsFinished (marks : List Bool) (es : List Event) : Type 0 where
   pub sealed : list_any is_seal es ≡ true
   pub answered :
-    (n : ℕ) → 0 < n → n ≤ puts es → is_settled marks n ≡ false → IsBelowFaults es n
-    → list_any (answers n) es ≡ true
+      (n : ℕ) → 0 < n → n ≤ puts es → is_settled marks n ≡ false → IsBelowFaults es n
+      → list_any (answers n) es ≡ true

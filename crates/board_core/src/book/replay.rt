@@ -67,10 +67,12 @@ impl<J: Drop> Book<J> {
         ensures { book.new ≡ part_of self.now.jobs (book.old.events ++ Event.Claim worker number ∷ []) }
     {
         match book.claim(worker) {
-            Claimed::Task(Task {
-                number: _same,
-                job: _share,
-            }) => {}
+            Claimed::Task(
+                Task {
+                    number: _same,
+                    job: _share,
+                },
+            ) => {}
             Claimed::Empty => unreachable!(),
             Claimed::Over => unreachable!(),
         }

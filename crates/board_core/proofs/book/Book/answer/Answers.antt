@@ -1,4 +1,4 @@
-use Rattle.std.proofs.Common.{rules, arith, ◌<◌, ◌≤◌, ◌-◌, length, sym, subst}
+use Rattle.std.proofs.Common.{rules, arith, sym, subst}
 use Rattle.board_core.specs.Machine.{Allowed, marks_of}
 use Rattle.board_core.specs.declared.event.Event.TheVariants.{Answer}
 use Rattle.board_core.proofs.Keeping.{at_verdict, answer_keeps, answer_room}

@@ -1,4 +1,4 @@
-use Rattle.std.proofs.Common.{rules, refl, arith, ◌≡◌, ◌<◌, ◌≤◌, ◌-◌, ◌+◌, ◌++◌, ◌∷◌, [], ℕ, false, length, sym, subst}
+use Rattle.std.proofs.Common.{refl, sym, subst}
 use Rattle.std.specs.Arc.{arc_value}
 use Rattle.board_core.specs.Machine.{HoldsNone}
 use Rattle.board_core.specs.Kept.{jobs_in, waiters_in}

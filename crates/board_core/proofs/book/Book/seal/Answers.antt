@@ -1,4 +1,4 @@
-use Rattle.std.proofs.Common.{rules, arith, ◌<◌, ◌≤◌, ◌-◌, length, sym, subst}
+use Rattle.std.proofs.Common.{rules, sym, subst}
 use Rattle.board_core.specs.Machine.{Allowed, marks_of}
 use Rattle.board_core.specs.declared.event.Event.TheVariants.{Seal}
 use Rattle.board_core.proofs.Keeping.{seal_keeps, seal_room}
