@@ -9,7 +9,7 @@ use Rattle.board_core.specs.declared.event.Event.{Event}
 use Rattle.board_core.specs.declared.event.Event.TheVariants.{Put, Claim}
 use Rattle.board_core.specs.Events.{is_seal, is_fault, end_of}
 use Rattle.board_core.specs.Machine.{HoldsNone, Allowed, marks_of}
-use Rattle.board_core.specs.Shown.{Shown, ClaimReply, IsDrained}
+use Rattle.board_core.specs.Shown.{HoldsGiven, Shown, ClaimReply, IsDrained}
 use Rattle.board_core.specs.Kept.{Keeps, IsFaultOf, Each, HasShare, numbers}
 use Rattle.board_core.specs.Parts.{reaches, Blocked, idle_reply, newcomers, share_due}
 use Rattle.board_core.proofs.Histories.{sealed, open_end}
@@ -68,3 +68,8 @@ idle_replies b w None (Some f) s h none = (refl, none, inr h.1)
 pub idles : {J : Type 0} (b : Shown J) {room : ℕ} {waiting : List ℕ} {verdicts : List (Option Verdict)} {fault : Option (ℕ × Verdict)} {end : Option End} (w : ℕ)
     → Keeps room (marks_of b.jobs) waiting verdicts fault end b.events → Blocked fault waiting → ClaimReply b w (idle_reply end fault) b
 idles b {waiting = waiting} {fault = fault} {end = end} w k blocked = idle_replies b w end fault k.end_kept k.fault_kept (drained waiting k blocked)
+
+pub idle_holds : (J : Type 0) (w : ℕ) (end : Option End) (fault : Option (ℕ × Verdict)) (es : List Event) → HoldsNone w es → HoldsGiven {J = J} w (idle_reply end fault) es
+idle_holds J w (Some x) f es h = h
+idle_holds J w None None es h = h
+idle_holds J w None (Some f) es h = h

@@ -1,5 +1,5 @@
 -- What every lawful history has.
-use Rattle.std.proofs.Common.{◌≡◌, ◌⊎◌, ℕ, zero, suc, ◌+◌, ◌<◌, ◌≤◌, Bool, true, false, not, ◌&&◌, ◌||◌, cond, eqb, leb, ltb, lt_of_not-le, List, [], ◌∷◌, ◌++◌, length, get_or, sym, refl, ap, ◌∙◌, subst, inl, inr, ⊎_elim, arith, append_assoc, append-nil, Some}
+use Rattle.std.proofs.Common.{eq-eqb, ◌≡◌, ◌⊎◌, ℕ, zero, suc, ◌+◌, ◌<◌, ◌≤◌, Bool, true, false, not, ◌&&◌, ◌||◌, cond, eqb, leb, ltb, lt_of_not-le, List, [], ◌∷◌, ◌++◌, length, get_or, sym, refl, ap, ◌∙◌, subst, inl, inr, ⊎_elim, arith, append_assoc, append-nil, Some}
 use Rattle.std.specs.Prelude.{count_by, Contains}
 use Rattle.std.specs.List.{list_any}
 use Rattle.std.proofs.lemmas.Bool.{eqb-true, leb-true, ltb-true, lt-ltb, le-leb}
@@ -11,8 +11,8 @@ use Rattle.dk_model.specs.declared.code.Verdict.TheVariants.{Accepted}
 use Rattle.board_core.specs.declared.event.Event.{Event}
 use Rattle.board_core.specs.declared.event.Event.TheVariants.{Put, Claim, Answer, Seal}
 use Rattle.board_core.specs.Events.{claims, claims_by, answers, answers_by, is_seal, puts, is_settled, answered_verdict, verdict_at}
-use Rattle.board_core.specs.Machine.{IsFree, IsBelowFaults, IsClaimable, HoldsNone, Allowed, AllowedFrom, IsLawful, IsFinished}
-use Rattle.board_core.proofs.Histories.{or_left, kept_or, or_right, and_left, and_right, both, not_true, same_number, any_snoc, any_kept, any_weaker, found, claimed_by, claimer, unanswered, verdict_new}
+use Rattle.board_core.specs.Machine.{Holds, IsFree, IsBelowFaults, IsClaimable, HoldsNone, Allowed, AllowedFrom, IsLawful, IsFinished}
+use Rattle.board_core.proofs.Histories.{not_before, any_same, any_hit, or_left, kept_or, or_right, and_left, and_right, both, not_true, same_number, any_snoc, any_kept, any_weaker, found, claimed_by, claimer, unanswered, verdict_new}
 
 pub lawful_snoc : (marks : List Bool) (before es : List Event) (e : Event) → AllowedFrom marks before es → Allowed marks (before ++ es) e → AllowedFrom marks before (es ++ e ∷ [])
 lawful_snoc marks before [] e a ok = (rw append-nil at ok, tt)
@@ -105,6 +105,46 @@ not_answered marks es a w n mine unanswered_by = not_true (list_any (answers n) 
 answer_new : (marks : List Bool) (n : ℕ) (before : List Event) (e : Event) → IsLawful marks before → Allowed marks before e → answers n e ≡ true → list_any (answers n) before ≡ false
 answer_new marks n before e a ok h = let s = answers_shape n e h in let t = subst (Allowed marks before) s.2 ok in not_answered marks before a s.0 n t.0 t.1
 
+-- a task that is held after an event was held before it, or is claimed by it
+held_before : (w n : ℕ) (es : List Event) (e : Event) → Holds w n (es ++ e ∷ []) → Holds w n es ⊎ (claims_by w n e ≡ true)
+held_before w n es e h = ⊎_elim (λ t. inl (t, not_before (list_any (answers_by w n) es) (answers_by w n e) (sym (any_snoc (answers_by w n) es e) ∙ h.1))) (λ t. inr t)
+    (or_left (list_any (claims_by w n) es) (claims_by w n e) (sym (any_snoc (claims_by w n) es e) ∙ h.0))
+
+-- a worker that holds nothing, holds after its claim what it claimed
+claimed_only : (marks : List Bool) (w n m : ℕ) (es : List Event) (e : Event) → Allowed marks es e → claims_by w n e ≡ true → Holds w m (es ++ e ∷ []) → n ≡ m
+claimed_only marks w n m es e ok p h = let is = claims_by-shape w n e p in let none = (subst (Allowed marks es) is ok).0 in
+    ⊎_elim (λ t. let done = none m t.0 in let held = t.1 in cc) (λ t. let j = claims_by-shape w m e t in let k = sym is ∙ j in cc) (held_before w m es e h)
+
+tasks : (marks : List Bool) (w : ℕ) (before es : List Event) → ((n m : ℕ) → Holds w n before → Holds w m before → n ≡ m) → AllowedFrom marks before es → (n m : ℕ) → Holds w n (before ++ es) → Holds w m (before ++ es) → n ≡ m
+tasks marks w before [] one a n m p q = one n m (rw append-nil at p) (rw append-nil at q)
+tasks marks w before (e ∷ es) one a n m p q = tasks marks w (before ++ e ∷ []) es next a.1 n m (subst (Holds w n) (sym (append_assoc before (e ∷ []) es)) p) (subst (Holds w m) (sym (append_assoc before (e ∷ []) es)) q)
+  where
+    next : (n m : ℕ) → Holds w n (before ++ e ∷ []) → Holds w m (before ++ e ∷ []) → n ≡ m
+    next n m p q = ⊎_elim (λ x. ⊎_elim (λ y. one n m x y) (λ y. sym (claimed_only marks w m n before e a.0 y p)) (held_before w m before e q)) (λ x. claimed_only marks w n m before e a.0 x q) (held_before w n before e p)
+
+-- a worker holds at most one task
+pub one_task : (marks : List Bool) (es : List Event) → IsLawful marks es → (w n m : ℕ) → Holds w n es → Holds w m es → n ≡ m
+one_task marks es a w n m p q = tasks marks w [] es (λ n m p q. (let no = p.0 in cc)) a n m p q
+
+-- it holds none once it has answered that one
+pub idle_after : (marks : List Bool) (es : List Event) → IsLawful marks es → (w n : ℕ) (v : Verdict) → Holds w n es → HoldsNone w (es ++ Answer w n v ∷ [])
+idle_after marks es a w n v h m t = go (list_any (answers_by w m) es) refl
+  where
+    claimed : list_any (claims_by w m) es ≡ true
+    claimed = sym (any_same (claims_by w m) es (Answer w n v) refl) ∙ t
+    go : (b : Bool) → list_any (answers_by w m) es ≡ b → list_any (answers_by w m) (es ++ Answer w n v ∷ []) ≡ true
+    go true e = any_kept (answers_by w m) es (Answer w n v ∷ []) e
+    go false e = let same = one_task marks es a w n m h (claimed, e) in any_hit (answers_by w m) es (Answer w n v) (both (eqb w w) (eqb n m) (same_number w) (eq-eqb n m same))
+
+-- after its claim it holds that task
+pub holds_after : (marks : List Bool) (es : List Event) → IsLawful marks es → (w n : ℕ) → Allowed marks es (Claim w n) → Holds w n (es ++ Claim w n ∷ [])
+holds_after marks es a w n ok = (any_hit (claims_by w n) es (Claim w n) (both (eqb w w) (eqb n n) (same_number w) (same_number n)),
+    any_same (answers_by w n) es (Claim w n) refl ∙ not_true (list_any (answers_by w n) es) (λ t. let claimed = claimed_by w n es (answered_claimed marks es a w n t) in let new = ok.1.0.3 in cc))
+
+-- neither a put nor a seal gives a worker a task
+pub still_none : (w : ℕ) (es : List Event) (e : Event) → HoldsNone w es → ((n : ℕ) → claims_by w n e ≡ false) → HoldsNone w (es ++ e ∷ [])
+still_none w es e h other n t = any_kept (answers_by w n) es (e ∷ []) (h n (sym (any_same (claims_by w n) es e (other n)) ∙ t))
+
 -- events of a kind that comes only where none has come
 count_from : (marks : List Bool) (p : Event → Bool) → ((before : List Event) (e : Event) → IsLawful marks before → Allowed marks before e → p e ≡ true → list_any p before ≡ false)
     → (before es : List Event) → IsLawful marks before → AllowedFrom marks before es → count_by p es ≤ cond (list_any p before) 0 1
@@ -156,7 +196,7 @@ settled_free marks es a n h = not_true (list_any (claims n) es) (λ t. let u = c
 contains_more : (x : Event) (es : List Event) (e : Event) → Contains es e → Contains (x ∷ es) e
 contains_more x es e c = (suc c.0, (let h = c.1 in omega arith), c.2)
 
-answer_from : (n : ℕ) (v : Verdict) (es : List Event) → answered_verdict n es ≡ Some v → (w : ℕ) × Contains es (Answer w n v)
+pub answer_from : (n : ℕ) (v : Verdict) (es : List Event) → answered_verdict n es ≡ Some v → (w : ℕ) × Contains es (Answer w n v)
 answer_from n v [] h = cc
 answer_from n v ((Put k) ∷ es) h = let r = answer_from n v es h in (r.0, contains_more (Put k) es (Answer r.0 n v) r.1)
 answer_from n v ((Claim w k) ∷ es) h = let r = answer_from n v es h in (r.0, contains_more (Claim w k) es (Answer r.0 n v) r.1)

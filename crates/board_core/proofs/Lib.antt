@@ -4,3 +4,4 @@ pub mod Keeping
 pub mod Holding
 pub mod Replaying
 pub mod Reading
+pub mod Legal

@@ -25,6 +25,10 @@ abbrev pub IsClaimable : List Bool → List Event → ℕ → Type 0
 IsClaimable marks before n =
     IsFree marks before n × ((m : ℕ) → IsFree marks before m → n ≤ m) × IsBelowFaults before n
 
+-- the worker w has claimed the number n and hasn't answered it
+abbrev pub Holds : ℕ → ℕ → List Event → Type 0
+Holds w n before = (list_any (claims_by w n) before ≡ true) × (list_any (answers_by w n) before ≡ false)
+
 -- the worker w has answered all that it has claimed
 abbrev pub HoldsNone : ℕ → List Event → Type 0
 HoldsNone w before =
@@ -40,8 +44,7 @@ abbrev pub Allowed : List Bool → List Event → Event → Type 0
 Allowed marks before (Put n) =
     (n ≡ puts before + 1) × (list_any is_seal before ≡ false) × (list_any is_fault before ≡ false)
 Allowed marks before (Claim w n) = HoldsNone w before × IsClaimable marks before n
-Allowed marks before (Answer w n v) =
-    (list_any (claims_by w n) before ≡ true) × (list_any (answers_by w n) before ≡ false)
+Allowed marks before (Answer w n v) = Holds w n before
 Allowed marks before (Seal e) = (list_any is_seal before ≡ false) × MayEnd before e
 
 -- each of the last events may come after those before it

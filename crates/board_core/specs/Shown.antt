@@ -9,7 +9,7 @@ use Rattle.board_core.specs.declared.task.PutRefused.TheVariants.{Stopped, NoMem
 use Rattle.board_core.specs.declared.task.Claimed.{Claimed}
 use Rattle.board_core.specs.declared.task.Claimed.TheVariants.{Task, Empty, Over}
 use Rattle.board_core.specs.Events.{is_seal, is_fault, puts, IsFirstFault}
-use Rattle.board_core.specs.Machine.{IsClaimable, Allowed, marks_of}
+use Rattle.board_core.specs.Machine.{Holds, HoldsNone, IsClaimable, Allowed, marks_of}
 
 -- the jobs in the order in which they were put, each settled or not, and all that happened
 pub record Shown (J : Type 0) : Type 0 where
@@ -45,6 +45,11 @@ ClaimReply b w Empty c =
 ClaimReply b w Over c =
     (c ≡ b) × IsDrained b
     × ((list_any is_seal b.events ≡ true) ⊎ (list_any is_fault b.events ≡ true))
+
+-- a worker that was given a task holds it
+abbrev pub HoldsGiven : {J : Type 0} → ℕ → Claimed J → List Event → Type 0
+HoldsGiven w (Task t) es = Holds w t.number es
+HoldsGiven w _ es = HoldsNone w es
 
 -- why a job is refused after these events, with the job that comes back
 abbrev pub IsRefusal : {J : Type 0} → List Event → J → PutRefused J → Type 0

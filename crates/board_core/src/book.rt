@@ -5,7 +5,7 @@ ghost use Rattle.std.specs.Arc.{arc_value};
 ghost use Rattle.board_core.specs.declared.event.Event.{Event};
 ghost use Rattle.board_core.specs.Events.{is_seal, is_fault, puts, end_of, verdict_at, is_settled, IsFirstFault};
 ghost use Rattle.board_core.specs.Machine.{Allowed, HoldsNone, IsLawful, marks_of};
-ghost use Rattle.board_core.specs.Shown.{added, put_on, ClaimReply, IsRefusal};
+ghost use Rattle.board_core.specs.Shown.{added, put_on, ClaimReply, HoldsGiven, IsRefusal};
 
 mod replay;
 
@@ -182,7 +182,8 @@ impl<J: Drop> Book<J> {
     /// memory, and the same time however many jobs there are.
     pub fn claim(&mut self, worker: u32) -> Claimed<J>
         requires { HoldsNone worker self.old.events }
-        ensures { ClaimReply self.old worker result self.new }
+        ensures reply { ClaimReply self.old worker result self.new }
+        ensures holds { HoldsGiven worker result self.new.events }
     {
         let Some(task) = take_below(&mut self.waiting, self.fault) else {
             return idle(self.end, self.fault);
@@ -195,7 +196,8 @@ impl<J: Drop> Book<J> {
     /// Keeps the verdict of a job that this worker has claimed. Takes no memory.
     pub fn answer(&mut self, worker: u32, number: u32, verdict: Verdict)
         requires { Allowed (marks_of self.old.jobs) self.old.events (Event.Answer worker number verdict) }
-        ensures { self.new ≡ added self.old (Event.Answer worker number verdict) }
+        ensures added { self.new ≡ added self.old (Event.Answer worker number verdict) }
+        ensures idle { HoldsNone worker self.new.events }
     {
         let _opened = &self.history;
         let at = number as usize - 1;

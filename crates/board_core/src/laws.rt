@@ -5,7 +5,9 @@ ghost use Rattle.std.specs.List.{list_any};
 ghost use Rattle.dk_model.specs.declared.code.Verdict.{Verdict};
 ghost use Rattle.board_core.specs.declared.event.Event.{Event};
 ghost use Rattle.board_core.specs.Events.{claims, claims_by, answers, answers_by, is_seal, is_settled, verdict_at};
-ghost use Rattle.board_core.specs.Machine.{HoldsNone, IsClaimable, IsFinished, IsLawful};
+ghost use Rattle.board_core.specs.Machine.{Holds, HoldsNone, IsClaimable, IsDue, IsFinished, IsLawful, IsLegal, marks_of};
+
+use crate::checker::Checker;
 
 /// Each number is claimed at most once.
 pub fn claimed_once()
@@ -50,4 +52,14 @@ pub fn lawful_prefix()
 /// A sealed history is finished once no worker holds a task and nothing can be claimed.
 pub fn finished_when_drained()
     ensures { (marks : List Bool) (events : List Event) → IsLawful marks events → list_any is_seal events ≡ true → ((w : ℕ) → HoldsNone w events) → ((n : ℕ) → ¬ IsClaimable marks events n) → IsFinished marks events }
+{}
+
+/// A worker holds at most one task.
+pub fn one_task_each()
+    ensures { (marks : List Bool) (events : List Event) → IsLawful marks events → (w n m : ℕ) → Holds w n events → Holds w m events → n ≡ m }
+{}
+
+/// In a legal history the verdict that stands for a job is the one that it is due, or `Memory`.
+pub fn verdict_due<C: Checker>()
+    ensures { (jobs : List (C.Job × Bool)) (events : List Event) → IsLegal C.due C.early jobs events → (n : ℕ) (v : Verdict) → 0 < n → verdict_at (marks_of jobs) events n ≡ Some v → IsDue C.due jobs (Event.Answer 0 n v) }
 {}

@@ -18,7 +18,8 @@ pub use checker::{Checker, Gate};
 pub use event::{End, Event};
 pub use laws::{
     answered_by_claimer, answered_once, claimed_by_one, claimed_once, finished_when_drained,
-    lawful_prefix, settled_unclaimed, verdict_answered, verdict_from_answer,
+    lawful_prefix, one_task_each, settled_unclaimed, verdict_answered, verdict_due,
+    verdict_from_answer,
 };
 pub use task::{Claimed, PutRefused, Task};
 pub use titled::Titled;

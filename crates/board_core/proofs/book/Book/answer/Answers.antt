@@ -1,6 +1,7 @@
 use Rattle.std.proofs.Common.{rules, arith, sym, subst}
 use Rattle.board_core.specs.Machine.{Allowed, marks_of}
 use Rattle.board_core.specs.declared.event.Event.TheVariants.{Answer}
+use Rattle.board_core.proofs.Lawful.{idle_after}
 use Rattle.board_core.proofs.Keeping.{at_verdict, answer_keeps, answer_room}
 use Rattle.board_core.proofs.book.Book.answer.Goals as goal
 
@@ -22,3 +23,7 @@ invariant_of-self g c = let ok = subst (λ b. Allowed (marks_of b.jobs) b.events
       keeps = rw (c.push_reserved.ensures.items, c.push_reserved.ensures.capacity, c.fault_after-self-inside.ensures) (answer_keeps c.self.invariant.keeps _ _ _ ok);
       shares = c.self.invariant.shares;
     }
+
+pub returns-clause-idle : goal.returns-clause-idle
+returns-clause-idle g c = let ok = subst (λ b. Allowed (marks_of b.jobs) b.events (Answer c.args.worker c.args.number c.args.verdict)) (sym c.self.view_is) c.requires in
+    rw c.push_reserved.ensures.items (idle_after _ _ c.self.invariant.keeps.lawful c.args.worker c.args.number c.args.verdict ok)
