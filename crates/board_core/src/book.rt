@@ -8,6 +8,8 @@ ghost use Rattle.board_core.specs.Machine.{Allowed, HoldsNone, IsLawful, marks_o
 ghost use Rattle.board_core.specs.Shown.{added, put_on, ClaimReply, HoldsGiven, IsRefusal};
 
 mod replay;
+#[cfg(test)]
+mod tests;
 
 use crate::event::{End, Event};
 use crate::steps::{fault_after, idle, let_wait, make_room, share_of, take_below};
