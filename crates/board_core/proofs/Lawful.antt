@@ -132,14 +132,17 @@ idle_after marks es a w n v h m t = go (list_any (answers_by w m) es) refl
   where
     claimed : list_any (claims_by w m) es ≡ true
     claimed = sym (any_same (claims_by w m) es (Answer w n v) refl) ∙ t
+
     go : (b : Bool) → list_any (answers_by w m) es ≡ b → list_any (answers_by w m) (es ++ Answer w n v ∷ []) ≡ true
     go true e = any_kept (answers_by w m) es (Answer w n v ∷ []) e
     go false e = let same = one_task marks es a w n m h (claimed, e) in any_hit (answers_by w m) es (Answer w n v) (both (eqb w w) (eqb n m) (same_number w) (eq-eqb n m same))
 
 -- after its claim it holds that task
 pub holds_after : (marks : List Bool) (es : List Event) → IsLawful marks es → (w n : ℕ) → Allowed marks es (Claim w n) → Holds w n (es ++ Claim w n ∷ [])
-holds_after marks es a w n ok = (any_hit (claims_by w n) es (Claim w n) (both (eqb w w) (eqb n n) (same_number w) (same_number n)),
-    any_same (answers_by w n) es (Claim w n) refl ∙ not_true (list_any (answers_by w n) es) (λ t. let claimed = claimed_by w n es (answered_claimed marks es a w n t) in let new = ok.1.0.3 in cc))
+holds_after marks es a w n ok = (
+  any_hit (claims_by w n) es (Claim w n) (both (eqb w w) (eqb n n) (same_number w) (same_number n)),
+  any_same (answers_by w n) es (Claim w n) refl ∙ not_true (list_any (answers_by w n) es) (λ t. let claimed = claimed_by w n es (answered_claimed marks es a w n t) in let new = ok.1.0.3 in cc),
+)
 
 -- neither a put nor a seal gives a worker a task
 pub still_none : (w : ℕ) (es : List Event) (e : Event) → HoldsNone w es → ((n : ℕ) → claims_by w n e ≡ false) → HoldsNone w (es ++ e ∷ [])

@@ -66,6 +66,24 @@ fn two_jobs<R: Abort>(rt: &R, alloc: Global) -> Book<u32>
     book
 }
 
+// The worker must be given this number and job.
+fn must_claim<R: Abort>(rt: &R, book: &mut Book<u32>, worker: u32, want: u32, want_job: u32)
+    requires { HoldsNone worker book.old.events }
+    ensures holds { Holds worker want book.new.events }
+    ensures others { (u n : ℕ) → u ≢ worker → Holds u n book.old.events → Holds u n book.new.events }
+    ensures idle { (u : ℕ) → u ≢ worker → HoldsNone u book.old.events → HoldsNone u book.new.events }
+    ensures jobs { book.new.jobs ≡ book.old.jobs }
+    ensures sealed { list_any is_seal book.new.events ≡ list_any is_seal book.old.events }
+{
+    let (Some((number, job)), _) = claim(book, worker) else {
+        panic!(rt; "the worker was given no task");
+    };
+    assert_eq!(rt; job, want_job);
+    if number != want {
+        panic!(rt; "the worker was given job {number}");
+    }
+}
+
 // Workers 1 and 2 claim jobs 1 and 2.
 fn both_claim<R: Abort>(rt: &R, book: &mut Book<u32>)
     requires { (w : ℕ) → HoldsNone w book.old.events }
@@ -73,10 +91,8 @@ fn both_claim<R: Abort>(rt: &R, book: &mut Book<u32>)
     ensures jobs { book.new.jobs ≡ book.old.jobs }
     ensures sealed { list_any is_seal book.new.events ≡ list_any is_seal book.old.events }
 {
-    let first = claim(book, 1);
-    assert!(rt; first == (Some((1, 10)), false));
-    let second = claim(book, 2);
-    assert!(rt; second == (Some((2, 20)), false));
+    must_claim(rt, book, 1, 1, 10);
+    must_claim(rt, book, 2, 2, 20);
 }
 
 // Job 2 is accepted, and its worker finds nothing more; then job 1 is refused.
@@ -101,12 +117,17 @@ fn third_refused<R: Abort>(rt: &R, alloc: Global, book: &mut Book<u32>)
 {
     let third = Arc::new(alloc, 30).expect(rt, "memory for a job");
     match book.put(third, false) {
-        Err(PutRefused::Stopped {
-            number,
-            verdict,
-            job,
-        }) => {
-            assert_eq!(rt; (number, verdict, *job), (1, Verdict::Refused(Code::E21), 30));
+        Err(
+            PutRefused::Stopped {
+                number,
+                verdict,
+                job,
+            },
+        ) => {
+            assert_eq!(rt;
+                (number, verdict, *job),
+                (1, Verdict::Refused(Code::E21), 30)
+            );
         }
         _ => panic!(rt; "the third job was put"),
     }

@@ -8,9 +8,9 @@ use Rattle.board_core.proofs.book.Book.claim.Goals as goal
 
 pub returns-in_default : goal.returns-in_default
 returns-in_default g c = let t = c.in_default.ensures in let none = subst (λ b. HoldsNone c.args.worker b.events) (sym c.self.view_is) c.requires in record {
-    reply = rw (c.idle.ensures, ← c.self.view_is) (idles _ c.args.worker c.self.invariant.keeps t.1);
-    holds = rw c.idle.ensures (idle_holds _ c.args.worker c.self.inside.end c.self.inside.fault c.self.inside.history.items none);
-  }
+  reply = rw (c.idle.ensures, ← c.self.view_is) (idles _ c.args.worker c.self.invariant.keeps t.1);
+  holds = rw c.idle.ensures (idle_holds _ c.args.worker c.self.inside.end c.self.inside.fault c.self.inside.history.items none);
+}
 
 pub invariant_of-self-2 : goal.invariant_of-self-2
 invariant_of-self-2 g c = let t = c.in-Some.ensures in let none = subst (λ b. HoldsNone c.args.worker b.events) (sym c.self.view_is) c.requires in

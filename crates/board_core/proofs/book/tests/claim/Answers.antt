@@ -1,4 +1,4 @@
-use Rattle.std.proofs.Common.{◌≡◌, ◌&&◌, eqb, false, sym, subst, ap, ◌∙◌, refl, ne_eqb}
+use Rattle.std.proofs.Common.{◌&&◌, eqb, sym, subst, ap, ne_eqb}
 use Rattle.board_core.specs.Machine.{HoldsNone}
 use Rattle.board_core.specs.declared.event.Event.TheVariants.{Claim}
 use Rattle.board_core.proofs.Lawful.{still_none}

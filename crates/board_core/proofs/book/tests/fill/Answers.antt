@@ -1,4 +1,4 @@
-use Rattle.std.proofs.Common.{arith, ◌≡◌, ◌+◌, length, refl}
+use Rattle.std.proofs.Common.{arith}
 use Rattle.board_core.proofs.book.tests.fill.Goals as goal
 
 pub loop-job-preserved : goal.loop-job-preserved
