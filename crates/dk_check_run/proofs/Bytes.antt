@@ -20,7 +20,7 @@ use Rattle.dk_check_run.specs.declared.reader.Reader.{Reader}
 use Rattle.dk_check_run.specs.Outcomes.{FileReport, no_theory, report_from, report_of_bytes, report_of_reading, tail_outcome, with_names}
 use Rattle.dk_check_run.specs.Theories.{Checked, checked_of}
 use Rattle.dk_check_run.specs.Progress.{BytesSettle, EndsWith, GoesOnAfter, GoesOnBehind, GoesOnBehindAll, LeadsTo, LexedSettles, MemoryAt, MemoryIn, StandsAt, StandsAtLexed, StopsAtBytes, StopsAtLexed, due_line, ended_outcome, stands_at, stands_at_lexed}
-use Rattle.dk_check_run.proofs.Assumed.{tokens_front}
+use Rattle.dk_lexer.proofs.Agree.{tokens_front}
 use Rattle.dk_check_run.proofs.Steps.{leads_end}
 
 bytes_settle : (limits : Limits) (budget : ℕ) (given : List ℕ) (report : FileReport) → LexedSettles limits budget (tokens limits given broken) report → BytesSettle limits budget given report

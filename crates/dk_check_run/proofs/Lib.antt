@@ -1,4 +1,3 @@
-pub mod Assumed
 pub mod Bytes
 pub mod Lexes
 pub mod Sound

@@ -168,3 +168,10 @@ EndsWith limits budget bytes names (Unread number) = ⊥
 EndsWith limits budget bytes names (Stopped number line verdict.Accepted) = ⊥
 EndsWith limits budget bytes names (Stopped number line verdict.Memory) = MemoryIn limits budget bytes names number line
 EndsWith limits budget bytes names outcome = report_of_bytes limits budget bytes whole ≡ record { names = names; outcome = outcome }
+
+-- how a file ends that the shelf gives: a read failed behind some of its bytes, and their report under a broken ending is this one; or as above
+abbrev pub EndsOn : Limits → ℕ → List ℕ → Option (List ℕ) → List (List ℕ) → Outcome → Type 0
+EndsOn limits budget bytes left names (Unread number) =
+    (given : List ℕ) × (rest : List ℕ) × (bytes ≡ given ++ rest) × (left ≡ Some rest)
+    × (report_of_bytes limits budget given broken ≡ record { names = names; outcome = Unread number })
+EndsOn limits budget bytes left names outcome = EndsWith limits budget bytes names outcome

@@ -14,7 +14,6 @@ ghost use Rattle.dk_check_run.specs.Theories.{checked_of};
 ghost use Rattle.dk_check_run.specs.Progress.{EndsWith, GoesOnBehind, IsReady, JudgesWhole, StandsAt, StandsAtLexed, StandsAtTokens, due_line, ended_outcome};
 
 use crate::Theory;
-use crate::assumed::{finish, line};
 use dk_lexer::{Fed, Lexer, Token};
 use dk_model::{Code, Fault, Limits, Listed, NoMemory, Verdict};
 use dk_parser::{Parser, Raw, Step};
@@ -169,7 +168,7 @@ impl Reader {
         ensures { (limits : Limits) (bytes : List ℕ) (ts : List Token) → self.now.lexer ≡ lexer_after limits bytes →
             parsing self.now.parser ≡ parsing_after limits ts → result ≡ due_line limits ts [] (begun_line limits bytes) }
     {
-        self.parser.begun().unwrap_or(line(&self.lexer))
+        self.parser.begun().unwrap_or(self.lexer.line())
     }
 
     /// Takes the next byte.
@@ -185,7 +184,7 @@ impl Reader {
         let due = self.due_line();
         match self.lexer.feed(alloc, byte) {
             Ok(fed) => {
-                let place = line(&self.lexer);
+                let place = self.lexer.line();
                 self.take(alloc, fed, place);
             }
             Err(_) => self.stop_at(due, Verdict::Memory),
@@ -201,8 +200,8 @@ impl Reader {
         if let Some(outcome) = self.stop {
             return outcome;
         }
-        let place = line(&self.lexer);
-        let fed = finish(&mut self.lexer, alloc);
+        let fed = self.lexer.finish(alloc);
+        let place = self.lexer.line();
         self.take(alloc, fed, place);
         if let Some(outcome) = self.stop {
             return outcome;
@@ -221,5 +220,24 @@ impl Reader {
             Some(line) => Outcome::Stopped(count + 1, line, Verdict::Refused(Code::E03)),
             None => Outcome::Accepted(count),
         }
+    }
+
+    /// How a file ends of which a read failed, where nothing in the bytes before is at fault.
+    pub fn unread(&self) -> Outcome
+        requires { IsReady self.now }
+        ensures { result ≡ Outcome.Unread (length (checked_of self.now.theory).shown + 1) }
+    {
+        Outcome::Unread(self.theory.shown().len() as u32 + 1)
+    }
+
+    /// How a file ends where memory ends at the next byte.
+    pub fn out_of_memory(&self) -> Outcome
+        requires ready { IsReady self.now }
+        requires going { self.now.stop ≡ None }
+        ensures { (limits : Limits) (budget : ℕ) (bytes : List ℕ) (rest : List ℕ) → StandsAt limits budget bytes self.now →
+            EndsWith limits budget (bytes ++ rest) (checked_of self.now.theory).shown result }
+    {
+        let number = self.theory.shown().len() as u32 + 1;
+        Outcome::Stopped(number, self.due_line(), Verdict::Memory)
     }
 }
