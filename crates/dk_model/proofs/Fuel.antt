@@ -63,9 +63,9 @@ module _ (n : ℕ) (N N' : ℕ → Tree → Units Tree) (C C' : ℕ → Tree →
   at_cell_same (cell (rule_variable_pattern k xs)) col m cs le =
       bind_same (suc m) (suc m) (escaped N C m col.0 xs col.1) (escaped N' C' m col.0 xs col.1) _ _ (escaped_same m col.0 xs col.1 le) (λ part n1 lt.
       if_same (suc m) part.1 _ _ _ _
-          (bind_same (suc m) (suc n1) (matched N C n1 cs k (captured col.0 xs part.0)) (matched N' C' n1 cs k (captured col.0 xs part.0)) _ _
-              (matched_same n1 cs k (captured col.0 xs part.0) (omega arith)) (λ o n2 lt2. answered (o, (col.0, part.0)) n2 (suc m) (omega arith)))
-          (answered (None, (col.0, part.0)) n1 (suc m) lt))
+      (bind_same (suc m) (suc n1) (matched N C n1 cs k (captured col.0 xs part.0)) (matched N' C' n1 cs k (captured col.0 xs part.0)) _ _
+      (matched_same n1 cs k (captured col.0 xs part.0) (omega arith)) (λ o n2 lt2. answered (o, (col.0, part.0)) n2 (suc m) (omega arith)))
+      (answered (None, (col.0, part.0)) n1 (suc m) lt))
   at_cell_same x col m cs le = answered (Some cs, col) m (suc m) (omega arith)
 
   through_same : (cells : List Cell) (cols : List Column) (m : ℕ) (cs : Captures) → m ≤ n → Same (suc m) (through N C cells cols m cs) (through N' C' cells cols m cs)
@@ -74,30 +74,30 @@ module _ (n : ℕ) (N N' : ℕ → Tree → Units Tree) (C C' : ℕ → Tree →
   through_same (x ∷ rest) (col ∷ cols) m cs le =
       bind_same (suc m) (suc m) (at_cell N C x col m cs) (at_cell N' C' x col m cs) _ _ (at_cell_same x col m cs le) (λ o n1 lt.
       option_same (suc m) o.0 _ _ _ _ (answered (None, o.1 ∷ cols) n1 (suc m) lt) (λ cs'.
-          bind_same (suc m) (suc n1) (through N C rest cols n1 cs') (through N' C' rest cols n1 cs') _ _ (through_same rest cols n1 cs' (omega arith))
-              (λ r n2 lt2. answered (r.0, o.1 ∷ r.1) n2 (suc m) (omega arith))))
+      bind_same (suc m) (suc n1) (through N C rest cols n1 cs') (through N' C' rest cols n1 cs') _ _ (through_same rest cols n1 cs' (omega arith))
+      (λ r n2 lt2. answered (r.0, o.1 ∷ r.1) n2 (suc m) (omega arith))))
 
   guarded_same : (cells : List Cell) (cols : List Column) (m : ℕ) (cs : Captures) → m ≤ n → Same (suc m) (guarded N C cells cols m cs) (guarded N' C' cells cols m cs)
   guarded_same [] cols m cs le = answered true m (suc m) (omega arith)
   guarded_same (x ∷ rest) [] m cs le = answered true m (suc m) (omega arith)
   guarded_same (cell (guard_pattern g) ∷ rest) (col ∷ cols) m cs le =
       bind_same (suc m) m (C m col.1 (shift 0 col.0 (filled cs 0 g))) (C' m col.1 (shift 0 col.0 (filled cs 0 g))) _ _ (lc m _ _ le)
-          (λ yes k lt. if_same (suc m) yes _ _ _ _ (same_more (suc k) (suc m) _ _ (omega arith) (guarded_same rest cols k cs (omega arith))) (answered false k (suc m) (omega arith)))
+      (λ yes k lt. if_same (suc m) yes _ _ _ _ (same_more (suc k) (suc m) _ _ (omega arith) (guarded_same rest cols k cs (omega arith))) (answered false k (suc m) (omega arith)))
   guarded_same (x ∷ rest) (col ∷ cols) m cs le = guarded_same rest cols m cs le
 
   pub tried_same : (r : Row) (cols : List Column) (m : ℕ) → m ≤ n → Same (suc m) (tried N C r cols m) (tried N' C' r cols m)
   tried_same r cols m le =
       bind_same (suc m) (suc m) (through N C r.0 cols m (replicate r.1.vars None)) (through N' C' r.0 cols m (replicate r.1.vars None)) _ _
-          (through_same r.0 cols m (replicate r.1.vars None) le) (λ o n1 lt.
-          option_same (suc m) o.0 _ _ _ _ (answered (None, o.1) n1 (suc m) lt) (λ cs.
-              bind_same (suc m) (suc n1) (guarded N C r.0 o.1 n1 cs) (guarded N' C' r.0 o.1 n1 cs) _ _ (guarded_same r.0 o.1 n1 cs (omega arith))
-                  (λ yes n2 lt2. answered (if yes then Some cs else None, o.1) n2 (suc m) (omega arith))))
+      (through_same r.0 cols m (replicate r.1.vars None) le) (λ o n1 lt.
+      option_same (suc m) o.0 _ _ _ _ (answered (None, o.1) n1 (suc m) lt) (λ cs.
+      bind_same (suc m) (suc n1) (guarded N C r.0 o.1 n1 cs) (guarded N' C' r.0 o.1 n1 cs) _ _ (guarded_same r.0 o.1 n1 cs (omega arith))
+      (λ yes n2 lt2. answered (if yes then Some cs else None, o.1) n2 (suc m) (omega arith))))
 
   pub each_same_same : (ps : List (Tree × Tree)) (m : ℕ) → m ≤ n → Same (suc m) (each_same N C ps m) (each_same N' C' ps m)
   each_same_same [] m le = answered true m (suc m) (omega arith)
   each_same_same (p ∷ ps) m le =
       bind_same (suc m) m (C m p.0 p.1) (C' m p.0 p.1) _ _ (lc m p.0 p.1 le)
-          (λ yes k lt. if_same (suc m) yes _ _ _ _ (same_more (suc k) (suc m) _ _ (omega arith) (each_same_same ps k (omega arith))) (answered false k (suc m) (omega arith)))
+      (λ yes k lt. if_same (suc m) yes _ _ _ _ (same_more (suc k) (suc m) _ _ (omega arith) (each_same_same ps k (omega arith))) (answered false k (suc m) (omega arith)))
 
   pub each_normal_same : (t : Tree) (m : ℕ) → m ≤ n → Same (suc m) (each_normal N C t m) (each_normal N' C' t m)
   each_normal_same (apply f a) m le =
@@ -118,10 +118,10 @@ module _ (n : ℕ) (N N' : ℕ → Tree → Units Tree) (C C' : ℕ → Tree →
     select_same [] cols m le = answered None m (suc m) (omega arith)
     select_same (r ∷ rs) cols m le = option_same (suc m) (rigid_at r.0) _ _ _ _
         (bind_same (suc m) (suc m) (tried N C r cols m) (tried N' C' r cols m) _ _ (tried_same r cols m le) (λ o n1 lt.
-            option_same (suc m) o.0 _ _ _ _ (same_more (suc n1) (suc m) _ _ (omega arith) (select_same rs o.1 n1 (omega arith))) (λ cs. answered (Some (cs, r.1)) n1 (suc m) lt)))
+        option_same (suc m) o.0 _ _ _ _ (same_more (suc n1) (suc m) _ _ (omega arith) (select_same rs o.1 n1 (omega arith))) (λ cs. answered (Some (cs, r.1)) n1 (suc m) lt)))
         (λ i. option_same (suc m) (slice_get cols i) _ _ _ _ (answered None m (suc m) (omega arith)) (λ col.
-            bind_same (suc m) m (W m col.1) (W' m col.1) _ _ (lw m col.1 le) (λ v n1 lt.
-                same_more (suc n1) (suc m) _ _ (omega arith) (la n1 _ _ (omega arith)))))
+        bind_same (suc m) m (W m col.1) (W' m col.1) _ _ (lw m col.1 le) (λ v n1 lt.
+        same_more (suc n1) (suc m) _ _ (omega arith) (la n1 _ _ (omega arith)))))
 
 -- enough fuel for n units
 pub record Agree (f g : ℕ) (S : PlainSignature) : Type 0 where
@@ -134,28 +134,28 @@ module _ (S : PlainSignature) where
   turn_w : (f g : ℕ) → Agree f g S → (n : ℕ) (t : Tree) → 2 * suc n ≤ suc f → 2 * suc n ≤ suc g → Same (suc n) (whnf_with (suc f) S (suc n) t) (whnf_with (suc g) S (suc n) t)
   turn_w f g A n t p q = option_same (suc n) (contraction t) _ _ _ _
       (option_same (suc n) (head_symbol t) _ _ _ _ (answered t n (suc n) (omega arith)) (λ k.
-          bind_same (suc n) (suc n) (selection_with f S n (map (λ a. (0, a)) (take (width (length (arguments t)) (rules_of S k)) (arguments t))) (rows_for (length (arguments t)) (width (length (arguments t)) (rules_of S k)) (rules_of S k))) _ _ _
-              (A.on_sel n _ _ (omega arith) (omega arith)) (λ o m lt.
-              option_same (suc n) o _ _ _ _ (answered t m (suc n) lt) (λ p'. same_more m (suc n) _ _ (omega arith) (A.on_w m _ (omega arith) (omega arith))))))
+      bind_same (suc n) (suc n) (selection_with f S n (map (λ a. (0, a)) (take (width (length (arguments t)) (rules_of S k)) (arguments t))) (rows_for (length (arguments t)) (width (length (arguments t)) (rules_of S k)) (rules_of S k))) _ _ _
+      (A.on_sel n _ _ (omega arith) (omega arith)) (λ o m lt.
+      option_same (suc n) o _ _ _ _ (answered t m (suc n) lt) (λ p'. same_more m (suc n) _ _ (omega arith) (A.on_w m _ (omega arith) (omega arith))))))
       (λ t'. same_more n (suc n) _ _ (omega arith) (A.on_w n t' (omega arith) (omega arith)))
 
   turn_c : (f g : ℕ) → Agree f g S → (n : ℕ) (t u : Tree) → 2 * suc n ≤ suc f → 2 * suc n ≤ suc g → Same (suc n) (comparison_with (suc f) S (suc n) t u) (comparison_with (suc g) S (suc n) t u)
   turn_c f g A n t u p q = if_same (suc n) (equal t u) _ _ _ _ (answered true n (suc n) (omega arith))
       (bind_same (suc n) n (whnf_with f S n t) (whnf_with g S n t) _ _ (A.on_w n t (omega arith) (omega arith)) (λ t' n1 lt.
-       bind_same (suc n) n1 (whnf_with f S n1 u) (whnf_with g S n1 u) _ _ (A.on_w n1 u (omega arith) (omega arith)) (λ u' n2 lt2.
-       option_same (suc n) (pairs_of t' u') _ _ _ _ (answered false n2 (suc n) (omega arith)) (λ ps.
-           same_more (suc n2) (suc n) _ _ (omega arith)
-               (each_same_same n2 (normal_with f S) (normal_with g S) (comparison_with f S) (comparison_with g S) (λ m v le. A.on_nf m v (omega arith) (omega arith)) (λ m v x le. A.on_c m v x (omega arith) (omega arith)) ps n2 (omega arith))))))
+      bind_same (suc n) n1 (whnf_with f S n1 u) (whnf_with g S n1 u) _ _ (A.on_w n1 u (omega arith) (omega arith)) (λ u' n2 lt2.
+      option_same (suc n) (pairs_of t' u') _ _ _ _ (answered false n2 (suc n) (omega arith)) (λ ps.
+      same_more (suc n2) (suc n) _ _ (omega arith)
+      (each_same_same n2 (normal_with f S) (normal_with g S) (comparison_with f S) (comparison_with g S) (λ m v le. A.on_nf m v (omega arith) (omega arith)) (λ m v x le. A.on_c m v x (omega arith) (omega arith)) ps n2 (omega arith))))))
 
   turn_nf : (f g : ℕ) → Agree f g S → (n : ℕ) (t : Tree) → 2 * suc n ≤ suc f → 2 * suc n ≤ suc g → Same (suc n) (normal_with (suc f) S (suc n) t) (normal_with (suc g) S (suc n) t)
   turn_nf f g A n t p q = bind_same (suc n) n (whnf_with f S n t) (whnf_with g S n t) _ _ (A.on_w n t (omega arith) (omega arith)) (λ t' n1 lt.
       same_more (suc n1) (suc n) _ _ (omega arith)
-          (each_normal_same n1 (normal_with f S) (normal_with g S) (comparison_with f S) (comparison_with g S) (λ m v le. A.on_nf m v (omega arith) (omega arith)) (λ m v x le. A.on_c m v x (omega arith) (omega arith)) t' n1 (omega arith)))
+      (each_normal_same n1 (normal_with f S) (normal_with g S) (comparison_with f S) (comparison_with g S) (λ m v le. A.on_nf m v (omega arith) (omega arith)) (λ m v x le. A.on_c m v x (omega arith) (omega arith)) t' n1 (omega arith)))
 
   turn_sel : (f g : ℕ) → Agree f g S → (n : ℕ) (cols : List Column) (rows : List Row) → 2 * n + 1 ≤ suc f → 2 * n + 1 ≤ suc g → Same (suc n) (selection_with (suc f) S n cols rows) (selection_with (suc g) S n cols rows)
   turn_sel f g A n cols rows p q =
       select_same n (normal_with f S) (normal_with g S) (comparison_with f S) (comparison_with g S) (λ m v le. A.on_nf m v (omega arith) (omega arith)) (λ m v x le. A.on_c m v x (omega arith) (omega arith))
-          (whnf_with f S) (whnf_with g S) (selection_with f S) (selection_with g S) (λ m v le. A.on_w m v (omega arith) (omega arith)) (λ m cs rs lt. A.on_sel m cs rs (omega arith) (omega arith)) rows cols n (omega arith)
+      (whnf_with f S) (whnf_with g S) (selection_with f S) (selection_with g S) (λ m v le. A.on_w m v (omega arith) (omega arith)) (λ m cs rs lt. A.on_sel m cs rs (omega arith) (omega arith)) rows cols n (omega arith)
 
   w_none : (f : ℕ) (t : Tree) → whnf_with f S 0 t ≡ None
   w_none zero t = refl

@@ -1,5 +1,5 @@
 //! The verdict on a command, the type of a definition without one, and the entry of an accepted command.
-ghost use Rattle.std.specs.Prelude.{◌≡◌, [], IfOk, IfErr, IsTrue, Some};
+ghost use Rattle.std.specs.Prelude.{◌≡◌, ◌++◌, ◌∷◌, OnOk, OnErr, [], IfOk, IfErr, IsTrue, Some};
 ghost use Rattle.dk_model.specs.Trees.{tree};
 ghost use Rattle.dk_model.specs.Signatures.{plain_signature, plain_entry, maybe_tree};
 ghost use Rattle.dk_model.specs.Scoping.{plain_command};
@@ -18,12 +18,7 @@ use std::alloc::Global;
 ///
 /// The check may take `budget` units; `Ended` says that it needs more. `Memory` says nothing of the command.
 #[tactic(auto, using(crate::proofs::Verdict::fit_verdict))]
-pub fn check_plain(
-    alloc: Global,
-    signature: &Signature,
-    command: &Scoped,
-    budget: u64,
-) -> Verdict
+pub fn check_plain(alloc: Global, signature: &Signature, command: &Scoped, budget: u64) -> Verdict
     requires { HasNoRules (plain_signature signature.now) }
     ensures { IsVerdictOrMemory (verdict_of (plain_signature signature.now) (plain_command command.now) budget) result }
 {
@@ -233,6 +228,18 @@ pub fn entry_of(
         }
         Scoped::Rules(_) => Ok(Entry::Rules(Listed::new(alloc))),
     }
+}
+
+/// Adds the entry of an accepted command to the signature.
+pub fn add_entry(signature: &mut Signature, entry: Entry) -> Result<(), NoMemory>
+    requires signature { HasNoRules (plain_signature signature.old) }
+    requires entry { AddsNoRules (plain_entry entry) }
+    ensures ok { OnOk result (plain_signature signature.new ≡ plain_signature signature.old ++ plain_entry entry ∷ []) }
+    ensures no_rules { OnOk result (HasNoRules (plain_signature signature.new)) }
+    ensures err { OnErr result (plain_signature signature.new ≡ plain_signature signature.old) }
+{
+    signature.entries.push(entry)?;
+    Ok(())
 }
 
 /// The declared type without annotations, or the inferred one.

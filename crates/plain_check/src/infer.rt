@@ -197,7 +197,11 @@ fn apply(
         Ok(()) => {}
         Err(fault) => return Err(fault),
     }
-    Ok(function.codomain.substitute(alloc, 0, &argument.erased(alloc)?)?)
+    Ok(
+        function
+            .codomain
+            .substitute(alloc, 0, &argument.erased(alloc)?)?,
+    )
 }
 
 /// That a term fits a type.
