@@ -47,9 +47,9 @@ module _ (d : ℕ) (N N' : ℕ → Tree → Units Tree) (C C' : ℕ → Tree →
   at_cell_raised (cell (rule_variable_pattern k xs)) col n m cs e =
       bind_raised d (escaped N C n col.0 xs col.1) (escaped N' C' m col.0 xs col.1) _ _ (escaped_raised n m col.0 xs col.1 e) (λ part i j q.
       if_raised d part.1 _ _ _ _
-          (bind_raised d (matched N C i cs k (captured col.0 xs part.0)) (matched N' C' j cs k (captured col.0 xs part.0)) _ _
-              (matched_raised i j cs k (captured col.0 xs part.0) q) (λ o i2 j2 q2. given d (o, (col.0, part.0)) i2 j2 q2))
-          (given d (None, (col.0, part.0)) i j q))
+      (bind_raised d (matched N C i cs k (captured col.0 xs part.0)) (matched N' C' j cs k (captured col.0 xs part.0)) _ _
+      (matched_raised i j cs k (captured col.0 xs part.0) q) (λ o i2 j2 q2. given d (o, (col.0, part.0)) i2 j2 q2))
+      (given d (None, (col.0, part.0)) i j q))
   at_cell_raised x col n m cs e = given d (Some cs, col) n m e
 
   through_raised : (cells : List Cell) (cols : List Column) (n m : ℕ) (cs : Captures) → m ≡ n + d → Raised d (through N C cells cols n cs) (through N' C' cells cols m cs)
@@ -58,30 +58,30 @@ module _ (d : ℕ) (N N' : ℕ → Tree → Units Tree) (C C' : ℕ → Tree →
   through_raised (x ∷ rest) (col ∷ cols) n m cs e =
       bind_raised d (at_cell N C x col n cs) (at_cell N' C' x col m cs) _ _ (at_cell_raised x col n m cs e) (λ o i j q.
       option_raised d o.0 _ _ _ _ (given d (None, o.1 ∷ cols) i j q) (λ cs'.
-          bind_raised d (through N C rest cols i cs') (through N' C' rest cols j cs') _ _ (through_raised rest cols i j cs' q)
-              (λ r i2 j2 q2. given d (r.0, o.1 ∷ r.1) i2 j2 q2)))
+      bind_raised d (through N C rest cols i cs') (through N' C' rest cols j cs') _ _ (through_raised rest cols i j cs' q)
+      (λ r i2 j2 q2. given d (r.0, o.1 ∷ r.1) i2 j2 q2)))
 
   guarded_raised : (cells : List Cell) (cols : List Column) (n m : ℕ) (cs : Captures) → m ≡ n + d → Raised d (guarded N C cells cols n cs) (guarded N' C' cells cols m cs)
   guarded_raised [] cols n m cs e = given d true n m e
   guarded_raised (x ∷ rest) [] n m cs e = given d true n m e
   guarded_raised (cell (guard_pattern g) ∷ rest) (col ∷ cols) n m cs e =
       bind_raised d (C n col.1 (shift 0 col.0 (filled cs 0 g))) (C' m col.1 (shift 0 col.0 (filled cs 0 g))) _ _ (lc n m _ _ e)
-          (λ alike i j q. if_raised d alike _ _ _ _ (guarded_raised rest cols i j cs q) (given d false i j q))
+      (λ alike i j q. if_raised d alike _ _ _ _ (guarded_raised rest cols i j cs q) (given d false i j q))
   guarded_raised (x ∷ rest) (col ∷ cols) n m cs e = guarded_raised rest cols n m cs e
 
   tried_raised : (r : Row) (cols : List Column) (n m : ℕ) → m ≡ n + d → Raised d (tried N C r cols n) (tried N' C' r cols m)
   tried_raised r cols n m e =
       bind_raised d (through N C r.0 cols n (replicate r.1.vars None)) (through N' C' r.0 cols m (replicate r.1.vars None)) _ _
-          (through_raised r.0 cols n m (replicate r.1.vars None) e) (λ o i j q.
-          option_raised d o.0 _ _ _ _ (given d (None, o.1) i j q) (λ cs.
-              bind_raised d (guarded N C r.0 o.1 i cs) (guarded N' C' r.0 o.1 j cs) _ _ (guarded_raised r.0 o.1 i j cs q)
-                  (λ alike i2 j2 q2. given d (if alike then Some cs else None, o.1) i2 j2 q2)))
+      (through_raised r.0 cols n m (replicate r.1.vars None) e) (λ o i j q.
+      option_raised d o.0 _ _ _ _ (given d (None, o.1) i j q) (λ cs.
+      bind_raised d (guarded N C r.0 o.1 i cs) (guarded N' C' r.0 o.1 j cs) _ _ (guarded_raised r.0 o.1 i j cs q)
+      (λ alike i2 j2 q2. given d (if alike then Some cs else None, o.1) i2 j2 q2)))
 
   each_same_raised : (ps : List (Tree × Tree)) (n m : ℕ) → m ≡ n + d → Raised d (each_same N C ps n) (each_same N' C' ps m)
   each_same_raised [] n m e = given d true n m e
   each_same_raised (p ∷ ps) n m e =
       bind_raised d (C n p.0 p.1) (C' m p.0 p.1) _ _ (lc n m p.0 p.1 e)
-          (λ alike i j q. if_raised d alike _ _ _ _ (each_same_raised ps i j q) (given d false i j q))
+      (λ alike i j q. if_raised d alike _ _ _ _ (each_same_raised ps i j q) (given d false i j q))
 
   each_normal_raised : (t : Tree) (n m : ℕ) → m ≡ n + d → Raised d (each_normal N C t n) (each_normal N' C' t m)
   each_normal_raised (apply f a) n m e =
@@ -103,9 +103,9 @@ module _ (d : ℕ) (N N' : ℕ → Tree → Units Tree) (C C' : ℕ → Tree →
     select_raised [] cols n m e = given d None n m e
     select_raised (r ∷ rs) cols n m e = option_raised d (rigid_at r.0) _ _ _ _
         (bind_raised d (tried N C r cols n) (tried N' C' r cols m) _ _ (tried_raised r cols n m e) (λ o i j q.
-            option_raised d o.0 _ _ _ _ (select_raised rs o.1 i j q) (λ cs. given d (Some (cs, r.1)) i j q)))
+        option_raised d o.0 _ _ _ _ (select_raised rs o.1 i j q) (λ cs. given d (Some (cs, r.1)) i j q)))
         (λ i. option_raised d (slice_get cols i) _ _ _ _ (given d None n m e) (λ col.
-            bind_raised d (W n col.1) (W' m col.1) _ _ (lw n m col.1 e) (λ v i2 j2 q2. la i2 j2 _ _ q2)))
+        bind_raised d (W n col.1) (W' m col.1) _ _ (lw n m col.1 e) (λ v i2 j2 q2. la i2 j2 _ _ q2)))
 
 -- with `f` fuel and then with no less
 pub record Raises (d f g : ℕ) (S : PlainSignature) : Type 0 where
@@ -120,9 +120,9 @@ module _ (d : ℕ) (S : PlainSignature) where
   whnf_turn f g R (suc n) zero t e = absurd (omega arith)
   whnf_turn f g R (suc n) (suc m) t e = option_raised d (contraction t) _ _ _ _
       (option_raised d (head_symbol t) _ _ _ _ (given d t n m (omega arith)) (λ k.
-          bind_raised d (selection_with f S n (columns S k t) (rows S k t)) (selection_with g S m (columns S k t) (rows S k t)) _ _
-              (R.on_selection n m (columns S k t) (rows S k t) (omega arith)) (λ o i j q.
-              option_raised d o _ _ _ _ (given d t i j q) (λ p. R.on_whnf i j (rewritten t p) q))))
+      bind_raised d (selection_with f S n (columns S k t) (rows S k t)) (selection_with g S m (columns S k t) (rows S k t)) _ _
+      (R.on_selection n m (columns S k t) (rows S k t) (omega arith)) (λ o i j q.
+      option_raised d o _ _ _ _ (given d t i j q) (λ p. R.on_whnf i j (rewritten t p) q))))
       (λ t'. R.on_whnf n m t' (omega arith))
 
   comparison_turn : (f g : ℕ) → Raises d f g S → (n m : ℕ) (t u : Tree) → m ≡ n + d → Raised d (comparison_with (suc f) S n t u) (comparison_with (suc g) S m t u)
@@ -130,9 +130,9 @@ module _ (d : ℕ) (S : PlainSignature) where
   comparison_turn f g R (suc n) zero t u e = absurd (omega arith)
   comparison_turn f g R (suc n) (suc m) t u e = if_raised d (equal t u) _ _ _ _ (given d true n m (omega arith))
       (bind_raised d (whnf_with f S n t) (whnf_with g S m t) _ _ (R.on_whnf n m t (omega arith)) (λ t' i j q.
-       bind_raised d (whnf_with f S i u) (whnf_with g S j u) _ _ (R.on_whnf i j u q) (λ u' i2 j2 q2.
-       option_raised d (pairs_of t' u') _ _ _ _ (given d false i2 j2 q2) (λ ps.
-           each_same_raised d (normal_with f S) (normal_with g S) (comparison_with f S) (comparison_with g S) R.on_normal R.on_comparison ps i2 j2 q2))))
+      bind_raised d (whnf_with f S i u) (whnf_with g S j u) _ _ (R.on_whnf i j u q) (λ u' i2 j2 q2.
+      option_raised d (pairs_of t' u') _ _ _ _ (given d false i2 j2 q2) (λ ps.
+      each_same_raised d (normal_with f S) (normal_with g S) (comparison_with f S) (comparison_with g S) R.on_normal R.on_comparison ps i2 j2 q2))))
 
   normal_turn : (f g : ℕ) → Raises d f g S → (n m : ℕ) (t : Tree) → m ≡ n + d → Raised d (normal_with (suc f) S n t) (normal_with (suc g) S m t)
   normal_turn f g R zero m t e = tt
@@ -155,7 +155,7 @@ module _ (d : ℕ) (S : PlainSignature) where
     on_normal = normal_turn f g R;
     on_selection = λ n m cols rs e.
         select_raised d (normal_with f S) (normal_with g S) (comparison_with f S) (comparison_with g S) R.on_normal R.on_comparison
-            (whnf_with f S) (whnf_with g S) (selection_with f S) (selection_with g S) R.on_whnf R.on_selection rs cols n m e;
+        (whnf_with f S) (whnf_with g S) (selection_with f S) (selection_with g S) R.on_whnf R.on_selection rs cols n m e;
   }
 
   pub whnf_raised : (n m : ℕ) (t : Tree) → m ≡ n + d → Raised d (whnf_of S n t) (whnf_of S m t)

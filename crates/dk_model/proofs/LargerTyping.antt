@@ -115,7 +115,7 @@ module _ (d : ℕ) where
             (λ p i j q. checked_grows (p.0 ∷ G) b p.1 i j q)
         checked_grows G (annotated c b) T n m e = next_grows d (as_product S E24 T n) (as_product S E24 T m) _ _ (as_product_grows E24 T n m e) (λ p i j q.
             next_grows d (inferred S V G c i) (inferred S V G c j) _ _ (inferred_grows G c i j q)
-                (annotated_grows (checked S V (p.0 ∷ G) b p.1) (checked_grows (p.0 ∷ G) b p.1) c p.0))
+            (annotated_grows (checked S V (p.0 ∷ G) b p.1) (checked_grows (p.0 ∷ G) b p.1) c p.0))
         checked_grows G (apply f a) T n m e = against_grows T _ _ (next_grows d (inferred S V G f n) (inferred S V G f m) _ _ (inferred_grows G f n m e)
             (application_grows (checked S V G a) (checked_grows G a) a))
         checked_grows G (product c b) T n m e = against_grows T _ _ (next_grows d (inferred S V G c n) (inferred S V G c m) _ _ (inferred_grows G c n m e)

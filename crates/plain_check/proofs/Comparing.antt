@@ -16,7 +16,7 @@ pending_pushed (x ∷ ps) p = ap (λ (l : List (Tree × Tree)). l ++ ((tree x.0,
 
 with_pair : (o : Option (List (Tree × Tree))) (p : Tree × Tree) (rest : List (Tree × Tree))
     → elim (elim o as (λ _. Option (List (Tree × Tree))) [ None ↦ None | Some ps ↦ Some (ps ++ (p ∷ [])) ]) as (λ _. Option (List (Tree × Tree))) [ None ↦ None | Some ps ↦ Some (ps ++ rest) ]
-        ≡ elim o as (λ _. Option (List (Tree × Tree))) [ None ↦ None | Some ps ↦ Some (ps ++ (p ∷ rest)) ]
+    ≡ elim o as (λ _. Option (List (Tree × Tree))) [ None ↦ None | Some ps ↦ Some (ps ++ (p ∷ rest)) ]
 with_pair None p rest = refl
 with_pair (Some ps) p rest = ap (λ (l : List (Tree × Tree)). Some l) (append_assoc ps (p ∷ []) rest)
 

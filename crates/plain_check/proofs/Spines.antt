@@ -20,7 +20,7 @@ module _ (S : PlainSignature) (G : List Tree) where
   inferred_wound h [] n = flip (next_answer (inferred S [] G h n))
   inferred_wound h (x ∷ xs) n =
       ap (λ y. next y (application_type S (checked S [] G x) x)) (inferred_wound h xs n)
-          ∙ next_next (inferred S [] G h n) (along S G xs) (application_type S (checked S [] G x) x)
+      ∙ next_next (inferred S [] G h n) (along S G xs) (application_type S (checked S [] G x) x)
 
   pub head_fails : (f : TypeFault) (h t : Tree) (xs : List Tree) (n : ℕ) → wound h xs ≡ t → Fails f (inferred S [] G h n) → Fails f (inferred S [] G t n)
   head_fails f h t xs n e q = fails_is f _ _ (ap (λ u. inferred S [] G u n) (flip e) ∙ inferred_wound h xs n) (fails_next f (inferred S [] G h n) (along S G xs) q)
@@ -33,7 +33,7 @@ module _ (S : PlainSignature) (G : List Tree) where
   along_pushed [] r F n = flip (next_answer (argument_type S G (tree r.now) F n))
   along_pushed (x ∷ rs) r F n =
       ap (λ y. next y (application_type S (checked S [] G (tree x.now)) (tree x.now))) (along_pushed rs r F n)
-          ∙ next_next (argument_type S G (tree r.now) F n) (along S G (behind_references rs)) (application_type S (checked S [] G (tree x.now)) (tree x.now))
+      ∙ next_next (argument_type S G (tree r.now) F n) (along S G (behind_references rs)) (application_type S (checked S [] G (tree x.now)) (tree x.now))
 
   pub argument_fails : (f : TypeFault) (rs : List (Bor Term)) (r : Bor Term) (F : Tree) (n : ℕ) → Fails f (argument_type S G (tree r.now) F n)
       → Fails f (along S G (behind_references (rs ++ (r ∷ []))) F n)

@@ -144,7 +144,7 @@ module _ (S : PlainSignature) (h : HasNoRules S) where
   by_body n k t t' (Some b) e q r u =
       let v : applied b (arguments t) ≡ t' = cc in
       whnf_selects S n t k q r ∙ ap (λ x. bind x (after_selection S t)) (selects_body n k t b e)
-          ∙ ap (whnf_of S n) (unfolds_body k t b ∙ v)
+      ∙ ap (whnf_of S n) (unfolds_body k t b ∙ v)
 
   by_head : (n : ℕ) (t t' : Tree) (o : Option ℕ) → head_symbol t ≡ o → contraction t ≡ None → unfolded_head S t o ≡ Some t' → whnf_of S (suc n) t ≡ whnf_of S n t'
   by_head n t t' None r q u = cc

@@ -3,3 +3,4 @@ pub mod Given
 pub mod Pending
 pub mod Contexts
 pub mod Spine
+pub mod Clauses

@@ -1,11 +1,11 @@
 //! The verdict on a command, the type of a definition without one, and the entry of an accepted command.
-ghost use Rattle.std.specs.Prelude.{◌≡◌, [], IfOk, IfErr, IsTrue, Some};
+ghost use Rattle.std.specs.Prelude.{◌≡◌, ◌++◌, ◌∷◌, OnOk, OnErr, [], IfOk, IfErr, IsTrue, Some};
 ghost use Rattle.dk_model.specs.Trees.{tree};
 ghost use Rattle.dk_model.specs.Signatures.{plain_signature, plain_entry, maybe_tree};
 ghost use Rattle.dk_model.specs.Scoping.{plain_command};
-ghost use Rattle.dk_model.specs.Typing.{sort_of};
-ghost use Rattle.dk_model.specs.Verdicts.{verdict_of, entry_of, inferred_type, is_untyped, IsVerdictOrMemory, HasNoRules, AddsNoRules, body_type, body_checked, declaration_checked, entry_type_of, kept_body};
-ghost use Rattle.plain_check.specs.Given.{GivesType, GivesFit, fault_verdict};
+ghost use Rattle.dk_model.specs.Verdicts.{is_untyped, AddsNoRules, entry_type_of, kept_body};
+ghost use Rattle.plain_check.specs.Given.{fault_verdict};
+ghost use Rattle.plain_check.specs.Clauses.{NoRules, due, IsDue, inferred_for, IsEntryOf, ChecksDeclaration, ChecksBody, GivesSort, GivesBodyType};
 
 use crate::context::Context;
 use crate::expect::{as_sort, not_kind};
@@ -18,14 +18,9 @@ use std::alloc::Global;
 ///
 /// The check may take `budget` units; `Ended` says that it needs more. `Memory` says nothing of the command.
 #[tactic(auto, using(crate::proofs::Verdict::fit_verdict))]
-pub fn check_plain(
-    alloc: Global,
-    signature: &Signature,
-    command: &Scoped,
-    budget: u64,
-) -> Verdict
-    requires { HasNoRules (plain_signature signature.now) }
-    ensures { IsVerdictOrMemory (verdict_of (plain_signature signature.now) (plain_command command.now) budget) result }
+pub fn check_plain(alloc: Global, signature: &Signature, command: &Scoped, budget: u64) -> Verdict
+    requires { NoRules signature.now }
+    ensures { IsDue signature.now command.now budget result }
 {
     match command {
         Scoped::Declare { typ, body, .. } => {
@@ -47,11 +42,11 @@ pub fn infer_plain(
     command: &Scoped,
     budget: u64,
 ) -> Result<Term, Verdict>
-    requires no_rules { HasNoRules (plain_signature signature.now) }
+    requires no_rules { NoRules signature.now }
     requires untyped { IsTrue (is_untyped (plain_command command.now)) }
-    ensures ok { IfOk result (λ t. inferred_type (plain_signature signature.now) (plain_command command.now) budget ≡ Some (tree t)) }
-    ensures accepted { IfOk result (λ _. verdict_of (plain_signature signature.now) (plain_command command.now) budget ≡ Verdict.Accepted) }
-    ensures err { IfErr result (λ v. IsVerdictOrMemory (verdict_of (plain_signature signature.now) (plain_command command.now) budget) v) }
+    ensures ok { IfOk result (λ t. inferred_for signature.now command.now budget ≡ Some (tree t)) }
+    ensures accepted { IfOk result (λ _. due signature.now command.now budget ≡ Verdict.Accepted) }
+    ensures err { IfErr result (λ v. IsDue signature.now command.now budget v) }
     ensures refused { IfErr result (λ v. ¬ (v ≡ Verdict.Accepted)) }
 {
     match command {
@@ -87,11 +82,11 @@ pub fn enter_plain(
     command: &Scoped,
     budget: u64,
 ) -> Result<Entry, Verdict>
-    requires { HasNoRules (plain_signature signature.now) }
-    ensures ok { IfOk result (λ e. plain_entry e ≡ entry_of (plain_signature signature.now) (plain_command command.now) (inferred_type (plain_signature signature.now) (plain_command command.now) budget)) }
-    ensures accepted { IfOk result (λ _. verdict_of (plain_signature signature.now) (plain_command command.now) budget ≡ Verdict.Accepted) }
+    requires { NoRules signature.now }
+    ensures ok { IfOk result (λ e. IsEntryOf signature.now command.now (inferred_for signature.now command.now budget) e) }
+    ensures accepted { IfOk result (λ _. due signature.now command.now budget ≡ Verdict.Accepted) }
     ensures no_rules { IfOk result (λ e. AddsNoRules (plain_entry e)) }
-    ensures err { IfErr result (λ v. IsVerdictOrMemory (verdict_of (plain_signature signature.now) (plain_command command.now) budget) v) }
+    ensures err { IfErr result (λ v. IsDue signature.now command.now budget v) }
     ensures refused { IfErr result (λ v. ¬ (v ≡ Verdict.Accepted)) }
 {
     let mut inferred = None;
@@ -131,8 +126,8 @@ fn check_declaration(
     body: &Option<Term>,
     left: &mut u64,
 ) -> Result<(), TypeFault>
-    requires { HasNoRules (plain_signature signature.now) }
-    ensures { GivesFit (declaration_checked (plain_signature signature.now) (maybe_tree typ.now) (maybe_tree body.now) left.old) result left.new }
+    requires { NoRules signature.now }
+    ensures { ChecksDeclaration signature.now typ.now body.now left.old result left.new }
 {
     match typ {
         Some(typ) => {
@@ -160,8 +155,8 @@ fn check_type(
     typ: &Term,
     left: &mut u64,
 ) -> Result<Term, TypeFault>
-    requires { HasNoRules (plain_signature signature.now) }
-    ensures { GivesType (sort_of (plain_signature signature.now) [] [] (tree typ.now) left.old) result left.new }
+    requires { NoRules signature.now }
+    ensures { GivesSort signature.now typ.now left.old result left.new }
 {
     let mut context = Context::new(alloc);
     match infer(alloc, signature, &mut context, typ, left) {
@@ -178,8 +173,8 @@ fn check_body(
     body: &Option<Term>,
     left: &mut u64,
 ) -> Result<(), TypeFault>
-    requires { HasNoRules (plain_signature signature.now) }
-    ensures { GivesFit (body_checked (plain_signature signature.now) (tree typ.now) (maybe_tree body.now) left.old) result left.new }
+    requires { NoRules signature.now }
+    ensures { ChecksBody signature.now typ.now body.now left.old result left.new }
 {
     match body {
         Some(body) => {
@@ -199,8 +194,8 @@ fn infer_body(
     body: &Term,
     left: &mut u64,
 ) -> Result<Term, TypeFault>
-    requires { HasNoRules (plain_signature signature.now) }
-    ensures { GivesType (body_type (plain_signature signature.now) (tree body.now) left.old) result left.new }
+    requires { NoRules signature.now }
+    ensures { GivesBodyType signature.now body.now left.old result left.new }
 {
     let mut context = Context::new(alloc);
     match infer(alloc, signature, &mut context, body, left) {
@@ -218,7 +213,7 @@ pub fn entry_of(
     command: &Scoped,
     inferred: Option<Term>,
 ) -> Result<Entry, NoMemory>
-    ensures value { IfOk result (λ e. plain_entry e ≡ entry_of (plain_signature signature.now) (plain_command command.now) (maybe_tree inferred)) }
+    ensures value { IfOk result (λ e. IsEntryOf signature.now command.now (maybe_tree inferred) e) }
     ensures no_rules { IfOk result (λ e. AddsNoRules (plain_entry e)) }
 {
     match command {
@@ -233,6 +228,18 @@ pub fn entry_of(
         }
         Scoped::Rules(_) => Ok(Entry::Rules(Listed::new(alloc))),
     }
+}
+
+/// Adds the entry of an accepted command to the signature.
+pub fn add_entry(signature: &mut Signature, entry: Entry) -> Result<(), NoMemory>
+    requires signature { NoRules signature.old }
+    requires entry { AddsNoRules (plain_entry entry) }
+    ensures ok { OnOk result (plain_signature signature.new ≡ plain_signature signature.old ++ plain_entry entry ∷ []) }
+    ensures no_rules { OnOk result (NoRules signature.new) }
+    ensures err { OnErr result (plain_signature signature.new ≡ plain_signature signature.old) }
+{
+    signature.entries.push(entry)?;
+    Ok(())
 }
 
 /// The declared type without annotations, or the inferred one.

@@ -1,12 +1,9 @@
 //! The comparison of two terms, by a stack of pairs.
-ghost use Rattle.std.specs.Prelude.{◌≡◌, false, [], ◌∷◌, IfOk, Some, None, if◌then◌else◌};
+ghost use Rattle.std.specs.Prelude.{◌≡◌, false, [], ◌∷◌, IfOk};
 ghost use Rattle.dk_model.specs.Trees.{tree};
-ghost use Rattle.dk_model.specs.Signatures.{plain_signature};
-ghost use Rattle.dk_model.specs.Evaluation.{comparison_of};
-ghost use Rattle.dk_model.specs.Verdicts.{HasNoRules};
 ghost use Rattle.plain_check.specs.Machine.{is_application};
-ghost use Rattle.plain_check.specs.Pending.{pending, parts_before};
-ghost use Rattle.plain_check.specs.Given.{GivesBool};
+ghost use Rattle.plain_check.specs.Pending.{pending};
+ghost use Rattle.plain_check.specs.Clauses.{NoRules, Compares, PutsParts};
 
 use crate::evaluate::whnf;
 use crate::fault::Stop;
@@ -22,8 +19,8 @@ pub fn same(
     u: &Term,
     left: &mut u64,
 ) -> Result<bool, Stop>
-    requires { HasNoRules (plain_signature signature.now) }
-    ensures { GivesBool (comparison_of (plain_signature signature.now) left.old (tree t.now) (tree u.now)) result left.new }
+    requires { NoRules signature.now }
+    ensures { Compares signature.now t.now u.now left.old result left.new }
 {
     let mut work = pair(alloc, t, u)?;
     while let Some(pair) = work.pop() {
@@ -61,7 +58,7 @@ fn pair(alloc: Global, t: &Term, u: &Term) -> Result<Vec<(Term, Term)>, NoMemory
 /// Puts the parts of two weak head forms on the stack, the first one on top; false where their heads differ.
 #[tactic(auto, using(crate::proofs::Comparing::pending_pushed, crate::proofs::Comparing::parts_pushed))]
 fn parts(t: Term, u: Term, work: &mut Vec<(Term, Term)>) -> Result<bool, NoMemory>
-    ensures { IfOk result (λ alike. parts_before (tree t) (tree u) (pending work.old.items) ≡ (if alike then Some (pending work.new.items) else None)) }
+    ensures { IfOk result (λ alike. PutsParts t u work.old.items alike work.new.items) }
 {
     let mut t = t;
     let mut u = u;
@@ -84,7 +81,7 @@ fn parts(t: Term, u: Term, work: &mut Vec<(Term, Term)>) -> Result<bool, NoMemor
 #[tactic(auto, using(crate::proofs::Comparing::pending_pushed))]
 fn heads(t: Term, u: Term, work: &mut Vec<(Term, Term)>) -> Result<bool, NoMemory>
     requires { is_application (tree t) ≡ false }
-    ensures { IfOk result (λ alike. parts_before (tree t) (tree u) (pending work.old.items) ≡ (if alike then Some (pending work.new.items) else None)) }
+    ensures { IfOk result (λ alike. PutsParts t u work.old.items alike work.new.items) }
 {
     match (t, u) {
         (Term::Star, Term::Star) => Ok(true),

@@ -1,11 +1,8 @@
 //! The weak head form, by turns over a head and a stack of arguments.
 ghost use Rattle.std.specs.Prelude.{◌≡◌, ◌≤◌, IfOk, false};
 ghost use Rattle.dk_model.specs.Trees.{tree};
-ghost use Rattle.dk_model.specs.Signatures.{plain_signature};
-ghost use Rattle.dk_model.specs.Evaluation.{whnf_of};
-ghost use Rattle.dk_model.specs.Verdicts.{HasNoRules};
-ghost use Rattle.plain_check.specs.Machine.{trees, wound, is_application, TurnsTo};
-ghost use Rattle.plain_check.specs.Given.{GivesTerm};
+ghost use Rattle.plain_check.specs.Machine.{is_application};
+ghost use Rattle.plain_check.specs.Clauses.{NoRules, Evaluates, TakesTurn};
 
 use crate::fault::Stop;
 use crate::machine::{body_at, unwind, wind};
@@ -24,8 +21,8 @@ pub enum Turn {
 /// The weak head form. Each turn takes a unit: a contraction, a definition unfolded, or the end.
 #[tactic(auto, using(crate::proofs::Turning::whnf_turns, crate::proofs::Turning::whnf_stands, crate::proofs::Turning::whnf_ends))]
 pub fn whnf(alloc: Global, signature: &Signature, term: Term, left: &mut u64) -> Result<Term, Stop>
-    requires { HasNoRules (plain_signature signature.now) }
-    ensures gives { GivesTerm (whnf_of (plain_signature signature.now) left.old (tree term)) result left.new }
+    requires { NoRules signature.now }
+    ensures gives { Evaluates signature.now term left.old result left.new }
     ensures spent { left.new ≤ left.old }
 {
     let mut stack = Vec::new(alloc);
@@ -51,7 +48,7 @@ fn take_turn(
     stack: &mut Vec<Term>,
 ) -> Result<Turn, NoMemory>
     requires { is_application (tree head) ≡ false }
-    ensures { IfOk result (λ turn. TurnsTo (plain_signature signature.now) (wound (tree head) (trees stack.old.items)) turn (trees stack.new.items)) }
+    ensures { IfOk result (λ turn. TakesTurn signature.now head stack.old.items turn stack.new.items) }
 {
     match head {
         Term::Abs(annotation, body) => match annotation {

@@ -2,9 +2,9 @@
 ghost use Rattle.std.specs.Prelude.{◌≡◌, ℕ, IfOk};
 ghost use Rattle.dk_model.specs.Trees.{tree};
 ghost use Rattle.dk_model.specs.Signatures.{plain_signature};
-ghost use Rattle.dk_model.specs.Typing.{as_product, as_sort, as_star, as_same, parts_of_product, a_sort, the_star, symbol_type, not_kind};
-ghost use Rattle.dk_model.specs.Verdicts.{HasNoRules};
-ghost use Rattle.plain_check.specs.Given.{GivesType, GivesProduct, GivesFit, fault_of};
+ghost use Rattle.dk_model.specs.Typing.{symbol_type, not_kind};
+ghost use Rattle.plain_check.specs.Given.{GivesType, fault_of};
+ghost use Rattle.plain_check.specs.Clauses.{NoRules, ExpectsProduct, ExpectsSort, ExpectsStar, ExpectsSame};
 
 use crate::compare::same;
 use crate::evaluate::whnf;
@@ -37,8 +37,8 @@ pub fn as_product(
     typ: Term,
     left: &mut u64,
 ) -> Result<Product, TypeFault>
-    requires { HasNoRules (plain_signature signature.now) }
-    ensures { GivesProduct (as_product (plain_signature signature.now) code (tree typ) left.old) result left.new }
+    requires { NoRules signature.now }
+    ensures { ExpectsProduct signature.now code typ left.old result left.new }
 {
     match whnf(alloc, signature, typ, left) {
         Ok(found) => match found {
@@ -59,8 +59,8 @@ pub fn as_sort(
     typ: Term,
     left: &mut u64,
 ) -> Result<Term, TypeFault>
-    requires { HasNoRules (plain_signature signature.now) }
-    ensures { GivesType (as_sort (plain_signature signature.now) (tree typ) left.old) result left.new }
+    requires { NoRules signature.now }
+    ensures { ExpectsSort signature.now typ left.old result left.new }
 {
     match whnf(alloc, signature, typ, left) {
         Ok(found) => match found {
@@ -79,8 +79,8 @@ pub fn as_star(
     typ: Term,
     left: &mut u64,
 ) -> Result<(), TypeFault>
-    requires { HasNoRules (plain_signature signature.now) }
-    ensures { GivesFit (as_star (plain_signature signature.now) (tree typ) left.old) result left.new }
+    requires { NoRules signature.now }
+    ensures { ExpectsStar signature.now typ left.old result left.new }
 {
     match whnf(alloc, signature, typ, left) {
         Ok(found) => match found {
@@ -99,8 +99,8 @@ pub fn as_same(
     expected: &Term,
     left: &mut u64,
 ) -> Result<(), TypeFault>
-    requires { HasNoRules (plain_signature signature.now) }
-    ensures { GivesFit (as_same (plain_signature signature.now) (tree found.now) (tree expected.now) left.old) result left.new }
+    requires { NoRules signature.now }
+    ensures { ExpectsSame signature.now found.now expected.now left.old result left.new }
 {
     match same(alloc, signature, found, expected, left) {
         Ok(true) => Ok(()),

@@ -1,15 +1,11 @@
 //! Inference and checking (docs/typing.md).
 //!
 //! Applications are walked by a loop, so these functions nest as deep as brackets and binders do.
-ghost use Rattle.std.specs.Prelude.{◌≡◌, ◌+◌, ◌≤◌, ◌<◌, false, [], ◌∷◌, IfOk};
+ghost use Rattle.std.specs.Prelude.{◌≡◌, ◌+◌, ◌≤◌, ◌<◌, false, IfOk};
 ghost use Rattle.dk_model.specs.Trees.{tree, bare, annotated, product};
-ghost use Rattle.dk_model.specs.Signatures.{plain_signature};
-ghost use Rattle.dk_model.specs.Typing.{inferred, checked, application_type, sort_of};
-ghost use Rattle.dk_model.specs.Verdicts.{HasNoRules};
 ghost use Rattle.plain_check.specs.Machine.{is_application, wound};
-ghost use Rattle.plain_check.specs.Contexts.{context_of};
-ghost use Rattle.plain_check.specs.Spine.{behind_references, size, total_size, argument_type, domain_fits};
-ghost use Rattle.plain_check.specs.Given.{GivesType, GivesFit};
+ghost use Rattle.plain_check.specs.Spine.{behind_references, size, total_size};
+ghost use Rattle.plain_check.specs.Clauses.{NoRules, Infers, Checks, FitsDomain, Applies, Keeps};
 
 use crate::context::Context;
 use crate::expect::{as_product, as_same, as_sort, as_star, not_kind, symbol_type};
@@ -49,9 +45,9 @@ pub fn infer(
     term: &Term,
     left: &mut u64,
 ) -> Result<Term, TypeFault>
-    requires { HasNoRules (plain_signature signature.now) }
-    ensures gives { GivesType (inferred (plain_signature signature.now) [] (context_of context.old) (tree term.now) left.old) result left.new }
-    ensures kept { IfOk result (λ _. context_of context.new ≡ context_of context.old) }
+    requires { NoRules signature.now }
+    ensures gives { Infers signature.now context.old (tree term.now) left.old result left.new }
+    ensures kept { IfOk result (λ _. Keeps context.old context.new) }
 {
     let (head, arguments) = spine(alloc, term)?;
     let mut arguments = arguments;
@@ -77,10 +73,10 @@ fn infer_head(
     head: &Term,
     left: &mut u64,
 ) -> Result<Term, TypeFault>
-    requires no_rules { HasNoRules (plain_signature signature.now) }
+    requires no_rules { NoRules signature.now }
     requires head { is_application (tree head.now) ≡ false }
-    ensures gives { GivesType (inferred (plain_signature signature.now) [] (context_of context.old) (tree head.now) left.old) result left.new }
-    ensures kept { IfOk result (λ _. context_of context.new ≡ context_of context.old) }
+    ensures gives { Infers signature.now context.old (tree head.now) left.old result left.new }
+    ensures kept { IfOk result (λ _. Keeps context.old context.new) }
 {
     match head {
         Term::Star => Ok(Term::Kind),
@@ -106,9 +102,9 @@ fn infer_abstraction(
     body: &Term,
     left: &mut u64,
 ) -> Result<Term, TypeFault>
-    requires { HasNoRules (plain_signature signature.now) }
-    ensures gives { GivesType (inferred (plain_signature signature.now) [] (context_of context.old) (annotated (tree domain.now) (tree body.now)) left.old) result left.new }
-    ensures kept { IfOk result (λ _. context_of context.new ≡ context_of context.old) }
+    requires { NoRules signature.now }
+    ensures gives { Infers signature.now context.old (annotated (tree domain.now) (tree body.now)) left.old result left.new }
+    ensures kept { IfOk result (λ _. Keeps context.old context.new) }
 {
     match infer_domain(alloc, signature, context, domain, left) {
         Ok(()) => {}
@@ -137,9 +133,9 @@ fn infer_product(
     codomain: &Term,
     left: &mut u64,
 ) -> Result<Term, TypeFault>
-    requires { HasNoRules (plain_signature signature.now) }
-    ensures gives { GivesType (inferred (plain_signature signature.now) [] (context_of context.old) (product (tree domain.now) (tree codomain.now)) left.old) result left.new }
-    ensures kept { IfOk result (λ _. context_of context.new ≡ context_of context.old) }
+    requires { NoRules signature.now }
+    ensures gives { Infers signature.now context.old (product (tree domain.now) (tree codomain.now)) left.old result left.new }
+    ensures kept { IfOk result (λ _. Keeps context.old context.new) }
 {
     match infer_domain(alloc, signature, context, domain, left) {
         Ok(()) => {}
@@ -164,9 +160,9 @@ fn infer_domain(
     domain: &Term,
     left: &mut u64,
 ) -> Result<(), TypeFault>
-    requires { HasNoRules (plain_signature signature.now) }
-    ensures gives { GivesFit (domain_fits (plain_signature signature.now) (context_of context.old) (tree domain.now) left.old) result left.new }
-    ensures kept { IfOk result (λ _. context_of context.new ≡ context_of context.old) }
+    requires { NoRules signature.now }
+    ensures gives { FitsDomain signature.now context.old domain.now left.old result left.new }
+    ensures kept { IfOk result (λ _. Keeps context.old context.new) }
 {
     match infer(alloc, signature, context, domain, left) {
         Ok(found) => as_star(alloc, signature, found, left),
@@ -185,9 +181,9 @@ fn apply(
     argument: &Term,
     left: &mut u64,
 ) -> Result<Term, TypeFault>
-    requires { HasNoRules (plain_signature signature.now) }
-    ensures gives { GivesType (argument_type (plain_signature signature.now) (context_of context.old) (tree argument.now) (tree typ) left.old) result left.new }
-    ensures kept { IfOk result (λ _. context_of context.new ≡ context_of context.old) }
+    requires { NoRules signature.now }
+    ensures gives { Applies signature.now context.old argument.now typ left.old result left.new }
+    ensures kept { IfOk result (λ _. Keeps context.old context.new) }
 {
     let function = match as_product(alloc, signature, Code::E20, typ, left) {
         Ok(function) => function,
@@ -197,7 +193,11 @@ fn apply(
         Ok(()) => {}
         Err(fault) => return Err(fault),
     }
-    Ok(function.codomain.substitute(alloc, 0, &argument.erased(alloc)?)?)
+    Ok(
+        function
+            .codomain
+            .substitute(alloc, 0, &argument.erased(alloc)?)?,
+    )
 }
 
 /// That a term fits a type.
@@ -211,9 +211,9 @@ pub fn check(
     typ: &Term,
     left: &mut u64,
 ) -> Result<(), TypeFault>
-    requires { HasNoRules (plain_signature signature.now) }
-    ensures gives { GivesFit (checked (plain_signature signature.now) [] (context_of context.old) (tree term.now) (tree typ.now) left.old) result left.new }
-    ensures kept { IfOk result (λ _. context_of context.new ≡ context_of context.old) }
+    requires { NoRules signature.now }
+    ensures gives { Checks signature.now context.old (tree term.now) typ.now left.old result left.new }
+    ensures kept { IfOk result (λ _. Keeps context.old context.new) }
 {
     match term {
         Term::Abs(None, b) => check_bare(alloc, signature, context, b, typ, left),
@@ -236,9 +236,9 @@ fn check_bare(
     typ: &Term,
     left: &mut u64,
 ) -> Result<(), TypeFault>
-    requires { HasNoRules (plain_signature signature.now) }
-    ensures gives { GivesFit (checked (plain_signature signature.now) [] (context_of context.old) (bare (tree body.now)) (tree typ.now) left.old) result left.new }
-    ensures kept { IfOk result (λ _. context_of context.new ≡ context_of context.old) }
+    requires { NoRules signature.now }
+    ensures gives { Checks signature.now context.old (bare (tree body.now)) typ.now left.old result left.new }
+    ensures kept { IfOk result (λ _. Keeps context.old context.new) }
 {
     let expected = match as_product(alloc, signature, Code::E24, typ.copy(alloc)?, left) {
         Ok(expected) => expected,
@@ -265,9 +265,9 @@ fn check_annotated(
     typ: &Term,
     left: &mut u64,
 ) -> Result<(), TypeFault>
-    requires { HasNoRules (plain_signature signature.now) }
-    ensures gives { GivesFit (checked (plain_signature signature.now) [] (context_of context.old) (annotated (tree annotation.now) (tree body.now)) (tree typ.now) left.old) result left.new }
-    ensures kept { IfOk result (λ _. context_of context.new ≡ context_of context.old) }
+    requires { NoRules signature.now }
+    ensures gives { Checks signature.now context.old (annotated (tree annotation.now) (tree body.now)) typ.now left.old result left.new }
+    ensures kept { IfOk result (λ _. Keeps context.old context.new) }
 {
     let expected = match as_product(alloc, signature, Code::E24, typ.copy(alloc)?, left) {
         Ok(expected) => expected,

@@ -10,9 +10,10 @@ mod evaluate;
 mod expect;
 mod fault;
 mod infer;
+pub mod laws;
 mod machine;
 
-pub use check::{check_plain, enter_plain, entry_of, infer_plain, is_untyped};
+pub use check::{add_entry, check_plain, enter_plain, entry_of, infer_plain, is_untyped};
 
 #[cfg(test)]
 mod tests;

@@ -2,7 +2,7 @@
 ghost use Rattle.dk_model.specs.Signatures.{plain_signature};
 ghost use Rattle.dk_model.specs.Verdicts.{HasNoRules};
 
-use crate::enter_plain;
+use crate::{add_entry, enter_plain};
 use dk_model::{
     Code, Listed, NoMemory, Scoped, Signature, SymSort, Term, Verdict, make_annotated, make_app,
     make_bare, make_product,
@@ -43,31 +43,20 @@ fn two(alloc: Global) -> Result<Vec<Scoped>, NoMemory> {
 }
 
 /// The number of the first command that isn't accepted, and its verdict; or how many there are.
-#[tactic(auto, using(dk_model::proofs::Entries::no_rules_more))]
-fn outcome(
-    alloc: Global,
-    commands: &[Scoped],
-    budget: u64,
-) -> Result<(usize, Verdict), NoMemory> {
+fn outcome(alloc: Global, commands: &[Scoped], budget: u64) -> Result<(usize, Verdict), NoMemory> {
     let mut signature = Signature {
         entries: Listed::new(alloc),
     };
-    let mut number = 0;
-    for command in commands {
-        number += 1;
+    for (i, command) in commands.iter().enumerate() {
         match enter_plain(alloc, &signature, command, budget) {
-            Ok(entry) => signature.entries.push(entry)?,
-            Err(verdict) => return Ok((number, verdict)),
+            Ok(entry) => add_entry(&mut signature, entry)?,
+            Err(verdict) => return Ok((i + 1, verdict)),
         }
     }
-    Ok((number, Verdict::Accepted))
+    Ok((commands.len(), Verdict::Accepted))
 }
 
-fn after_two(
-    alloc: Global,
-    command: Scoped,
-    budget: u64,
-) -> Result<(usize, Verdict), NoMemory> {
+fn after_two(alloc: Global, command: Scoped, budget: u64) -> Result<(usize, Verdict), NoMemory> {
     let mut commands = two(alloc)?;
     commands.push(command)?;
     outcome(alloc, commands.as_slice(), budget)
@@ -132,7 +121,11 @@ fn a_theorem_takes_two_units(rt: HostRuntime) -> Result<(), Fail> {
     let alloc = rt.alloc();
     for (budget, verdict) in [(1, Verdict::Ended), (2, Verdict::Accepted)] {
         let command = theorem(Term::Sym(0), Term::Sym(1));
-        assert_eq!(rt; after_two(alloc, command, budget)?, (3, verdict), "at {budget}");
+        assert_eq!(rt;
+            after_two(alloc, command, budget)?,
+            (3, verdict),
+            "at {budget}"
+        );
     }
     Ok(())
 }
@@ -160,7 +153,11 @@ fn a_definition_unfolds_and_a_theorem_never_does(rt: HostRuntime) -> Result<(), 
         (SymSort::Theorem, 1000, Verdict::Refused(Code::E21)),
     ] {
         let commands = unfolding(alloc, sort)?;
-        assert_eq!(rt; outcome(alloc, commands.as_slice(), budget)?, (4, verdict), "at {budget}");
+        assert_eq!(rt;
+            outcome(alloc, commands.as_slice(), budget)?,
+            (4, verdict),
+            "at {budget}"
+        );
     }
     Ok(())
 }
@@ -180,5 +177,64 @@ fn bodies_of_abstractions_are_compared(rt: HostRuntime) -> Result<(), Fail> {
     commands.push(theorem(typ, Term::Sym(3)))?;
     let refused = Verdict::Refused(Code::E21);
     assert_eq!(rt; outcome(alloc, commands.as_slice(), 1000)?, (5, refused));
+    Ok(())
+}
+
+/// `f (f (.. x))` over `a : Type. x : a. f : a -> a.`
+fn nested(alloc: Global, depth: usize) -> Result<Vec<Scoped>, NoMemory> {
+    let mut commands = two(alloc)?;
+    commands.push(symbol(make_product(alloc, Term::Sym(0), Term::Sym(0))?))?;
+    let mut term = Term::Sym(1);
+    for _ in 0..depth {
+        term = make_app(alloc, Term::Sym(2), term)?;
+    }
+    commands.push(theorem(Term::Sym(0), term))?;
+    Ok(commands)
+}
+
+/// `f x .. x` over `a : Type. x : a. f : a -> .. -> a.`
+fn wide(alloc: Global, width: usize) -> Result<Vec<Scoped>, NoMemory> {
+    let mut commands = two(alloc)?;
+    let mut typ = Term::Sym(0);
+    let mut term = Term::Sym(2);
+    for _ in 0..width {
+        typ = make_product(alloc, Term::Sym(0), typ)?;
+        term = make_app(alloc, term, Term::Sym(1))?;
+    }
+    commands.push(symbol(typ))?;
+    commands.push(theorem(Term::Sym(0), term))?;
+    Ok(commands)
+}
+
+/// `y => .. => x` against `a -> .. -> a` over `a : Type. x : a. z : a.`
+fn binders(alloc: Global, depth: usize) -> Result<Vec<Scoped>, NoMemory> {
+    let mut commands = two(alloc)?;
+    commands.push(symbol(Term::Sym(0)))?;
+    let mut typ = Term::Sym(0);
+    let mut term = Term::Sym(1);
+    for _ in 0..depth {
+        typ = make_product(alloc, Term::Sym(0), typ)?;
+        term = make_bare(alloc, term)?;
+    }
+    commands.push(theorem(typ, term))?;
+    Ok(commands)
+}
+
+#[test]
+fn terms_at_the_limits_are_checked(rt: HostRuntime) -> Result<(), Fail> {
+    let alloc = rt.alloc();
+    let accepted = (4, Verdict::Accepted);
+    assert_eq!(rt;
+        outcome(alloc, nested(alloc, 1000)?.as_slice(), 1_000_000)?,
+        accepted
+    );
+    assert_eq!(rt;
+        outcome(alloc, wide(alloc, 1000)?.as_slice(), 1_000_000)?,
+        accepted
+    );
+    assert_eq!(rt;
+        outcome(alloc, binders(alloc, 1000)?.as_slice(), 1_000_000)?,
+        accepted
+    );
     Ok(())
 }
