@@ -1,8 +1,10 @@
--- The tokens that come out, call after call, where the bytes come in pieces.
-use Rattle.std.specs.Prelude.{ℕ, List, [], ◌∷◌, ◌++◌}
+-- The tokens that come out, call after call, where the bytes come in pieces; and the place behind some bytes.
+use Rattle.std.specs.Prelude.{ℕ, ◌+◌, List, [], ◌∷◌, ◌++◌, if◌then◌else◌, ◌==◌}
 use Rattle.dk_model.specs.declared.limits.Limits.{Limits}
 use Rattle.dk_lexer.specs.declared.token.Token.{Token}
 use Rattle.dk_lexer.specs.declared.lexer.Lexer.{Lexer}
+use Rattle.dk_lexer.specs.declared.place.Place.{Place}
+use Rattle.dk_lexer.specs.Tokens.{behind}
 use Rattle.dk_lexer.specs.Given.{given}
 use Rattle.dk_lexer.specs.Steps.{step, start, lexer_from}
 
@@ -22,3 +24,13 @@ tokens_of_pieces limits pieces = pieces_from (start limits) pieces
 abbrev pub joined : List (List ℕ) → List ℕ
 joined [] = []
 joined (piece ∷ pieces) = piece ++ joined pieces
+
+-- the place behind some bytes
+abbrev pub place_behind : Place → List ℕ → Place
+place_behind here [] = here
+place_behind here (b ∷ bs) = place_behind (behind here b) bs
+
+-- the newlines among some bytes
+abbrev pub newlines : List ℕ → ℕ
+newlines [] = 0
+newlines (b ∷ bs) = (if b == 10 then 1 else 0) + newlines bs

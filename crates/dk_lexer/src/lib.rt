@@ -15,7 +15,7 @@ mod token;
 mod words;
 
 pub use fed::Fed;
-pub use laws::{front_law, pieces_law};
+pub use laws::{front_law, pieces_law, place_law};
 pub use lexer::Lexer;
 pub use place::Place;
 pub use token::{Sign, Token, TokenKind};
