@@ -124,6 +124,17 @@ fn is_term(found: &Option<Term>, expected: &Term) -> bool {
     }
 }
 
+fn is_definition(found: &Scoped, expected_typ: &Term, expected_body: &Term) -> bool {
+    match found {
+        Scoped::Declare { sort, typ, body } => {
+            *sort == SymSort::Definable
+                && is_term(typ, expected_typ)
+                && is_term(body, expected_body)
+        }
+        Scoped::Rules(_) => false,
+    }
+}
+
 /// `def d (x : a) : x -> a := y => x.`
 fn definition(alloc: Global) -> Result<Raw, NoMemory> {
     let mut params = Listed::new(alloc);
@@ -155,17 +166,7 @@ fn counts_binders_from_the_innermost(rt: HostRuntime) -> Result<(), Fail> {
     let body = make_annotated(alloc, Term::Sym(0), make_bare(alloc, Term::Var(1))?)?;
     let raw = definition(alloc)?;
     assert!(rt; names.count() < 2);
-    match names.scope(alloc, &raw)? {
-        Scoped::Declare {
-            sort,
-            typ: scoped_typ,
-            body: scoped_body,
-        } => {
-            assert_eq!(rt; sort, SymSort::Definable);
-            assert!(rt; is_term(&scoped_typ, &typ));
-            assert!(rt; is_term(&scoped_body, &body));
-        }
-        Scoped::Rules(_) => assert!(rt; false),
-    }
+    let scoped = names.scope(alloc, &raw)?;
+    assert!(rt; is_definition(&scoped, &typ, &body));
     Ok(())
 }
