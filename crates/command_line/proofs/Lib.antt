@@ -1,2 +1,3 @@
+pub mod FaultlessWalk
 pub mod ReadValues
 pub mod RequestParts

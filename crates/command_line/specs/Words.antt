@@ -25,9 +25,9 @@ file = record (new_rule (codes "file")) { required = true }
 abbrev pub check : App
 check = with_rule (with_rule (with_rule (new_app (codes "check")) budget) quiet) file
 
--- the program, which needs a subcommand
-abbrev pub alone : App
-alone = let a = new_app (codes "dk_check") in record a { top = record a.top { subcommand_required = true } }
+-- the program, which needs a subcommand; `help` isn't one
+abbrev pub needing : App → App
+needing a = record a { top = record a.top { subcommand_required = true; disable_help_subcommand = true } }
 
 unfoldable pub program : App
-program = with_subcommand alone check.top
+program = with_subcommand (needing (new_app (codes "dk_check"))) check.top
