@@ -1,14 +1,18 @@
 -- What each use of an argument keeps, a walk over the words keeps, where clap finds no fault.
-use Rattle.std.proofs.Common.{◌≡◌, ◌∙◌, ◌&&◌, ap, ℕ, zero, suc, Bool, true, false, [], ◌∷◌, ◌++◌, List, Option, Some, None, length, drop, refl, sym, subst, cond, codes, is_some}
+use Rattle.std.proofs.Common.{◌≡◌, ◌&&◌, ℕ, zero, suc, Bool, true, false, [], ◌∷◌, List, Option, Some, None, length, drop, refl, cond, is_some}
 use Rattle.std.specs.Prelude.{⊤, encode_utf8, slice_get}
 use Rattle.std.specs.List.{find, fold}
 use Rattle.std.specs.Option.{option_map_or}
 use Rattle.std.specs.Str.{bytes_eq, chars}
 use Rattle.clap.specs.Lexer.{long_of, short_of}
 use Rattle.clap.specs.Kinds.{Kinds, or_else}
+use Rattle.clap.specs.declared.error.kind.ErrorKind.{ErrorKind}
 use Rattle.clap.specs.Simple.{Shape}
 use Rattle.clap.specs.Faults.{bundle_step_fault, flag_word_fault, flags_fault, long_fault, option_fault, other_fault, positional_fault, react_fault, settle_fault, short_fault, step_fault, stray_fault, turn_fault, use_fault, walk_fault, word_fault}
-use Rattle.clap.specs.Walk.{Held, Names, Outcome, Row, Rule, Step, Text, Waiting, Walk, after_flag, after_step, arg_by_id, arg_by_index, arg_by_long, arg_by_short, attached_value, bundle, bundle_met, bundle_step, done, flag_met, idle, is_pending, long_met, long_or_other, next, option, option_met, option_word, plain, plain_word, positional, positional_held, reacted, refused, settled, settled_rows, short_met, short_or_plain, subcommand, subcommand_met, subcommand_or_other, takes_several, takes_values, to_positional, trailing, used, used_by_id, value, waits, walked, walked_from, word_met}
+use Rattle.clap.specs.Walk.{Held, Names, Outcome, Row, Rule, Step, Text, Waiting, Walk, after_flag, after_step, arg_by_id, arg_by_index, arg_by_long, arg_by_short, attached_value, bundle, bundle_met, bundle_step, done, flag_met, idle, is_pending, long_met, long_or_other, next, option, option_met, option_word, plain, plain_word, positional, reacted, refused, settled, settled_rows, short_met, short_or_plain, subcommand, subcommand_met, subcommand_or_other, takes_several, takes_values, to_positional, trailing, used, used_by_id, value, waits, walked, walked_from, word_met}
+
+pub some_kind : (k : ErrorKind) (ks : Kinds) → ◌≡◌ {A = Kinds} (k ∷ ks) [] → ⊥
+some_kind k ks e = cc
 
 -- no fault in two steps is none in each
 pub no_first : (a b : Kinds) → or_else a b ≡ [] → a ≡ []
@@ -17,10 +21,7 @@ no_first (k ∷ ks) b e = e
 
 pub no_second : (a b : Kinds) → or_else a b ≡ [] → b ≡ []
 no_second [] b e = e
-no_second (k ∷ ks) b e = absurd (some_kinds k ks e)
-  where
-    some_kinds : {X : Type 0} (x : X) (xs : List X) → x ∷ xs ≡ [] → ⊥
-    some_kinds x xs e = cc
+no_second (k ∷ ks) b e = absurd (some_kind k ks e)
 
 -- a use of the argument, if there is one, keeps G
 abbrev pub UseKeeps : (List Row → Type 0) → Bool → Option Rule → Type 0
@@ -28,7 +29,7 @@ UseKeeps G again None = ⊤
 UseKeeps G again (Some a) = (values : List Text) (rows : List Row) → G rows → use_fault again a values rows ≡ [] → G (used a values rows)
 
 module _ (G : List Row → Type 0) (c : List Rule) (again : Bool) (keeps : (p : Rule → Bool) → UseKeeps G again (find p c)) where
-  settled_keeps : (h : Held) → G h.rows → settle_fault c again h ≡ [] → G (settled c h).rows
+  pub settled_keeps : (h : Held) → G h.rows → settle_fault c again h ≡ [] → G (settled c h).rows
   settled_keeps h g e = go h.pending h.rows g e
     where
       by_id : (o : Option Rule) → UseKeeps G again o → (values : List Text) (rows : List Row) → G rows
