@@ -11,11 +11,18 @@ budgets = vp.Unsigned 1 4611686018427387904
 
 -- `--budget B`
 abbrev pub budget : Rule
-budget = record (new_rule (codes "budget")) { long = Some (codes "budget"); parser = Some budgets; defaults = codes "1000000000" ∷ [] }
+budget = record (new_rule (codes "budget")) {
+  long = Some (codes "budget");
+  parser = Some budgets;
+  defaults = codes "1000000000" ∷ [];
+}
 
 -- `--quiet`
 abbrev pub quiet : Rule
-quiet = record (new_rule (codes "quiet")) { long = Some (codes "quiet"); action = Some SetTrue }
+quiet = record (new_rule (codes "quiet")) {
+  long = Some (codes "quiet");
+  action = Some SetTrue;
+}
 
 -- FILE
 abbrev pub file : Rule
@@ -25,9 +32,11 @@ file = record (new_rule (codes "file")) { required = true }
 abbrev pub check : App
 check = with_rule (with_rule (with_rule (new_app (codes "check")) budget) quiet) file
 
--- the program, which needs a subcommand
-abbrev pub alone : App
-alone = let a = new_app (codes "dk_check") in record a { top = record a.top { subcommand_required = true } }
+-- the program, which needs a subcommand; `help` isn't one
+abbrev pub needing : App → App
+needing a = record a {
+  top = record a.top { subcommand_required = true; disable_help_subcommand = true };
+}
 
 unfoldable pub program : App
-program = with_subcommand alone check.top
+program = with_subcommand (needing (new_app (codes "dk_check"))) check.top

@@ -35,6 +35,7 @@ fn program<'a>(alloc: Global) -> Result<Command<'a>, AllocError>
         .arg(file)?;
     Command::new(alloc, "dk_check")
         .subcommand_required(true)
+        .disable_help_subcommand(true)
         .subcommand(check)
 }
 

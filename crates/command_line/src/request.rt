@@ -1,8 +1,9 @@
 //! The request that the words make.
-ghost use Rattle.std.specs.Prelude.{◌≡◌, ◌≤◌, IfOk, IfSome, map, option_and_then, option_map};
+ghost use Rattle.std.specs.Prelude.{◌≡◌, ◌≤◌, ◌↔◌, IfOk, IfSome, IsSome, map, option_and_then, option_map};
 ghost use Rattle.std.specs.String.{string_bytes};
 ghost use Rattle.clap.specs.Words.{found_of, rows_of, subcommand_rows_of};
 ghost use Rattle.command_line.specs.Requests.{
+  IsTaken,
   budget_in,
   plain_request,
   quiet_in,
@@ -33,6 +34,8 @@ pub struct Request<'a> {
 pub fn read_request<'a>(alloc: Global, words: &'a [String]) -> Result<Option<Request<'a>>, NoMemory>
     ensures ok { IfOk result (λ r.
         option_map plain_request r ≡ request_of (map string_bytes words.entry.now)) }
+    ensures taken { IfOk result (λ r.
+        IsSome r ↔ IsTaken (map string_bytes words.entry.now)) }
     ensures budget { IfOk result (λ r. IfSome r (λ q.
         (1 ≤ q.budget) × (q.budget ≤ 4611686018427387904))) }
 {
