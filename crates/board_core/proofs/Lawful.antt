@@ -252,8 +252,8 @@ free_tests marks es n f = let a = f.0 in let b = f.1 in both (ltb 0 n) (leb n (p
     (both (leb n (puts es)) (not (is_settled marks n) && not (list_any (claims n) es)) (le-leb n (puts es) b) (both (not (is_settled marks n)) (not (list_any (claims n) es)) (ap not f.2) (ap not f.3)))
 
 -- a sealed history with nothing held and nothing claimable is finished
-pub finished : (marks : List Bool) (es : List Event) → IsLawful marks es → list_any is_seal es ≡ true → ((w : ℕ) → HoldsNone w es) → ((n : ℕ) → ¬ IsClaimable marks es n) → IsFinished marks es
-finished marks es a sealed none drained = record {
+pub finished : (marks : List Bool) (es : List Event) → list_any is_seal es ≡ true → ((w : ℕ) → HoldsNone w es) → ((n : ℕ) → ¬ IsClaimable marks es n) → IsFinished marks es
+finished marks es sealed none drained = record {
   sealed = sealed;
   answered = λ n pos put unsettled below. go n below pos put unsettled (list_any (claims n) es) refl;
 }

@@ -48,7 +48,9 @@ pub record Keeps (room : ℕ) (marks : List Bool) (waiting : List ℕ) (verdicts
   pub fault_kept : IsFaultOf es fault
   pub end_kept : end ≡ end_of es
   -- places are left for the claims and answers to come, and for the seal
-  pub few_events : length es + length waiting + count_by is_none verdicts + cond (is_none end) 1 0 ≤ 3 * length marks + 1
+  pub few_events :
+      length es + length waiting + count_by is_none verdicts + cond (is_none end) 1 0
+      ≤ 3 * length marks + 1
   pub has_room : 3 * length marks + 1 ≤ room
   pub lawful : IsLawful marks es
 

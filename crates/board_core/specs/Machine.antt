@@ -1,5 +1,5 @@
--- The board machine: which event may come after a list of events, at a list of jobs, of which each was put as
--- settled or not (docs/board.md).
+-- The board machine: which event may come after a list of events, at a list of jobs, of which each
+-- was put as settled or not (docs/board.md).
 use Rattle.std.specs.Prelude.{◌≡◌, ◌⊎◌, ℕ, ◌+◌, ◌-◌, ◌<◌, ◌≤◌, Bool, true, false, List, [], ◌∷◌, ◌++◌, map, All, slice_get, Some}
 use Rattle.std.specs.List.{list_any}
 use Rattle.dk_model.specs.declared.code.Verdict.{Verdict}
@@ -27,7 +27,8 @@ IsClaimable marks before n =
 
 -- the worker w has claimed the number n and hasn't answered it
 abbrev pub Holds : ℕ → ℕ → List Event → Type 0
-Holds w n before = (list_any (claims_by w n) before ≡ true) × (list_any (answers_by w n) before ≡ false)
+Holds w n before =
+    (list_any (claims_by w n) before ≡ true) × (list_any (answers_by w n) before ≡ false)
 
 -- the worker w has answered all that it has claimed
 abbrev pub HoldsNone : ℕ → List Event → Type 0
@@ -61,10 +62,14 @@ IsLawful marks es = AllowedFrom marks [] es
 abbrev pub marks_of : {J : Type 0} → List (J × Bool) → List Bool
 marks_of jobs = map (λ j. j.1) jobs
 
--- an answered verdict is the one that the job is due, or want of memory
-abbrev pub IsDue : {J : Type 0} → (J → Verdict) → List (J × Bool) → Event → Type 0
-IsDue {J} due jobs (Answer _ n v) =
+-- the verdict is the one that the job of the number n is due, or want of memory
+abbrev pub IsDueTo : {J : Type 0} → (J → Verdict) → List (J × Bool) → ℕ → Verdict → Type 0
+IsDueTo {J} due jobs n v =
     (v ≡ Memory) ⊎ ((j : J × Bool) × (slice_get jobs (n - 1) ≡ Some j) × (v ≡ due j.0))
+
+-- an answered verdict is the one that its job is due
+abbrev pub IsDue : {J : Type 0} → (J → Verdict) → List (J × Bool) → Event → Type 0
+IsDue due jobs (Answer _ n v) = IsDueTo due jobs n v
 IsDue due jobs _ = Unit {0}
 
 -- a job may be settled only if it is early and due to be accepted
@@ -77,7 +82,8 @@ pub record IsLegal {J : Type 0} (due : J → Verdict) (early : J → Bool) (jobs
   pub verdicts_due : All (IsDue due jobs) es
   pub settled_early : All (MaySettle due early) jobs
 
--- a finished history: sealed, and every job below the first fault is answered, but for the settled ones
+-- a finished history: sealed, and every job below the first fault is answered, but for the
+-- settled ones
 pub record IsFinished (marks : List Bool) (es : List Event) : Type 0 where
   pub sealed : list_any is_seal es ≡ true
   pub answered :

@@ -4,7 +4,7 @@ ghost use Rattle.std.specs.List.{list_any};
 ghost use Rattle.std.specs.Arc.{arc_value};
 ghost use Rattle.board_core.specs.declared.event.Event.{Event};
 ghost use Rattle.board_core.specs.Events.{is_seal, is_fault, puts, end_of, verdict_at, is_settled, IsFirstFault};
-ghost use Rattle.board_core.specs.Machine.{Allowed, HoldsNone, IsLawful, marks_of};
+ghost use Rattle.board_core.specs.Machine.{Allowed, Holds, HoldsNone, IsLawful, marks_of};
 ghost use Rattle.board_core.specs.Shown.{added, put_on, ClaimReply, HoldsGiven, IsRefusal};
 
 mod replay;
@@ -140,9 +140,9 @@ impl<J> Book<J> {
 }
 
 impl<J: Drop> Book<J> {
-    /// Puts a job, which takes the next number, unless some verdict is other than `Accepted`. A settled job counts
-    /// as answered `Accepted` and is never claimed. Room for the job's claim and answer is made here. A refusal
-    /// changes nothing and hands the job back.
+    /// Puts a job, which takes the next number, unless some verdict is other than `Accepted`. A
+    /// settled job counts as answered `Accepted` and is never claimed. Room for the job's claim and
+    /// answer is made here. A refusal changes nothing and hands the job back.
     pub fn put(&mut self, job: Arc<J>, settled: bool) -> Result<u32, PutRefused<J>>
         requires few { length self.old.jobs < 4294967294 }
         requires unsealed { list_any is_seal self.old.events ≡ false }
@@ -180,8 +180,8 @@ impl<J: Drop> Book<J> {
         Ok(number)
     }
 
-    /// Gives the worker the least job that is neither settled nor claimed, if it lies below every fault. Takes no
-    /// memory, and the same time however many jobs there are.
+    /// Gives the worker the least job that is neither settled nor claimed, if it lies below every
+    /// fault. Takes no memory, and the same time however many jobs there are.
     pub fn claim(&mut self, worker: u32) -> Claimed<J>
         requires { HoldsNone worker self.old.events }
         ensures reply { ClaimReply self.old worker result self.new }
@@ -197,7 +197,7 @@ impl<J: Drop> Book<J> {
 
     /// Keeps the verdict of a job that this worker has claimed. Takes no memory.
     pub fn answer(&mut self, worker: u32, number: u32, verdict: Verdict)
-        requires { Allowed (marks_of self.old.jobs) self.old.events (Event.Answer worker number verdict) }
+        requires { Holds worker number self.old.events }
         ensures added { self.new ≡ added self.old (Event.Answer worker number verdict) }
         ensures idle { HoldsNone worker self.new.events }
     {

@@ -22,8 +22,8 @@ pub trait Checker {
         ensures { (result ≡ due job.now) ⊎ (result ≡ Memory) };
 }
 
-/// What a worker passes before and after it checks a job, so that a test can hold it up there. No answer depends
-/// on it.
+/// What a worker passes before and after it checks a job, so that a test can hold it up there. No
+/// answer depends on it.
 pub trait Gate {
     /// Called before the check of the job of this number.
     fn enter(&self, number: u32);

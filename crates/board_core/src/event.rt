@@ -6,8 +6,8 @@ use dk_model::Verdict;
 pub enum End {
     /// The input was read to its end.
     Whole,
-    /// The reader itself gave the command after the last job this verdict, never `Accepted`; before it that
-    /// command's line, from 1, or 0 where it has none.
+    /// The reader itself gave the command after the last job this verdict, never `Accepted`; before
+    /// it that command's line, from 1, or 0 where it has none.
     Fault(u32, Verdict),
     /// The input could not be read on after the last job.
     Unread,

@@ -1,7 +1,8 @@
 //! The board without threads: which events may happen, and the book that keeps them.
 //!
-//! A reader puts jobs, workers claim and answer them, and the reader seals the board. What they do is a list of
-//! events. `IsLawful` of specs/Machine.antt says which lists of events may happen (docs/board.md has it as a table).
+//! A reader puts jobs, workers claim and answer them, and the reader seals the board. What they do is
+//! a list of events. `IsLawful` of specs/Machine.antt says which lists of events may happen
+//! (docs/board.md has it as a table).
 //! Begin at `Book`, then specs/.
 #![tactic(auto)]
 

@@ -109,7 +109,8 @@ pub fn make_room<J>(
 /// Lets a job wait, if there is a share of it.
 pub fn let_wait<J: Drop>(waiting: &mut VecDeque<Waiting<J>>, number: u32, share: Option<Arc<J>>)
     requires { deque_len waiting.old < deque_capacity waiting.old }
-    ensures { waiters_in waiting.new.items ≡ waiters_in waiting.old.items ++ newcomers number (option_map arc_value share) }
+    ensures { waiters_in waiting.new.items ≡
+        waiters_in waiting.old.items ++ newcomers number (option_map arc_value share) }
 {
     if let Some(share) = share {
         waiting.push_back_reserved(Waiting { number, share });

@@ -2,8 +2,8 @@
 use dk_model::Verdict;
 use std::sync::Arc;
 
-/// A claimed job: its number, from 1, and a share of it. It can't be let go, only taken apart, so that whoever
-/// has claimed a job has to do something about it.
+/// A claimed job: its number, from 1, and a share of it. It can't be let go, only taken apart, so
+/// that whoever has claimed a job has to do something about it.
 pub struct Task<J> {
     pub number: u32,
     pub job: Arc<J>,
@@ -21,7 +21,8 @@ pub enum Claimed<J> {
 /// Why a job wasn't put. The job comes back.
 #[derive(Drop)]
 pub enum PutRefused<J> {
-    /// Some job was answered with a verdict other than `Accepted`: the least number of such a job, and its verdict.
+    /// Some job was answered with a verdict other than `Accepted`: the least number of such a job,
+    /// and its verdict.
     Stopped {
         number: u32,
         verdict: Verdict,

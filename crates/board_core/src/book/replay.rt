@@ -11,7 +11,8 @@ use crate::task::{Claimed, PutRefused, Task};
 use dk_model::NoMemory;
 
 impl<J: Drop> Book<J> {
-    /// The same book once more: each event of the history is done again at a new book, with shares of the same jobs.
+    /// The same book once more: each event of the history is done again at a new book, with shares
+    /// of the same jobs.
     pub fn replay(&self) -> Result<Book<J>, NoMemory>
         ensures { IfOk result (λ b. b ≡ self.now) }
     {

@@ -29,7 +29,9 @@ fn put<R: Abort>(rt: &R, alloc: Global, book: &mut Book<u32>, job: u32, settled:
 // The number and the job of a task, and whether the worker was told that all is over.
 fn claim(book: &mut Book<u32>, worker: u32) -> (Option<(u32, u32)>, bool)
     requires { HoldsNone worker book.old.events }
-    ensures holds { MatchOption result.0 (HoldsNone worker book.new.events) (λ t. Holds worker t.0 book.new.events) }
+    ensures holds { MatchOption result.0
+        (HoldsNone worker book.new.events)
+        (λ t. Holds worker t.0 book.new.events) }
     ensures others { (u n : ℕ) → u ≢ worker → Holds u n book.old.events → Holds u n book.new.events }
     ensures idle { (u : ℕ) → u ≢ worker → HoldsNone u book.old.events → HoldsNone u book.new.events }
     ensures jobs { book.new.jobs ≡ book.old.jobs }
