@@ -77,6 +77,16 @@ stopped_stands limits budget given b r stopped stands = by_stop r.stop refl stan
 pub going_on : (limits : Limits) (budget : ℕ) (given : List ℕ) (r : Reader) → r.stop ≡ None → StandsAt limits budget given r → GoesOnAfter limits budget given r
 going_on limits budget given r going stands = subst (λ (o : Option Outcome). stands_at limits budget given r o) going stands
 
+-- the lexer went on
+pub behind_lexer : {limits : Limits} {budget : ℕ} {ts : List Token} {r : Reader} (l : Lexer) → GoesOnBehind limits budget ts r → GoesOnBehind limits budget ts (record r { lexer = l })
+behind_lexer l goes = record {
+  limits_are = goes.limits_are;
+  budget_is = goes.budget_is;
+  parser = goes.parser;
+  no_fault = goes.no_fault;
+  leads = goes.leads;
+}
+
 -- memory ended in the lexer
 pub memory_stands : (limits : Limits) (budget : ℕ) (given : List ℕ) (b line : ℕ) (old new : Reader) → GoesOnAfter limits budget given old
     → line ≡ due_line limits (tokens limits given broken).tokens [] (begun_line limits given)
@@ -99,6 +109,28 @@ memory_stands limits budget given b line old new goes line_is theory stop =
         line_is = inr (refl, line_is);
       };
     })
+
+-- memory ends at the next byte
+pub memory_behind : (limits : Limits) (budget : ℕ) (given rest : List ℕ) (line number : ℕ) (r : Reader) → GoesOnAfter limits budget given r
+    → line ≡ due_line limits (tokens limits given broken).tokens [] (begun_line limits given)
+    → number ≡ length (checked_of r.theory).shown + 1 → MemoryIn limits budget (given ++ rest) (checked_of r.theory).shown number line
+memory_behind limits budget given rest line number r goes line_is number_is = record {
+  given = given;
+  rest = rest;
+  bytes_are = refl;
+  ending = broken;
+  memory = record {
+    taken = (tokens limits given broken).tokens;
+    coming = [];
+    tokens_are = sym (append-nil (tokens limits given broken).tokens);
+    done = (read_tokens limits (tokens limits given broken).tokens).commands;
+    theory = checked_of r.theory;
+    leads = goes.behind.leads;
+    names_are = refl;
+    number_is = number_is;
+    line_is = inr (refl, line_is);
+  };
+}
 
 -- ---- the end of a file
 

@@ -1,5 +1,9 @@
 pub mod Bytes
+pub mod Clauses
+pub mod Derived
+pub mod Ends
 pub mod Lexes
+pub mod Pieces
 pub mod Sound
 pub mod Stands
 pub mod Starts

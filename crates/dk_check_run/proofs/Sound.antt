@@ -10,11 +10,11 @@ use Rattle.scope_terms.specs.Scopes.{Numbered, Scoping, scoped, refused, names_a
 use Rattle.dk_check_run.specs.Outcomes.{scoped_entry}
 use Rattle.dk_check_run.specs.Theories.{Checked, IsSound, AcceptsWith, Adds}
 
-no_rules_more : (S : PlainSignature) (e : PlainEntry) → HasNoRules S → AddsNoRules e → HasNoRules (S ++ e ∷ [])
+pub no_rules_more : (S : PlainSignature) (e : PlainEntry) → HasNoRules S → AddsNoRules e → HasNoRules (S ++ e ∷ [])
 no_rules_more [] e none adds = (adds, tt)
 no_rules_more (d ∷ S) e none adds = (none.0, no_rules_more S e none.1 adds)
 
-entry_adds : (S : PlainSignature) (c : PlainCommand) (T : Option Tree) → AddsNoRules (entry_of S c T)
+pub entry_adds : (S : PlainSignature) (c : PlainCommand) (T : Option Tree) → AddsNoRules (entry_of S c T)
 entry_adds S (declare sort typ body) T = tt
 entry_adds S (rule_command rs) T = refl
 

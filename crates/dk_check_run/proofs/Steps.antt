@@ -43,7 +43,7 @@ leads_more {limits = limits} {budget = budget} {done = done} {c = c} w leads acc
     ∙ ap (λ n. with_names (c.shown ++ shown_name w.form ∷ []) (rest n)) (sym (length-append c.shown (shown_name w.form ∷ [])));
 }
 
-stopped_names : (xs : List (List ℕ)) (o : Outcome) → with_names xs (let r : FileReport = record { names = []; outcome = o } in r) ≡ (let r : FileReport = record { names = xs; outcome = o } in r)
+pub stopped_names : (xs : List (List ℕ)) (o : Outcome) → with_names xs (let r : FileReport = record { names = []; outcome = o } in r) ≡ (let r : FileReport = record { names = xs; outcome = o } in r)
 stopped_names xs o = ap (λ ns. let f : FileReport = record { names = ns; outcome = o } in f) (append-nil xs)
 
 by_other : (v : Verdict) (n : ℕ) (w : WrittenCommand) (rest : FileReport) → v ≢ verdict.Accepted → by_verdict v n w rest ≡ (let r : FileReport = record { names = []; outcome = Stopped (n + 1) w.line v } in r)

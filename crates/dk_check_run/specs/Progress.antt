@@ -12,6 +12,7 @@ use Rattle.dk_parser.specs.Parsing.{parsing_after}
 use Rattle.dk_parser.specs.Views.{parsing}
 use Rattle.dk_parser.specs.Reading.{Tail, read, read_tokens, reading_of}
 use Rattle.dk_parser.specs.Written.{WrittenCommand}
+use Rattle.verdict_book.specs.Report.{IsFault}
 use Rattle.verdict_book.specs.declared.outcome.Outcome.{Outcome}
 use Rattle.verdict_book.specs.declared.outcome.Outcome.TheVariants.{Accepted, Stopped, Unread}
 use Rattle.dk_check_run.specs.declared.reader.Reader.{Reader}
@@ -106,6 +107,19 @@ pub record IsReady (r : Reader) : Type 0 where
 abbrev pub stop_by : ℕ → ℕ → Verdict → Option Outcome
 stop_by count line verdict.Accepted = None
 stop_by count line v = Some (Stopped (count + 1) line v)
+
+-- the reader goes on, or has stopped at a verdict other than Accepted
+abbrev pub IsStop : Option Outcome → Type 0
+IsStop None = Unit {0}
+IsStop (Some (Accepted count)) = ⊥
+IsStop (Some (Unread number)) = ⊥
+IsStop (Some (Stopped number line v)) = IsFault v
+
+-- the outcome of a file of which no read failed
+abbrev pub EndsByItself : Outcome → Type 0
+EndsByItself (Accepted count) = Unit {0}
+EndsByItself (Unread number) = ⊥
+EndsByItself (Stopped number line v) = IsFault v
 
 -- a whole command was judged
 pub record JudgesWhole (old : Reader) (c : WrittenCommand) (new : Reader) : Type 0 where

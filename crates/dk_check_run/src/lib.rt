@@ -1,10 +1,17 @@
 //! Checks a file: reads it, checks its commands one after the other and writes the report. Begin at `run`.
 #![tactic(auto)]
 
+mod answering;
 mod reader;
 mod shelf_read;
 mod theory;
+mod top;
 
+pub use answering::answer;
 pub use reader::Reader;
 pub use shelf_read::read_book;
 pub use theory::Theory;
+pub use top::run;
+
+#[cfg(test)]
+mod tests;

@@ -11,7 +11,7 @@ ghost use Rattle.dk_model.specs.declared.limits.Limits.{Limits};
 ghost use Rattle.dk_parser.specs.Written.{written_command};
 ghost use Rattle.verdict_book.specs.declared.outcome.Outcome.{Outcome};
 ghost use Rattle.dk_check_run.specs.Theories.{checked_of};
-ghost use Rattle.dk_check_run.specs.Progress.{EndsWith, GoesOnBehind, IsReady, JudgesWhole, StandsAt, StandsAtLexed, StandsAtTokens, due_line, ended_outcome};
+ghost use Rattle.dk_check_run.specs.Progress.{EndsByItself, EndsWith, GoesOnBehind, IsReady, IsStop, JudgesWhole, StandsAt, StandsAtLexed, StandsAtTokens, due_line, ended_outcome};
 
 use crate::Theory;
 use dk_lexer::{Fed, Lexer, Token};
@@ -33,7 +33,10 @@ pub struct Reader {
 
 impl Reader {
     pub fn new(alloc: Global, limits: Limits, budget: u64) -> Result<Reader, NoMemory>
-        ensures { IfOk result (λ r. StandsAt limits budget [] r) }
+        requires { limits.commands < 4294967295 }
+        ensures stands { IfOk result (λ r. StandsAt limits budget [] r) }
+        ensures ready { IfOk result (λ r. IsReady r) }
+        ensures going { IfOk result (λ r. r.stop ≡ None) }
     {
         let parser = Parser::new(alloc, limits)?;
         let theory = Theory::new(alloc)?;
@@ -49,7 +52,7 @@ impl Reader {
 
     // Stops at the command that is due.
     fn stop_at(&mut self, line: u32, verdict: Verdict)
-        requires { length (checked_of self.old.theory).shown < 4294967295 }
+        requires few { length (checked_of self.old.theory).shown < 4294967295 }
         ensures { self.new ≡ record self.old { stop = Some (Outcome.Stopped (length (checked_of self.old.theory).shown + 1) line verdict) } }
     {
         let number = self.theory.shown().len() as u32 + 1;
@@ -61,6 +64,7 @@ impl Reader {
         requires ready { IsReady self.old }
         requires going { self.old.stop ≡ None }
         ensures judged { JudgesWhole self.old (written_command raw) self.new }
+        ensures stop { IsStop self.new.stop }
         ensures ready { self.new.stop ≡ None → IsReady self.new }
     {
         let line = raw.line;
@@ -77,6 +81,7 @@ impl Reader {
         ensures stands { (limits : Limits) (budget : ℕ) (bytes : List ℕ) (ending : Ending) (taken coming : List Token) →
             (tokens limits bytes ending).tokens ≡ taken ++ token ∷ coming → GoesOnBehind limits budget taken self.old →
             StandsAtTokens limits budget bytes ending (taken ++ token ∷ []) self.new }
+        ensures stop { IsStop self.new.stop }
         ensures ready { self.new.stop ≡ None → IsReady self.new }
         ensures lexer { self.new.lexer ≡ self.old.lexer }
     {
@@ -94,10 +99,12 @@ impl Reader {
 
     // Takes a token, where there is one and the reader hasn't stopped.
     fn maybe_token(&mut self, alloc: Global, token: Option<Token>)
+        requires stop { IsStop self.old.stop }
         requires ready { self.old.stop ≡ None → IsReady self.old }
         ensures stands { (limits : Limits) (budget : ℕ) (bytes : List ℕ) (ending : Ending) (taken coming : List Token) →
             (tokens limits bytes ending).tokens ≡ taken ++ with_token token coming → StandsAtTokens limits budget bytes ending taken self.old →
             StandsAtTokens limits budget bytes ending (taken ++ with_token token []) self.new }
+        ensures stop { IsStop self.new.stop }
         ensures ready { self.new.stop ≡ None → IsReady self.new }
         ensures lexer { self.new.lexer ≡ self.old.lexer }
     {
@@ -119,12 +126,14 @@ impl Reader {
         third: Option<Token>,
         fourth: Option<Token>,
     )
+        requires stop { IsStop self.old.stop }
         requires ready { self.old.stop ≡ None → IsReady self.old }
         ensures stands { (limits : Limits) (budget : ℕ) (bytes : List ℕ) (ending : Ending) (taken : List Token) →
             (tokens limits bytes ending).tokens
                 ≡ taken ++ with_token first (with_token second (with_token third (with_token fourth []))) →
             StandsAtTokens limits budget bytes ending taken self.old →
             StandsAtTokens limits budget bytes ending (tokens limits bytes ending).tokens self.new }
+        ensures stop { IsStop self.new.stop }
         ensures ready { self.new.stop ≡ None → IsReady self.new }
         ensures lexer { self.new.lexer ≡ self.old.lexer }
     {
@@ -143,6 +152,7 @@ impl Reader {
             (fed.fault ≢ None → place ≡ (tokens limits bytes ending).line) →
             GoesOnBehind limits budget before.tokens self.old →
             StandsAtLexed limits budget bytes ending self.new }
+        ensures stop { IsStop self.new.stop }
         ensures ready { self.new.stop ≡ None → IsReady self.new }
         ensures lexer { self.new.lexer ≡ self.old.lexer }
     {
@@ -173,9 +183,11 @@ impl Reader {
 
     /// Takes the next byte.
     pub fn feed(&mut self, alloc: Global, byte: u8)
+        requires stop { IsStop self.old.stop }
         requires ready { self.old.stop ≡ None → IsReady self.old }
         ensures stands { (limits : Limits) (budget : ℕ) (bytes : List ℕ) → StandsAt limits budget bytes self.old →
             StandsAt limits budget (bytes ++ byte ∷ []) self.new }
+        ensures stop { IsStop self.new.stop }
         ensures ready { self.new.stop ≡ None → IsReady self.new }
     {
         if self.stop.is_some() {
@@ -193,7 +205,9 @@ impl Reader {
 
     /// The end of the input: how the file ends.
     pub fn finish(&mut self, alloc: Global) -> Outcome
+        requires stop { IsStop self.old.stop }
         requires ready { self.old.stop ≡ None → IsReady self.old }
+        ensures itself { EndsByItself result }
         ensures ends { (limits : Limits) (budget : ℕ) (bytes : List ℕ) → StandsAt limits budget bytes self.old →
             EndsWith limits budget bytes (checked_of self.new.theory).shown result }
     {
@@ -212,7 +226,8 @@ impl Reader {
     // How a file ends that was read to its end without a fault.
     fn ended(&self) -> Outcome
         requires { IsReady self.now }
-        ensures { (limits : Limits) (ts : List Token) → parsing self.now.parser ≡ parsing_after limits ts →
+        ensures itself { EndsByItself result }
+        ensures value { (limits : Limits) (ts : List Token) → parsing self.now.parser ≡ parsing_after limits ts →
             result ≡ ended_outcome (length (checked_of self.now.theory).shown) (read_tokens limits ts).begun }
     {
         let count = self.theory.shown().len() as u32;
@@ -234,7 +249,8 @@ impl Reader {
     pub fn out_of_memory(&self) -> Outcome
         requires ready { IsReady self.now }
         requires going { self.now.stop ≡ None }
-        ensures { (limits : Limits) (budget : ℕ) (bytes : List ℕ) (rest : List ℕ) → StandsAt limits budget bytes self.now →
+        ensures itself { EndsByItself result }
+        ensures ends { (limits : Limits) (budget : ℕ) (bytes : List ℕ) (rest : List ℕ) → StandsAt limits budget bytes self.now →
             EndsWith limits budget (bytes ++ rest) (checked_of self.now.theory).shown result }
     {
         let number = self.theory.shown().len() as u32 + 1;

@@ -1,8 +1,9 @@
 //! Reads a book from a shelf, piece by piece.
 ghost use Rattle.std.specs.Prelude.{◌≡◌, ◌≤◌, ◌<◌, ◌+◌, ◌++◌, [], ℕ, List, Some, None, length};
+ghost use Rattle.verdict_book.specs.Report.{StopsAtFault};
 ghost use Rattle.dk_check_run.specs.Counts.{MayRiseAtUnread, RoseAtUnread};
 ghost use Rattle.dk_model.specs.declared.limits.Limits.{Limits};
-ghost use Rattle.dk_check_run.specs.Progress.{EndsOn, IsReady, StandsAt};
+ghost use Rattle.dk_check_run.specs.Progress.{EndsOn, IsReady, IsStop, StandsAt};
 ghost use Rattle.dk_check_run.specs.Theories.{checked_of};
 
 use crate::Reader;
@@ -12,9 +13,11 @@ use verdict_book::Outcome;
 
 // Takes the bytes of a piece.
 fn feed_piece(alloc: Global, reader: &mut Reader, bytes: &[u8])
+    requires stop { IsStop reader.old.stop }
     requires ready { reader.old.stop ≡ None → IsReady reader.old }
     ensures stands { (limits : Limits) (budget : ℕ) (given : List ℕ) → StandsAt limits budget given reader.old →
         StandsAt limits budget (given ++ bytes.now) reader.new }
+    ensures stop { IsStop reader.new.stop }
     ensures ready { reader.new.stop ≡ None → IsReady reader.new }
 {
     for byte in bytes {
@@ -31,6 +34,7 @@ pub fn read_book<H: Shelf>(alloc: Global, shelf: &mut H, reader: &mut Reader) ->
     ensures ends { (limits : Limits) (budget : ℕ) (bytes : List ℕ) → StandsAt limits budget [] reader.old →
         H.left shelf.old ≡ Some bytes →
         EndsOn limits budget bytes (H.left shelf.new) (checked_of reader.new.theory).shown result }
+    ensures fault { StopsAtFault result }
     ensures faults { RoseAtUnread (H.faults shelf.old) (H.faults shelf.new) result }
     ensures missed { MayRiseAtUnread (H.missed shelf.old) (H.missed shelf.new) result }
 {

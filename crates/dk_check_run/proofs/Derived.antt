@@ -1,0 +1,64 @@
+-- Where a file is accepted, each command has a derivation over the commands before it.
+use Rattle.std.proofs.Common.{◌≡◌, ◌≢◌, ℕ, ◌+◌, Bool, true, false, List, [], ◌∷◌, ◌++◌, refl, sym, ap, subst, ◌∙◌, arith}
+use Rattle.std.specs.Prelude.{Option, Some, None, if◌then◌else◌, nat_le}
+use Rattle.dk_model.specs.Limits.{standard}
+use Rattle.dk_model.specs.Scoping.{PlainCommand}
+use Rattle.dk_model.specs.Signatures.{PlainEntry, PlainSignature}
+use Rattle.dk_model.specs.Verdicts.{HasNoRules, entry_of, inferred_type, verdict_of}
+use Rattle.dk_model.specs.declared.code.Code.TheVariants.{E08}
+use Rattle.dk_model.specs.declared.code.Verdict.{Verdict}
+use Rattle.dk_model.specs.declared.code.Verdict.TheVariants as verdict
+use Rattle.dk_model.specs.declared.limits.Limits.{Limits}
+use Rattle.dk_lexer.specs.Tokens.{whole}
+use Rattle.dk_parser.specs.Reading.{Tail, read}
+use Rattle.dk_parser.specs.Written.{WrittenCommand, WrittenForm}
+use Rattle.scope_terms.specs.Scopes.{Scoping, scoped, refused, scope_of}
+use Rattle.typing_model.specs.Derivations.{HasDerivation}
+use Rattle.typing_model.proofs.Commands.{accepted_derives, unruled_numbered}
+use Rattle.typing_model.proofs.Rules.{comparison_joins, whnf_reduces}
+use Rattle.command_line.specs.Requests.{Request}
+use Rattle.verdict_book.specs.Report.{status_of}
+use Rattle.dk_check_run.specs.Outcomes.{FileReport, Theory, by_verdict, no_theory, report_from, scoped_entry, scoped_verdict, theory_after, verdict_after, verdict_at}
+use Rattle.dk_check_run.specs.Run.{AllDerived, Answers, AsksFor, IsDerived, ShelfState, SinkState}
+use Rattle.dk_check_run.proofs.Clauses.{own}
+use Rattle.dk_check_run.proofs.Sound.{entry_adds, no_rules_more}
+use Rattle.std.proofs.Common.{inl}
+
+scoped_derives : (S : PlainSignature) (budget : ℕ) (T : Theory) (s : Scoping PlainCommand) → T.signature ≡ S → HasNoRules S → scoped_verdict S budget s ≡ verdict.Accepted → IsDerived T s
+scoped_derives S budget T (refused code) same none e = cc
+scoped_derives S budget T (scoped c) same none e =
+    let numbered = unruled_numbered S none in
+    subst (λ (U : PlainSignature). HasDerivation U c) (sym same) (accepted_derives S (whnf_reduces S numbered) (comparison_joins S numbered) c budget e)
+
+entries_more : (S : PlainSignature) (budget : ℕ) (s : Scoping PlainCommand) → HasNoRules S → HasNoRules (S ++ scoped_entry S budget s)
+entries_more S budget (refused code) none = subst HasNoRules (sym (append_none S)) none
+  where
+    append_none : (xs : List PlainEntry) → xs ++ [] ≡ xs
+    append_none [] = refl
+    append_none (x ∷ xs) = ap (λ ys. x ∷ ys) (append_none xs)
+entries_more S budget (scoped c) none = no_rules_more S (entry_of S c (inferred_type S c budget)) none (entry_adds S c (inferred_type S c budget))
+
+-- below the limit of commands
+accepted_after : (b : Bool) (v : Verdict) → (if b then verdict.Refused E08 else v) ≡ verdict.Accepted → v ≡ verdict.Accepted
+accepted_after true v e = cc
+accepted_after false v e = e
+
+accepted_first : (v : Verdict) (n : ℕ) (c : WrittenCommand) (rest : FileReport) → status_of (by_verdict v n c rest).outcome ≡ 0 → (v ≡ verdict.Accepted) × (status_of rest.outcome ≡ 0)
+accepted_first verdict.Accepted n c rest e = (refl, e)
+accepted_first (verdict.Refused code) n c rest e = absurd (omega (arith, e))
+accepted_first verdict.Ended n c rest e = absurd (omega (arith, e))
+accepted_first verdict.Memory n c rest e = absurd (omega (arith, e))
+
+all_derived : (limits : Limits) (budget : ℕ) (T : Theory) (n : ℕ) (cs : List WrittenCommand) (tail : Tail) → HasNoRules T.signature → status_of (report_from limits budget T n cs tail).outcome ≡ 0 → AllDerived budget T cs
+all_derived limits budget T n [] tail none e = tt
+all_derived limits budget T n (c ∷ cs) tail none e =
+    let first = accepted_first (verdict_at limits budget T n c.form) n c (report_from limits budget (theory_after T budget c.form) (n + 1) cs tail) e in (
+      scoped_derives T.signature budget T (scope_of T.names c.form) refl none (accepted_after (nat_le limits.commands n) (verdict_after T budget c.form) first.0),
+      all_derived limits budget (theory_after T budget c.form) (n + 1) cs tail (entries_more T.signature budget (scope_of T.names c.form) none) first.1,
+    )
+
+pub derived : (request : Option Request) (old new : ShelfState) (before after : SinkState) (result : ℕ) → Answers request old new before after result
+    → (q : Request) (bytes : List ℕ) → AsksFor request old.books q bytes → result ≡ 0 → AllDerived q.budget no_theory (read standard bytes whole).commands
+derived request old new before after result answers q bytes asks zero =
+    let report = own request old new before after result answers q bytes asks (inl zero) in
+    all_derived standard q.budget no_theory 0 (read standard bytes whole).commands (read standard bytes whole).tail tt (sym report.status ∙ zero)

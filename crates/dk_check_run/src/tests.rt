@@ -1,0 +1,108 @@
+use crate::run;
+use dk_io::{Book, MemShelf, MemSink};
+use std::alloc::Global;
+use std::test::Fail;
+
+// A file's text, the status and the report, under the words `check f.dk`.
+const FILES: [(&str, u8, &str); 30] = [
+    ("", 0, "accepted 0\n"),
+    ("nat : Type.", 0, "ok 1 nat\naccepted 1\n"),
+    (
+        "nat : Type. z : nat. thm t : nat := z.",
+        0,
+        "ok 1 nat\nok 2 z\nok 3 t\naccepted 3\n",
+    ),
+    (
+        "a : Type. b : Type. x : a. thm t : b := x.",
+        1,
+        "ok 1 a\nok 2 b\nok 3 x\nrefused 4 line 1 E21\n",
+    ),
+    ("thm t : Type := Type.", 1, "refused 1 line 1 E21\n"),
+    ("a : Type. a : Type.", 1, "ok 1 a\nrefused 2 line 1 E11\n"),
+    (
+        "{|x y|} : Type. {|x y|} : Type.",
+        1,
+        "ok 1 {|x y|}\nrefused 2 line 1 E11\n",
+    ),
+    ("thm t : a := x. a : Type.", 1, "refused 1 line 1 E10\n"),
+    ("a : Type.\n\nb : c.", 1, "ok 1 a\nrefused 2 line 3 E10\n"),
+    ("a : Type. a.b : Type.", 1, "ok 1 a\nrefused 2 line 1 E02\n"),
+    ("a $ b.", 1, "refused 1 line 1 E01\n"),
+    (".", 1, "refused 1 line 1 E02\n"),
+    ("#NAME m.", 1, "refused 1 line 1 E06\n"),
+    ("x : _.", 1, "refused 1 line 1 E12\n"),
+    ("x : m.a.", 1, "refused 1 line 1 E10\n"),
+    (
+        "nat : Type. z : nat. x : z.",
+        1,
+        "ok 1 nat\nok 2 z\nrefused 3 line 1 E22\n",
+    ),
+    ("nat : Type", 1, "refused 1 line 1 E03\n"),
+    ("nat : Type. (; x", 1, "ok 1 nat\nrefused 2 line 1 E03\n"),
+    ("(; one (; two ;) ;) a : Type.", 0, "ok 1 a\naccepted 1\n"),
+    // The first fault in the file, not a later one.
+    (
+        "a : Type. b : Type. x : a. thm t : b := x. c c.",
+        1,
+        "ok 1 a\nok 2 b\nok 3 x\nrefused 4 line 1 E21\n",
+    ),
+    ("a : Type.\n(; b\n ;) x :\n ).", 1, "ok 1 a\nrefused 2 line 3 E02\n"),
+    ("a : Type.\n\n (; b", 1, "ok 1 a\nrefused 2 line 3 E03\n"),
+    ("a : Type.\n\n $", 1, "ok 1 a\nrefused 2 line 3 E01\n"),
+    ("a : Type.\r\nb : a.\r\n", 0, "ok 1 a\nok 2 b\naccepted 2\n"),
+    ("x : ((Type)).", 0, "ok 1 x\naccepted 1\n"),
+    ("x : (Type.", 1, "refused 1 line 1 E02\n"),
+    ("thm t : Type.", 1, "refused 1 line 1 E02\n"),
+    ("a : Type. thm t : Type := a.", 0, "ok 1 a\nok 2 t\naccepted 2\n"),
+    ("a : Type. thm t : Type := a. x : t.", 0, "ok 1 a\nok 2 t\nok 3 x\naccepted 3\n"),
+    (
+        "a : Type. thm t : Type := a. x : a. thm u : t := x.",
+        1,
+        "ok 1 a\nok 2 t\nok 3 x\nrefused 4 line 1 E21\n",
+    ),
+];
+
+fn shelf_of(
+    alloc: Global,
+    text: &str,
+    piece: usize,
+    failing: &[u64],
+) -> Result<MemShelf, Fail>
+    requires { 0 < piece }
+{
+    let book = Book {
+        name: String::from_str(alloc, "f.dk")?,
+        bytes: Vec::from_slice(alloc, text.as_bytes())?,
+    };
+    let mut books = Vec::new(alloc);
+    books.push(book)?;
+    Ok(MemShelf::new(
+        alloc,
+        books,
+        piece,
+        Vec::from_slice(alloc, failing)?,
+    )?)
+}
+
+fn words_of(alloc: Global, words: &[&str]) -> Result<Vec<String>, Fail> {
+    let mut all = Vec::new(alloc);
+    all.push(String::from_str(alloc, "dk_check")?)?;
+    for word in words {
+        all.push(String::from_str(alloc, word)?)?;
+    }
+    Ok(all)
+}
+
+#[test]
+fn reports_each_file(rt: HostRuntime) -> Result<(), Fail> {
+    let alloc = rt.alloc();
+    let words = words_of(alloc, &["check", "f.dk"])?;
+    for (text, status, report) in &FILES {
+        let mut shelf = shelf_of(alloc, text, 4096, &[])?;
+        let mut sink = MemSink::new(alloc, 1000, 4096, Vec::new(alloc))?;
+        let got = run(alloc, words.as_slice(), &mut shelf, &mut sink);
+        assert_eq!(rt; sink.bytes(), report.as_bytes());
+        assert_eq!(rt; got, *status);
+    }
+    Ok(())
+}
