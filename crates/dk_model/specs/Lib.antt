@@ -3,5 +3,12 @@ pub mod Codes
 pub mod Limits
 pub mod Trees
 pub mod Substitution
+pub mod Erasure
 pub mod Signatures
 pub mod Scoping
+pub mod Units
+pub mod Spines
+pub mod Selection
+pub mod Evaluation
+pub mod Typing
+pub mod Verdicts

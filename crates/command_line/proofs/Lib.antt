@@ -1,0 +1,5 @@
+pub mod CheckRows
+pub mod FaultlessWalk
+pub mod ReadValues
+pub mod RequestParts
+pub mod TakenWords

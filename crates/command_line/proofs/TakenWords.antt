@@ -1,0 +1,68 @@
+-- Words in which clap finds no fault ask something.
+use Rattle.std.proofs.Common.{◌≡◌, ◌∙◌, ◌||◌, Bool, true, false, [], ◌∷◌, List, Option, Some, None, drop, refl, sym, cond, codes, is_some}
+use Rattle.std.specs.Option.{option_and_then, option_map}
+use Rattle.std.specs.Str.{bytes_eq}
+use Rattle.clap.specs.Kinds.{Kinds}
+use Rattle.clap.specs.Faults.{built_fault, defaults_fault, entered_fault, fault_of, level_fault, settle_fault, walk_fault}
+use Rattle.clap.specs.Simple.{App, Shape, built, entered, filled, help_rule, names_of, new_shape, rows_at, subcommand_of}
+use Rattle.clap.specs.Walk.{Text, nothing_held, settled, walk, walk_from}
+use Rattle.clap.specs.declared.error.kind.ErrorKind.TheVariants.{MissingSubcommand}
+use Rattle.command_line.specs.Words.{program}
+use Rattle.command_line.specs.Requests.{request_in}
+use Rattle.command_line.proofs.CheckRows.{built_check, check_asks}
+use Rattle.command_line.proofs.FaultlessWalk.{no_first, no_second, some_kind}
+
+-- the program as clap builds it
+abbrev built_top : Shape
+built_top = record (new_shape (codes "dk_check")) {
+  rules = filled help_rule ∷ [];
+  is_leaf = false;
+  subcommand_required = true;
+  disable_help_subcommand = true;
+  is_built = true;
+}
+
+abbrev built_program : App
+built_program = record { top = built_top; subs = built_check ∷ [] }
+
+program_is : built program ≡ built_program
+unfolding program
+program_is = refl
+
+-- the fault of the words after the program's name
+fault_is : (words : List Text) → fault_of program words ≡ built_fault built_program nothing_held (drop 1 words)
+unfolding program
+fault_is words = refl
+
+-- the faults of a level whose subcommand ends with these
+abbrev level : List Text → Bool → Kinds → Kinds
+level words has below = level_fault built_top (names_of built_program) nothing_held words has below
+
+needs_one : (words : List Text) (below : Kinds) → level words false below ≡ [] → ⊥
+needs_one words below e =
+    let end = (walk built_top.rules (names_of built_program) nothing_held words).held in
+    let after = no_second (walk_fault built_top (names_of built_program) (walk_from nothing_held) words) _ e in
+    let settling = no_second below _ after in
+    let last = no_second (settle_fault built_top.rules false end) _ settling in
+    let checked = no_second (defaults_fault (settled built_top.rules end).rows built_top.rules) _ last in
+    some_kind MissingSubcommand [] checked
+
+-- what the subcommand at which the walk stopped asks
+entered_asks : (words : List Text) (stop : Option (Text × List Text)) → level words (is_some (entered built_program stop)) (entered_fault built_program stop) ≡ []
+    → is_some (option_and_then (λ found. request_in found.1) (entered built_program stop)) ≡ true
+entered_asks words None e = absurd (needs_one words [] e)
+entered_asks words (Some p) e = go (bytes_eq (codes "check") p.0 || false) e
+  where
+    go : (b : Bool) → level words (is_some (option_map (λ s. rows_at s p.1) (cond b (Some built_check) None)))
+        (Rattle.std.specs.Option.option_map_or (λ s. level_fault s [] nothing_held p.1 false []) (cond b (Some built_check) None) []) ≡ []
+        → is_some (option_and_then (λ found. request_in found.1) (option_map (λ s. rows_at s p.1) (cond b (Some built_check) None))) ≡ true
+    go false e = absurd (needs_one words [] e)
+    go true e =
+        let after = no_second (walk_fault built_top (names_of built_program) (walk_from nothing_held) words) _ e in
+        check_asks p.1 (no_first (level_fault built_check [] nothing_held p.1 false []) _ after)
+
+pub taken_asks : (words : List Text) → fault_of program words ≡ [] → is_some (option_and_then (λ found. request_in found.1) (subcommand_of program words)) ≡ true
+unfolding program
+taken_asks words e =
+    let stop = (walk built_top.rules (names_of built_program) nothing_held (drop 1 words)).stopped in
+    entered_asks (drop 1 words) stop (sym (fault_is words) ∙ e)

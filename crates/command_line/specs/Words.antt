@@ -1,0 +1,42 @@
+-- The program's command as clap knows it (docs/command-line.md).
+use Rattle.std.specs.Prelude.{[], ◌∷◌, Some, true, codes}
+use Rattle.clap.specs.Words.{App, Rule, new_app, new_rule, with_rule, with_subcommand}
+use Rattle.clap.specs.declared.builder.ArgAction.TheVariants.{SetTrue}
+use Rattle.clap.specs.declared.builder.value_parser.ValueParser.{ValueParser}
+use Rattle.clap.specs.declared.builder.value_parser.ValueParser.TheVariants as vp
+
+-- the numbers that may be a budget
+abbrev pub budgets : ValueParser
+budgets = vp.Unsigned 1 4611686018427387904
+
+-- `--budget B`
+abbrev pub budget : Rule
+budget = record (new_rule (codes "budget")) {
+  long = Some (codes "budget");
+  parser = Some budgets;
+  defaults = codes "1000000000" ∷ [];
+}
+
+-- `--quiet`
+abbrev pub quiet : Rule
+quiet = record (new_rule (codes "quiet")) {
+  long = Some (codes "quiet");
+  action = Some SetTrue;
+}
+
+-- FILE
+abbrev pub file : Rule
+file = record (new_rule (codes "file")) { required = true }
+
+-- `check [--budget B] [--quiet] FILE`
+abbrev pub check : App
+check = with_rule (with_rule (with_rule (new_app (codes "check")) budget) quiet) file
+
+-- the program, which needs a subcommand; `help` isn't one
+abbrev pub needing : App → App
+needing a = record a {
+  top = record a.top { subcommand_required = true; disable_help_subcommand = true };
+}
+
+unfoldable pub program : App
+program = with_subcommand (needing (new_app (codes "dk_check"))) check.top

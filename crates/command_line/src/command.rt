@@ -1,0 +1,49 @@
+//! The program's command, as clap reads it.
+ghost use Rattle.std.specs.Prelude.{◌≡◌, IfOk, map, false};
+ghost use Rattle.std.specs.String.{string_bytes};
+ghost use Rattle.clap.specs.Words.{FailsBy, HasMatchesOf, app_of, fault_of, rule_of};
+ghost use Rattle.command_line.specs.Words.{budget, program};
+
+use clap::builder::ValueParser;
+use clap::{Arg, ArgAction, ArgMatches, Command, Error};
+use std::alloc::{AllocError, Global};
+
+/// The largest budget; the least is 1 (docs/command-line.md).
+pub const LARGEST_BUDGET: u64 = 4_611_686_018_427_387_904;
+
+fn budget_argument<'a>(alloc: Global) -> Arg<'a>
+    ensures rule { rule_of result ≡ budget }
+    ensures local { result.global ≡ false }
+{
+    Arg::new(alloc, "budget")
+        .long("budget")
+        .default_value("1000000000")
+        .value_parser(ValueParser::unsigned(1, LARGEST_BUDGET))
+}
+
+fn program<'a>(alloc: Global) -> Result<Command<'a>, AllocError>
+    ensures { IfOk result (λ c. app_of c ≡ program) }
+{
+    let budget = budget_argument(alloc);
+    let quiet = Arg::new(alloc, "quiet")
+        .long("quiet")
+        .action(ArgAction::SetTrue);
+    let file = Arg::new(alloc, "file").required(true);
+    let check = Command::new(alloc, "check")
+        .arg(budget)?
+        .arg(quiet)?
+        .arg(file)?;
+    Command::new(alloc, "dk_check")
+        .subcommand_required(true)
+        .disable_help_subcommand(true)
+        .subcommand(check)
+}
+
+// What clap finds in the words.
+pub fn found_in<'a>(alloc: Global, words: &'a [String]) -> Result<ArgMatches<'a>, Error>
+    ensures matches { IfOk result (λ m. HasMatchesOf program (map string_bytes words.entry.now) m) }
+    ensures faults { FailsBy (fault_of program (map string_bytes words.entry.now)) result }
+{
+    let program = program(alloc)?;
+    program.try_get_matches_from(words)
+}

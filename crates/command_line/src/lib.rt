@@ -1,0 +1,15 @@
+//! The words of the command line: what do they ask of the program?
+//!
+//! Begin at `read_request`. The meaning is `request_of`, and where it is none the program answers
+//! with `usage_text` (docs/command-line.md).
+#![tactic(auto)]
+
+mod command;
+mod request;
+mod usage;
+
+pub use request::{Request, read_request};
+pub use usage::usage_text;
+
+#[cfg(test)]
+mod tests;

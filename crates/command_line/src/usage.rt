@@ -1,0 +1,9 @@
+ghost use Rattle.std.specs.Prelude.{◌≡◌};
+ghost use Rattle.command_line.specs.Usage.{usage_text};
+
+/// The text that answers words which the program doesn't take: one line for its command.
+pub fn usage_text() -> &'static [u8]
+    ensures { result.now ≡ usage_text }
+{
+    b"usage: dk_check check [--budget B] [--quiet] FILE\n"
+}

@@ -1,0 +1,103 @@
+//! The theory of the commands accepted so far, and the check of the next one.
+ghost use Rattle.std.specs.Prelude.{◌≡◌, ◌<◌, ◌≤◌, ◌∷◌, ◌++◌, [], IfOk, IfErr, OnOk, OnErr, length};
+ghost use Rattle.dk_model.specs.Signatures.{plain_entry};
+ghost use Rattle.dk_model.specs.Verdicts.{HasNoRules};
+ghost use Rattle.dk_parser.specs.Written.{written_form};
+ghost use Rattle.dk_check_run.specs.Outcomes.{shown_name, verdict_after};
+ghost use Rattle.dk_check_run.specs.Theories.{AcceptsWith, Adds, IsOtherVerdict, IsSound, Judges, checked_of, nothing_checked};
+
+use dk_model::{Code, Entry, Fault, Limits, Listed, NoMemory, Signature, Verdict};
+use dk_parser::{Raw, RawForm};
+use plain_check::enter_plain;
+use scope_terms::Names;
+use std::alloc::Global;
+
+/// What the commands accepted so far declare, and the names of their `ok` lines.
+#[derive(Drop)]
+pub struct Theory {
+    names: Names,
+    signature: Signature,
+    shown: Vec<Listed<u8>>,
+}
+
+// The declared name, for the `ok` line.
+fn shown_name(alloc: Global, form: RawForm) -> Listed<u8>
+    ensures { result ≡ shown_name (written_form form) }
+{
+    match form {
+        RawForm::Declare { name, .. } => name,
+        RawForm::Rules(_) => Listed::new(alloc),
+    }
+}
+
+impl Theory {
+    pub fn new(alloc: Global) -> Result<Theory, NoMemory>
+        ensures { IfOk result (λ t. checked_of t ≡ nothing_checked) }
+    {
+        let names = Names::new(alloc)?;
+        Ok(Theory {
+            names,
+            signature: Signature {
+                entries: Listed::new(alloc),
+            },
+            shown: Vec::new(alloc),
+        })
+    }
+
+    /// The names of the `ok` lines, in order.
+    pub fn shown(&self) -> &[Listed<u8>]
+        ensures { result.now ≡ (checked_of self.now).shown }
+    {
+        &self.shown
+    }
+
+    /// The verdict on the next command; an accepted one is added.
+    ///
+    /// After another verdict, want of memory too, the names of the `ok` lines are as before, and the theory is let go.
+    pub fn judge(&mut self, alloc: Global, limits: &Limits, budget: u64, raw: Raw) -> Verdict
+        requires sound { IsSound (checked_of self.old) }
+        requires few { limits.now.commands < 4294967296 }
+        ensures sound { result ≡ Verdict.Accepted → IsSound (checked_of self.new) }
+        ensures few { result ≡ Verdict.Accepted → length (checked_of self.new).shown ≤ limits.now.commands }
+        ensures judged { Judges limits.now budget (checked_of self.old) (written_form raw.form) result (checked_of self.new) }
+    {
+        if self.shown.len() >= limits.commands as usize {
+            return Verdict::Refused(Code::E08);
+        }
+        match self.checked_entry(alloc, budget, &raw) {
+            Ok(entry) => match self.add(entry, shown_name(alloc, raw.form)) {
+                Ok(()) => Verdict::Accepted,
+                Err(_) => Verdict::Memory,
+            },
+            Err(verdict) => verdict,
+        }
+    }
+
+    // The entry of the next command where it is accepted, whose name is declared then; else its verdict.
+    fn checked_entry(&mut self, alloc: Global, budget: u64, raw: &Raw) -> Result<Entry, Verdict>
+        requires few { (checked_of self.old).theory.names.count < 4294967295 }
+        requires no_rules { HasNoRules (checked_of self.old).theory.signature }
+        ensures ok { IfOk result (λ e. AcceptsWith (checked_of self.old) budget (written_form raw.now.form) (plain_entry e) (checked_of self.new)) }
+        ensures err { IfErr result (λ v. IsOtherVerdict (verdict_after (checked_of self.old).theory budget (written_form raw.now.form)) v) }
+        ensures kept { (checked_of self.new).shown ≡ (checked_of self.old).shown }
+    {
+        match self.names.scope(alloc, raw) {
+            Ok(scoped) => match enter_plain(alloc, &self.signature, &scoped, budget) {
+                Ok(entry) => Ok(entry),
+                Err(verdict) => Err(verdict),
+            },
+            Err(Fault::Refused(code)) => Err(Verdict::Refused(code)),
+            Err(Fault::NoMemory) => Err(Verdict::Memory),
+        }
+    }
+
+    // Adds the entry of an accepted command, and its name.
+    fn add(&mut self, entry: Entry, name: Listed<u8>) -> Result<(), NoMemory>
+        ensures ok { OnOk result (Adds (checked_of self.old) (plain_entry entry) name (checked_of self.new)) }
+        ensures err { OnErr result ((checked_of self.new).shown ≡ (checked_of self.old).shown) }
+    {
+        self.signature.entries.push(entry)?;
+        self.shown.push(name)?;
+        Ok(())
+    }
+}

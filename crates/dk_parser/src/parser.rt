@@ -1,0 +1,152 @@
+//! The parser: commands from tokens, one token at a time.
+ghost use Rattle.std.specs.Prelude.{◌≡◌, [], ◌∷◌, ◌++◌, ◌↔◌, List, IfOk, IsOk, Err, Ok, None, Some};
+ghost use Rattle.dk_lexer.specs.declared.token.Token.{Token};
+ghost use Rattle.dk_model.specs.declared.code.Fault.{Fault};
+ghost use Rattle.dk_model.specs.declared.limits.Limits.{Limits};
+ghost use Rattle.dk_parser.specs.declared.part.Part.{Part};
+ghost use Rattle.dk_parser.specs.declared.parser.Step.{Step};
+ghost use Rattle.dk_parser.specs.Parsing.{parsing_after, turn, turn_by_step};
+ghost use Rattle.dk_parser.specs.Reading.{AddsStep, Answers, finished, read_tokens};
+ghost use Rattle.dk_parser.specs.Views.{CameTo, parsing, plain_step};
+
+use crate::part::{Part, PartStep};
+use crate::terminal::Terminal;
+use crate::{Raw, RawForm};
+use dk_lexer::Token;
+use dk_model::{Code, Fault, Limits, NoMemory};
+use std::alloc::Global;
+use std::mem::replace;
+
+/// Why `feed` gave no step.
+pub type ParseFault = Fault;
+
+/// What a token came to.
+#[derive(Drop)]
+pub enum Step {
+    /// The command goes on.
+    More,
+    /// The token ended this command.
+    Command(Raw),
+}
+
+/// Reads commands from tokens that come one at a time.
+#[derive(Drop)]
+pub struct Parser {
+    limits: Limits,
+    begun: Option<u32>,
+    part: Part,
+    fault: Option<Code>,
+}
+
+impl Parser {
+    /// A parser before the first token. It takes no memory.
+    pub fn new(_alloc: Global, limits: Limits) -> Result<Parser, NoMemory>
+        ensures made { IsOk result }
+        ensures ok { IfOk result (λ parser. parsing parser ≡ parsing_after limits []) }
+    {
+        Ok(Parser {
+            limits,
+            begun: None,
+            part: Part::CommandDue,
+            fault: None,
+        })
+    }
+
+    /// Takes the next token.
+    ///
+    /// The codes are E06 for a word outside the profile, else E02 where no command begins with
+    /// the tokens of this command and this one, else E04 where it is on a level past the limit.
+    /// After a code every later call answers the same code, and nothing changes. After want of
+    /// memory the parser is to be dropped.
+    pub fn feed(&mut self, alloc: Global, token: Token) -> Result<Step, ParseFault>
+        ensures after { (limits : Limits) (ts : List Token) → parsing self.old ≡ parsing_after limits ts
+            → Answers result (parsing self.new ≡ parsing_after limits (ts ++ token ∷ [])) }
+        ensures adds { (limits : Limits) (ts : List Token) → parsing self.old ≡ parsing_after limits ts
+            → AddsStep (read_tokens limits ts) result (read_tokens limits (ts ++ token ∷ [])) }
+    {
+        self.take(alloc, token)
+    }
+
+    /// The end of the tokens: the code that `feed` answered, else E03 where a command has begun
+    /// and not ended.
+    pub fn finish(&self) -> Result<(), Code>
+        ensures { (limits : Limits) (ts : List Token) → parsing self.now ≡ parsing_after limits ts
+            → result ≡ finished (read_tokens limits ts) }
+    {
+        match (self.fault, self.begun) {
+            (Some(code), _) => Err(code),
+            (None, Some(_)) => Err(Code::E03),
+            (None, None) => Ok(()),
+        }
+    }
+
+    /// The line of the first token of the command that has begun and not ended, also where one
+    /// of its tokens was at fault.
+    pub fn begun(&self) -> Option<u32>
+        ensures { (limits : Limits) (ts : List Token) → parsing self.now ≡ parsing_after limits ts
+            → result ≡ (read_tokens limits ts).begun }
+    {
+        self.begun
+    }
+
+    fn take(&mut self, alloc: Global, token: Token) -> Result<Step, Fault>
+        ensures { CameTo (turn (parsing self.old) token) result (parsing self.new) }
+    {
+        if let Some(code) = self.fault {
+            return Err(Fault::Refused(code));
+        }
+        let line = self.begun.unwrap_or(token.line);
+        let x = Terminal::of(alloc, token)?;
+        let part = replace(&mut self.part, Part::CommandDue);
+        if let Terminal::Profile = x {
+            return self.refuse(line, Code::E06);
+        }
+        let step = part.next(alloc, x)?;
+        self.step(line, step)
+    }
+
+    fn step(&mut self, line: u32, step: PartStep) -> Result<Step, Fault>
+        ensures { CameTo (turn_by_step (parsing self.old) line (plain_step step)) result (parsing self.new) }
+    {
+        match step {
+            PartStep::Goes(part) => {
+                if part.level() > self.limits.levels as u64 {
+                    self.refuse(line, Code::E04)
+                } else {
+                    self.go_on(line, part)
+                }
+            }
+            PartStep::Ends(form) => self.end(line, form),
+            PartStep::Refuses => self.refuse(line, Code::E02),
+        }
+    }
+
+    fn go_on(&mut self, line: u32, part: Part) -> Result<Step, Fault>
+        ensures answer { result ≡ Ok Step.More }
+        ensures after { self.new ≡ record self.old { begun = Some line; part = part } }
+    {
+        self.begun = Some(line);
+        self.part = part;
+        Ok(Step::More)
+    }
+
+    fn end(&mut self, line: u32, form: RawForm) -> Result<Step, Fault>
+        ensures answer { result ≡ Ok (Step.Command (record { line = line; form = form })) }
+        ensures after { self.new ≡ record self.old { begun = None; part = Part.CommandDue } }
+    {
+        self.begun = None;
+        self.part = Part::CommandDue;
+        Ok(Step::Command(Raw { line, form }))
+    }
+
+    fn refuse(&mut self, line: u32, code: Code) -> Result<Step, Fault>
+        ensures answer { result ≡ Err (Fault.Refused code) }
+        ensures after { self.new
+            ≡ record self.old { begun = Some line; part = Part.CommandDue; fault = Some code } }
+    {
+        self.begun = Some(line);
+        self.part = Part::CommandDue;
+        self.fault = Some(code);
+        Err(Fault::Refused(code))
+    }
+}

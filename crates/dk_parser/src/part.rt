@@ -1,0 +1,142 @@
+//! Commands, one terminal at a time.
+ghost use Rattle.std.specs.Prelude.{◌≡◌, [], IfOk};
+ghost use Rattle.dk_parser.specs.Parsing.{body_next, part_level, part_next, type_next};
+ghost use Rattle.dk_parser.specs.Views.{plain_part, plain_step, plain_term};
+ghost use Rattle.dk_parser.specs.Written.{maybe_written, written, written_declare, written_form};
+
+use crate::term_part::TermPart;
+use crate::terminal::Terminal;
+use crate::{RawForm, RawTerm};
+use dk_lexer::Sign;
+use dk_model::{Listed, NoMemory, SymSort};
+use std::alloc::Global;
+
+/// A command that has begun, by what is due next.
+#[derive(Drop)]
+pub enum Part {
+    /// The first token.
+    CommandDue,
+    /// The name of a theorem.
+    NameDue,
+    /// The colon behind the name.
+    ColonDue(SymSort, Listed<u8>),
+    /// More of the type, or what ends it.
+    InType(SymSort, Listed<u8>, TermPart),
+    /// More of a theorem's body, or its dot.
+    InBody(Listed<u8>, RawTerm, TermPart),
+}
+
+/// What a terminal makes of a command that has begun.
+#[derive(Drop)]
+pub enum PartStep {
+    Goes(Part),
+    Ends(RawForm),
+    /// No command begins so.
+    Refuses,
+}
+
+impl Part {
+    /// Takes a terminal.
+    pub fn next(self, alloc: Global, x: Terminal) -> Result<PartStep, NoMemory>
+        ensures { IfOk result (λ step. plain_step step ≡ part_next (plain_part self) x) }
+    {
+        match (self, x) {
+            (Part::CommandDue, Terminal::Name(name)) => {
+                Ok(PartStep::Goes(Part::ColonDue(SymSort::Static, name)))
+            }
+            (Part::CommandDue, Terminal::Thm) => Ok(PartStep::Goes(Part::NameDue)),
+            (Part::NameDue, Terminal::Name(name)) => {
+                Ok(PartStep::Goes(Part::ColonDue(SymSort::Theorem, name)))
+            }
+            (Part::ColonDue(sort, name), Terminal::Sign(Sign::Colon)) => {
+                Ok(PartStep::Goes(Part::InType(sort, name, TermPart::Due(0))))
+            }
+            (Part::InType(sort, name, part), x) => type_next(alloc, sort, name, part, x),
+            (Part::InBody(name, typ, part), x) => body_next(alloc, name, typ, part, x),
+            _ => Ok(PartStep::Refuses),
+        }
+    }
+
+    /// The level of the last terminal.
+    pub fn level(&self) -> u64
+        ensures { result ≡ part_level (plain_part self.now) }
+    {
+        match self {
+            Part::InType(_, _, part) => part.level(),
+            Part::InBody(_, _, part) => part.level(),
+            _ => 0,
+        }
+    }
+}
+
+fn type_next(
+    alloc: Global,
+    sort: SymSort,
+    name: Listed<u8>,
+    part: TermPart,
+    x: Terminal,
+) -> Result<PartStep, NoMemory>
+    ensures { IfOk result (λ step. plain_step step ≡ type_next sort name (plain_term part) x) }
+{
+    match (sort, x) {
+        (SymSort::Static, Terminal::Sign(Sign::Dot)) => match part.done() {
+            Some(typ) => Ok(PartStep::Ends(declared(alloc, SymSort::Static, name, typ, None))),
+            None => Ok(PartStep::Refuses),
+        },
+        (SymSort::Theorem, Terminal::Sign(Sign::Defined)) => match part.done() {
+            Some(typ) => Ok(PartStep::Goes(Part::InBody(name, typ, TermPart::Due(0)))),
+            None => Ok(PartStep::Refuses),
+        },
+        (sort, x) => match part.next(x)? {
+            Some(part) => Ok(PartStep::Goes(Part::InType(sort, name, part))),
+            None => Ok(PartStep::Refuses),
+        },
+    }
+}
+
+fn body_next(
+    alloc: Global,
+    name: Listed<u8>,
+    typ: RawTerm,
+    part: TermPart,
+    x: Terminal,
+) -> Result<PartStep, NoMemory>
+    ensures { IfOk result (λ step. plain_step step ≡ body_next name (written typ) (plain_term part) x) }
+{
+    match x {
+        Terminal::Sign(Sign::Dot) => match part.done() {
+            Some(body) => Ok(PartStep::Ends(declared(
+                alloc,
+                SymSort::Theorem,
+                name,
+                typ,
+                Some(body),
+            ))),
+            None => Ok(PartStep::Refuses),
+        },
+        x => match part.next(x)? {
+            Some(part) => Ok(PartStep::Goes(Part::InBody(name, typ, part))),
+            None => Ok(PartStep::Refuses),
+        },
+    }
+}
+
+// A declaration without parameters.
+fn declared(
+    alloc: Global,
+    sort: SymSort,
+    name: Listed<u8>,
+    typ: RawTerm,
+    body: Option<RawTerm>,
+) -> RawForm
+    ensures { written_form result
+        ≡ written_declare sort name [] (Some (written typ)) (maybe_written body) }
+{
+    RawForm::Declare {
+        sort,
+        name,
+        params: Listed::new(alloc),
+        typ: Some(typ),
+        body,
+    }
+}

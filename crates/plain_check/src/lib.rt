@@ -1,0 +1,19 @@
+//! The check of one command on plain trees, by substitution: what the whole program answers by definition.
+//!
+//! Begin at `check_plain`.
+#![tactic(auto)]
+
+mod check;
+mod compare;
+mod context;
+mod evaluate;
+mod expect;
+mod fault;
+mod infer;
+pub mod laws;
+mod machine;
+
+pub use check::{add_entry, check_plain, enter_plain, entry_of, infer_plain, is_untyped};
+
+#[cfg(test)]
+mod tests;

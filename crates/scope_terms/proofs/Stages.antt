@@ -1,0 +1,37 @@
+-- Scoping of two parts, one after the other.
+use Rattle.std.proofs.Common.{◌≡◌, ap, ◌∙◌, sym, refl, List, [], ◌∷◌, ◌++◌}
+use Rattle.std.proofs.lemmas.List.{append_assoc}
+use Rattle.dk_model.specs.declared.code.Fault.{Fault}
+use Rattle.dk_model.specs.declared.code.Fault.TheVariants.{Refused, NoMemory}
+use Rattle.scope_terms.specs.Scopes.{Scoping, scoped, refused, one, both}
+use Rattle.scope_terms.specs.Answers.{IsFaultOf}
+
+pub one_scoped : {A B : Type 0} (f : A → B) (s : Scoping A) (a : A) (x : B) → s ≡ scoped a → x ≡ f a → one f s ≡ scoped x
+one_scoped f s a x is e = ap (one f) is ∙ ap scoped (sym e)
+
+pub one_fault : {A B : Type 0} (f : A → B) (s : Scoping A) (e : Fault) → IsFaultOf s e → IsFaultOf (one f s) e
+one_fault f s (Refused c) is = ap (one f) is
+one_fault f s NoMemory is = tt
+
+pub both_scoped : {A B C : Type 0} (f : A → B → C) (s : Scoping A) (t : Scoping B) (a : A) (b : B) (x : C) → s ≡ scoped a → t ≡ scoped b → x ≡ f a b → both f s t ≡ scoped x
+both_scoped f s t a b x is it e = ap (λ s'. both f s' t) is ∙ one_scoped (f a) t b x it e
+
+pub both_first : {A B C : Type 0} (f : A → B → C) (s : Scoping A) (t : Scoping B) (e : Fault) → IsFaultOf s e → IsFaultOf (both f s t) e
+both_first f s t (Refused c) is = ap (λ s'. both f s' t) is
+both_first f s t NoMemory is = tt
+
+pub both_second : {A B C : Type 0} (f : A → B → C) (s : Scoping A) (t : Scoping B) (a : A) (e : Fault) → s ≡ scoped a → IsFaultOf t e → IsFaultOf (both f s t) e
+both_second f s t a (Refused c) is it = ap (λ s'. both f s' t) is ∙ ap (one (f a)) it
+both_second f s t a NoMemory is it = tt
+
+-- a list that is scoped behind elements that are scoped already
+abbrev pub behind : {A : Type 0} → List A → Scoping (List A) → Scoping (List A)
+behind done s = one (λ xs. done ++ xs) s
+
+pub behind_none : {A : Type 0} (s : Scoping (List A)) → s ≡ behind [] s
+behind_none (scoped xs) = refl
+behind_none (refused c) = refl
+
+pub behind_more : {A : Type 0} (done : List A) (x : A) (s : Scoping (List A)) → behind done (one (λ xs. x ∷ xs) s) ≡ behind (done ++ x ∷ []) s
+behind_more done x (scoped xs) = ap scoped (sym (append_assoc done (x ∷ []) xs))
+behind_more done x (refused c) = refl

@@ -1,0 +1,171 @@
+-- Scoping: which binder, rule variable or symbol each name means (docs/scoping.md).
+use Rattle.std.specs.Prelude.{ℕ, ◌+◌, nat_eq, Bool, false, if◌then◌else◌, is_some, Option, Some, None, List, [], ◌∷◌, ◌++◌, length}
+use Rattle.std.specs.Option.{option_map, option_map_or}
+use Rattle.std.specs.Cmp.Lexicographic.{pointwise}
+use Rattle.std.specs.Map.{lookup}
+use Rattle.dk_model.specs.Trees.{Tree, star, symbol, variable, rule_variable, apply, bare, annotated, product}
+use Rattle.dk_model.specs.Scoping.{PlainLeft, left_symbol, left_rule_variable, left_variable, left_wildcard, left_guard, left_abstraction, left_apply, PlainScopedRule, PlainCommand, declare, rule_command}
+use Rattle.dk_model.specs.declared.code.Code.{Code}
+use Rattle.dk_model.specs.declared.code.Code.TheVariants.{E10, E11, E12, E13}
+use Rattle.dk_parser.specs.Written.{Written, written_name, written_qualified, written_star, written_wild, written_apply, written_arrow, written_product, written_bare, written_annotated, WrittenPattern, pattern_name, pattern_qualified, pattern_wild, pattern_guard, pattern_apply, pattern_bare, WrittenParam, WrittenNote, WrittenRule, WrittenForm, written_declare, written_rules}
+
+-- a name as it is spelt
+abbrev pub Spelling : Type 0
+Spelling = List ℕ
+
+-- what an abstraction, a product or a parameter binds; None is the wildcard, which binds nothing that can be named
+abbrev pub Binder : Type 0
+Binder = Option Spelling
+
+-- names, each with its number, and the number that is next
+pub record Numbered : Type 0 where
+  pub numbers : List (Spelling × ℕ)
+  pub count : ℕ
+
+abbrev pub no_names : Numbered
+no_names = record { numbers = []; count = 0 }
+
+abbrev pub same_spelling : Spelling → Spelling → Bool
+same_spelling = pointwise nat_eq
+
+-- the number of this name
+abbrev pub number_of : Numbered → Spelling → Option ℕ
+number_of names x = lookup (same_spelling x) names.numbers
+
+-- one more name, with the number that is next
+abbrev pub with_name : Numbered → Spelling → Numbered
+with_name names x = record { numbers = names.numbers ++ (x, names.count) ∷ []; count = names.count + 1 }
+
+-- the names after a command: a declaration adds its name, rules take a number without a name
+abbrev pub names_after : Numbered → WrittenForm → Numbered
+names_after names (written_declare sort x params typ body) = with_name names x
+names_after names (written_rules rs) = record { numbers = names.numbers; count = names.count + 1 }
+
+-- a value, or the first code from left to right
+pub data Scoping (A : Type 0) : Type 0 where
+  scoped : A → Scoping A
+  refused : Code → Scoping A
+
+abbrev pub one : {A B : Type 0} → (A → B) → Scoping A → Scoping B
+one f (refused c) = refused c
+one f (scoped a) = scoped (f a)
+
+-- the first is scoped before the second
+abbrev pub both : {A B C : Type 0} → (A → B → C) → Scoping A → Scoping B → Scoping C
+both f (refused c) s = refused c
+both f (scoped a) s = one (f a) s
+
+-- ---- what a name means
+
+pub data Meaning : Type 0 where
+  means_variable : ℕ → Meaning
+  means_rule_variable : ℕ → Meaning
+  means_symbol : ℕ → Meaning
+  unknown : Meaning
+
+abbrev pub binds : Spelling → Binder → Bool
+binds x None = false
+binds x (Some y) = same_spelling x y
+
+-- the place of the first that passes the test, the first of all being place `n`
+abbrev pub place_from : {A : Type 0} → ℕ → (A → Bool) → List A → Option ℕ
+place_from n test [] = None
+place_from n test (x ∷ xs) = if test x then Some n else place_from (n + 1) test xs
+
+-- the innermost binder so spelt, else the rule variable, else the symbol; `bound` has the binders, innermost first
+abbrev pub meaning_of : Numbered → Numbered → List Binder → Spelling → Meaning
+meaning_of names variables bound x =
+    option_map_or means_variable (place_from 0 (binds x) bound)
+    (option_map_or means_rule_variable (number_of variables x)
+    (option_map_or means_symbol (number_of names x) unknown))
+
+abbrev pub meant_term : Meaning → Scoping Tree
+meant_term (means_variable k) = scoped (variable k)
+meant_term (means_rule_variable k) = scoped (rule_variable k)
+meant_term (means_symbol k) = scoped (symbol k)
+meant_term unknown = refused E10
+
+abbrev pub meant_left : Meaning → Scoping PlainLeft
+meant_left (means_variable k) = scoped (left_variable k)
+meant_left (means_rule_variable k) = scoped (left_rule_variable k)
+meant_left (means_symbol k) = scoped (left_symbol k)
+meant_left unknown = refused E10
+
+-- ---- terms and left sides, under the binders `bound`, innermost first
+
+module _ (names variables : Numbered) where
+  abbrev pub term_of : List Binder → Written → Scoping Tree
+  term_of bound (written_name x) = meant_term (meaning_of names variables bound x)
+  term_of bound (written_qualified m x) = refused E10
+  term_of bound written_star = scoped star
+  term_of bound written_wild = refused E12
+  term_of bound (written_apply f a) = both apply (term_of bound f) (term_of bound a)
+  term_of bound (written_arrow a b) = both product (term_of bound a) (term_of (None ∷ bound) b)
+  term_of bound (written_product x a b) = both product (term_of bound a) (term_of (x ∷ bound) b)
+  term_of bound (written_bare x b) = one bare (term_of (x ∷ bound) b)
+  term_of bound (written_annotated x a b) = both annotated (term_of bound a) (term_of (x ∷ bound) b)
+
+  -- a term where there is one
+  abbrev pub maybe_term_of : List Binder → Option Written → Scoping (Option Tree)
+  maybe_term_of bound None = scoped None
+  maybe_term_of bound (Some t) = one Some (term_of bound t)
+
+  -- the binders of a left side aren't in scope in its guards
+  abbrev pub left_of : List Binder → WrittenPattern → Scoping PlainLeft
+  left_of bound (pattern_name x) = meant_left (meaning_of names variables bound x)
+  left_of bound (pattern_qualified m x) = refused E10
+  left_of bound pattern_wild = scoped left_wildcard
+  left_of bound (pattern_guard t) = one left_guard (term_of [] t)
+  left_of bound (pattern_apply f a) = both left_apply (left_of bound f) (left_of bound a)
+  left_of bound (pattern_bare x p) = one left_abstraction (left_of (x ∷ bound) p)
+
+-- ---- declarations
+
+pub record Declaration : Type 0 where
+  pub typ : Option Tree
+  pub body : Option Tree
+
+-- under a parameter of type `a` the type becomes a product and the body an abstraction
+abbrev pub with_parameter : Tree → Declaration → Declaration
+with_parameter a d = record { typ = option_map (product a) d.typ; body = option_map (annotated a) d.body }
+
+-- the type and the body of a declaration with these parameters, each of which sees the ones before it
+abbrev pub declaration_of : Numbered → List Binder → List WrittenParam → Option Written → Option Written → Scoping Declaration
+declaration_of names bound [] typ body = both (λ t b. record { typ = t; body = b }) (maybe_term_of names no_names bound typ) (maybe_term_of names no_names bound body)
+declaration_of names bound (p ∷ ps) typ body = both with_parameter (term_of names no_names bound p.typ) (declaration_of names (p.binder ∷ bound) ps typ body)
+
+-- ---- rules
+
+-- the annotations of a context's entries behind those named `before`; each sees the entries before it
+abbrev pub notes_of : Numbered → Numbered → List WrittenNote → Scoping (List (Option Tree))
+notes_of names before [] = scoped []
+notes_of names before (e ∷ es) =
+    if is_some (number_of before e.name) then refused E13 else (both (λ n ns. n ∷ ns) (maybe_term_of names before [] e.note) (notes_of names (with_name before e.name) es))
+
+-- the rule variables of a context, each with its place there
+abbrev pub variables_of : Numbered → List WrittenNote → Numbered
+variables_of before [] = before
+variables_of before (e ∷ es) = variables_of (with_name before e.name) es
+
+-- the left side, then the right side, with these rule variables
+abbrev pub sides_of : Numbered → Numbered → WrittenRule → Scoping (PlainLeft × Tree)
+sides_of names variables r = both (λ l t. (l, t)) (left_of names variables [] r.left) (term_of names variables [] r.right)
+
+-- a rule: its context, then its sides
+abbrev pub rule_of : Numbered → WrittenRule → Scoping PlainScopedRule
+rule_of names r =
+    both (λ notes sides. record { vars = length r.context; notes = notes; left = sides.0; right = sides.1 })
+    (notes_of names no_names r.context)
+    (sides_of names (variables_of no_names r.context) r)
+
+abbrev pub rules_of : Numbered → List WrittenRule → Scoping (List PlainScopedRule)
+rules_of names [] = scoped []
+rules_of names (r ∷ rs) = both (λ s ss. s ∷ ss) (rule_of names r) (rules_of names rs)
+
+-- ---- commands
+
+-- a command after the commands with these names; the declared name is looked at first
+abbrev pub scope_of : Numbered → WrittenForm → Scoping PlainCommand
+scope_of names (written_declare sort x params typ body) =
+    if is_some (number_of names x) then refused E11 else (one (λ d. declare sort d.typ d.body) (declaration_of names [] params typ body))
+scope_of names (written_rules rs) = one rule_command (rules_of names rs)

@@ -1,0 +1,80 @@
+//! The left side that a pattern stands for.
+ghost use Rattle.std.specs.Prelude.{◌≡◌, IfOk, IfErr};
+ghost use Rattle.dk_model.specs.Scoping.{plain_left, left_apply, left_abstraction};
+ghost use Rattle.scope_terms.specs.Scopes.{scoped};
+ghost use Rattle.scope_terms.specs.Answers.{IsFaultOf};
+ghost use Rattle.scope_terms.specs.Places.{named_left, left_sense};
+
+use crate::place::{Binders, Named, Scope, look_up};
+use crate::term::term_at;
+use dk_model::{Code, Fault, Left, Listed, NoMemory};
+use dk_parser::RawPat;
+use std::alloc::Global;
+
+fn make_left_app(alloc: Global, f: Left, a: Left) -> Result<Left, NoMemory>
+    ensures { IfOk result (λ l. plain_left l ≡ left_apply (plain_left f) (plain_left a)) }
+{
+    let f = Box::new(alloc, f)?;
+    let a = Box::new(alloc, a)?;
+    Ok(Left::App(f, a))
+}
+
+fn make_left_abs(alloc: Global, body: Left) -> Result<Left, NoMemory>
+    ensures { IfOk result (λ l. plain_left l ≡ left_abstraction (plain_left body)) }
+{
+    Ok(Left::Abs(Box::new(alloc, body)?))
+}
+
+/// The number of a bound variable in a left side.
+fn narrow(place: u64) -> Result<u32, NoMemory>
+    ensures { IfOk result (λ n. n ≡ place) }
+{
+    match u32::try_from(place) {
+        Ok(place) => Ok(place),
+        Err(_) => Err(NoMemory),
+    }
+}
+
+fn name_at<'a>(scope: &Scope, name: &Listed<u8>, bound: &'a Binders<'a>) -> Result<Left, Fault>
+    ensures ok { IfOk result (λ l. named_left scope.now bound.now name.now ≡ scoped (plain_left l)) }
+    ensures refused { IfErr result (IsFaultOf (named_left scope.now bound.now name.now)) }
+{
+    match look_up(scope, bound, name.as_slice())? {
+        Named::Variable(place) => Ok(Left::Var(narrow(place)?)),
+        Named::RuleVariable(place) => Ok(Left::Rvar(place)),
+        Named::Symbol(number) => Ok(Left::Sym(number)),
+        Named::Unknown => Err(Fault::Refused(Code::E10)),
+    }
+}
+
+/// The left side under these binders, or its first code.
+#[tactic(auto, using(crate::proofs::Stages::one_scoped, crate::proofs::Stages::one_fault, crate::proofs::Stages::both_scoped, crate::proofs::Stages::both_first, crate::proofs::Stages::both_second))]
+pub(crate) fn left_at<'a>(
+    alloc: Global,
+    scope: &Scope,
+    raw: &'a RawPat,
+    bound: &'a Binders<'a>,
+) -> Result<Left, Fault>
+    ensures ok { IfOk result (λ l. left_sense scope.now bound.now raw.now ≡ scoped (plain_left l)) }
+    ensures refused { IfErr result (IsFaultOf (left_sense scope.now bound.now raw.now)) }
+{
+    match raw {
+        RawPat::Name(name) => name_at(scope, name, bound),
+        RawPat::Qualified(_, _) => Err(Fault::Refused(Code::E10)),
+        RawPat::Wild => Ok(Left::Any),
+        RawPat::Guard(guard) => {
+            let guard = term_at(alloc, scope, guard, &Binders::Outermost)?;
+            Ok(Left::Guard(guard))
+        }
+        RawPat::App(f, a) => {
+            let f = left_at(alloc, scope, f, bound)?;
+            let a = left_at(alloc, scope, a, bound)?;
+            Ok(make_left_app(alloc, f, a)?)
+        }
+        RawPat::Abs(x, body) => {
+            let under = Binders::Under(x.as_ref(), bound);
+            let body = left_at(alloc, scope, body, &under)?;
+            Ok(make_left_abs(alloc, body)?)
+        }
+    }
+}

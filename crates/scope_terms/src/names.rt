@@ -1,0 +1,132 @@
+//! The names that the commands so far declare.
+ghost use Rattle.std.specs.Prelude.{◌≡◌, ◌<◌, is_some, None, IfOk, IfErr, OnOk, OnErr};
+ghost use Rattle.dk_model.specs.Scoping.{plain_command};
+ghost use Rattle.dk_parser.specs.Written.{written_form};
+ghost use Rattle.scope_terms.specs.Scopes.{no_names, number_of, with_name, names_after, scoped};
+ghost use Rattle.scope_terms.specs.Answers.{IsFaultOf};
+ghost use Rattle.scope_terms.specs.Places.{scoping_of};
+
+use crate::declaration::{TypeAndBody, declaration_at};
+use crate::place::{Binders, Scope};
+use crate::rule::rules_at;
+use dk_model::{Code, Fault, Listed, NoMemory, Scoped};
+use dk_parser::{Raw, RawForm};
+use indexmap::IndexMap;
+use std::alloc::Global;
+use std::marker::Model;
+
+/// Why a command wasn't scoped: its first code from left to right, or want of memory.
+pub type ScopeFault = Fault;
+
+/// The names that the accepted commands declare, each with the number of its command.
+#[derive(Drop)]
+pub struct Names {
+    numbers: IndexMap<Vec<u8>, u32>,
+    count: u32,
+}
+
+impl Model for Names {
+    ghost use Rattle.scope_terms.specs.Scopes.{Numbered};
+
+    ghost Value = { Numbered };
+
+    ghost use Rattle.std.specs.Prelude.{map};
+
+    ghost view = { λ n. record { numbers = map (λ e. (e.0.items, e.1)) n.numbers.entries; count = n.count } };
+}
+
+impl Names {
+    /// No names.
+    pub fn new(alloc: Global) -> Result<Names, NoMemory>
+        ensures { IfOk result (λ names. names ≡ no_names) }
+    {
+        Ok(Names {
+            numbers: IndexMap::new(alloc),
+            count: 0,
+        })
+    }
+
+    /// The number of the accepted command that declared this name; None exactly where none did.
+    pub fn number(&self, name: &[u8]) -> Option<u32>
+        ensures { result ≡ number_of self.now name.now }
+    {
+        self.numbers.get(name).copied()
+    }
+
+    /// How many numbers were given: one for each accepted command.
+    pub fn count(&self) -> u32
+        ensures { result ≡ self.now.count }
+    {
+        self.count
+    }
+
+    /// The command with its names as numbers, or its first code from left to right.
+    ///
+    /// Accepted, the declared name is added with the next number; rules take a number without a
+    /// name. After a refusal, want of memory too, the names are as before (docs/scoping.md).
+    pub fn scope(&mut self, alloc: Global, raw: &Raw) -> Result<Scoped, ScopeFault>
+        requires { self.old.count < 4294967295 }
+        ensures ok { IfOk result (λ c. scoping_of self.old raw.now ≡ scoped (plain_command c)) }
+        ensures added { OnOk result (self.new ≡ names_after self.old (written_form raw.now.form)) }
+        ensures refused { IfErr result (IsFaultOf (scoping_of self.old raw.now)) }
+        ensures err { OnErr result (self.new ≡ self.old) }
+    {
+        match &raw.form {
+            RawForm::Declare {
+                sort,
+                name,
+                params,
+                typ,
+                body,
+            } => {
+                if self.has(name) {
+                    return Err(Fault::Refused(Code::E11));
+                }
+                let none = Names::new(alloc)?;
+                let scope = Scope {
+                    names: self,
+                    variables: &none,
+                };
+                let TypeAndBody { typ, body } = declaration_at(
+                    alloc,
+                    &scope,
+                    params.as_slice(),
+                    typ,
+                    body,
+                    &Binders::Outermost,
+                )?;
+                self.add(alloc, name)?;
+                Ok(Scoped::Declare {
+                    sort: *sort,
+                    typ,
+                    body,
+                })
+            }
+            RawForm::Rules(rules) => {
+                let rules = rules_at(alloc, rules.as_slice(), self)?;
+                self.count += 1;
+                Ok(Scoped::Rules(rules))
+            }
+        }
+    }
+
+    /// Whether the name has a number.
+    pub(crate) fn has(&self, name: &Listed<u8>) -> bool
+        ensures { result ≡ is_some (number_of self.now name.now) }
+    {
+        self.number(name.as_slice()).is_some()
+    }
+
+    /// Adds a name with the next number.
+    pub(crate) fn add(&mut self, alloc: Global, name: &Listed<u8>) -> Result<(), NoMemory>
+        requires new { number_of self.old name.now ≡ None }
+        requires room { self.old.count < 4294967295 }
+        ensures ok { OnOk result (self.new ≡ with_name self.old name.now) }
+        ensures err { OnErr result (self.new ≡ self.old) }
+    {
+        let spelling = name.as_slice().to_vec(alloc)?;
+        self.numbers.insert(spelling, self.count)?;
+        self.count += 1;
+        Ok(())
+    }
+}

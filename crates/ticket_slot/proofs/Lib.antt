@@ -1,0 +1,7 @@
+pub mod Lists
+mod Seats
+mod Rules
+mod Tickets
+mod Events
+mod Passes
+mod Ends

@@ -1,0 +1,20 @@
+-- The lines of a report, one after another.
+use Rattle.std.proofs.Common.{◌≡◌, ◌<◌, ◌+◌, ℕ, List, ◌++◌, length, get_or, drop, sym, ap, subst, ◌∙◌}
+use Rattle.std.proofs.lemmas.List.{append_assoc, at_drop_more}
+use Rattle.std.specs.Prelude.{Option, Err}
+use Rattle.dk_io.specs.Gathered.{Gathers, Moves}
+use Rattle.dk_io.proofs.Gather.{gathers_stop, gathers_then}
+use Rattle.verdict_book.specs.Report.{ok_line, ok_lines}
+
+pub oks_next : (done whole : List ℕ) (n i : ℕ) (names : List (List ℕ)) (name : List ℕ) → i < length names → name ≡ get_or names i name → n ≡ i + 1 → whole ≡ done ++ ok_lines (i + 1) (drop i names) → whole ≡ (done ++ ok_line n name) ++ ok_lines (i + 1 + 1) (drop (i + 1) names)
+oks_next done whole n i names name lt is number before =
+    before
+    ∙ ap (λ t. done ++ t) (at_drop_more (ok_lines (i + 1)) names i name lt)
+    ∙ ap (λ (x : List ℕ). done ++ (ok_line (i + 1) x ++ ok_lines (i + 1 + 1) (drop (i + 1) names))) (sym is)
+    ∙ ap (λ m. done ++ (ok_line m name ++ ok_lines (i + 1 + 1) (drop (i + 1) names))) (sym number)
+    ∙ sym (append_assoc done (ok_line n name) (ok_lines (i + 1 + 1) (drop (i + 1) names)))
+
+-- a line that is cut short
+pub oks_cut : {E : Type 0} {e : E} {a b c : Option (List ℕ)} {w x y : List ℕ} (done line rest whole : List ℕ) → Moves a w b x done → Gathers {E = E} b x c y line (Err e) → whole ≡ (done ++ line) ++ rest → Gathers a w c y whole (Err e)
+oks_cut {E = E} {e = e} {a = a} {c = c} {w = w} {y = y} done line rest whole before cut is =
+    subst (λ (t : List ℕ). Gathers {E = E} a w c y t (Err e)) (sym is) (gathers_stop rest (gathers_then (record { whole = before; front = tt }) cut))

@@ -1,0 +1,40 @@
+//! How a file ends.
+ghost use Rattle.std.specs.Prelude.{◌≡◌};
+ghost use Rattle.verdict_book.specs.Report.{status_of, stop_status};
+
+use dk_model::Verdict;
+
+/// How a file ends: the last line of its report.
+#[derive(Clone, Copy, Debug, PartialEq, Eq)]
+pub enum Outcome {
+    /// All commands were accepted, so many.
+    Accepted(u32),
+    /// The command of that number, counted from 1, at that line, with a verdict other than Accepted.
+    Stopped(u32, u32, Verdict),
+    /// A read failed while the command of that number was due.
+    Unread(u32),
+}
+
+impl Outcome {
+    /// The status that the program ends with.
+    pub fn status(self) -> u8
+        ensures { result ≡ status_of self }
+    {
+        match self {
+            Outcome::Accepted(_) => 0,
+            Outcome::Stopped(_, _, verdict) => stopped(verdict),
+            Outcome::Unread(_) => 3,
+        }
+    }
+}
+
+fn stopped(verdict: Verdict) -> u8
+    ensures { result ≡ stop_status verdict }
+{
+    match verdict {
+        Verdict::Accepted => 0,
+        Verdict::Refused(_) => 1,
+        Verdict::Memory => 4,
+        Verdict::Ended => 6,
+    }
+}
