@@ -1,5 +1,5 @@
 -- The lexer over a list of bytes gives its tokens, and what one more byte and the end add.
-use Rattle.std.proofs.Common.{◌≡◌, ◌≤◌, ℕ, zero, suc, ◌+◌, List, [], ◌∷◌, ◌++◌, length, refl, sym, ap, ◌∙◌, subst, arith, append_assoc}
+use Rattle.std.proofs.Common.{◌≡◌, ℕ, List, [], ◌∷◌, ◌++◌, length, refl, sym, ap, ◌∙◌, subst, arith}
 use Rattle.std.proofs.lemmas.List.{append-nil}
 use Rattle.std.specs.Prelude.{Option, Some, None}
 use Rattle.dk_model.specs.declared.code.Code.{Code}
@@ -14,7 +14,7 @@ use Rattle.dk_lexer.specs.Tokens.{Ending, whole, broken, Lexed, tokens, fault_at
 use Rattle.dk_lexer.specs.Given.{with_token, given, AddsTokens, IsFrontOf, Stays, begun_line}
 use Rattle.dk_lexer.specs.Steps.{step, part_step, start, lexer_from, lexer_after, lexer_ended, ends, line_of, fed_fault}
 use Rattle.dk_lexer.specs.Pieces.{piece_tokens, pieces_from, tokens_of_pieces, joined}
-use Rattle.dk_lexer.proofs.Runs.{run, adds, stop, fault_of, with_part}
+use Rattle.dk_lexer.proofs.Runs.{run, fault_of, with_part}
 use Rattle.dk_lexer.proofs.Gives.{run_failed}
 use Rattle.dk_lexer.proofs.Faults.{step_told}
 use Rattle.dk_lexer.proofs.Ends.{all_agree}

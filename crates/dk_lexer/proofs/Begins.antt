@@ -1,25 +1,24 @@
 -- A byte where nothing is begun.
-use Rattle.std.proofs.Common.{◌≡◌, ◌<◌, ◌≤◌, ℕ, zero, suc, ◌+◌, ◌-◌, Bool, true, false, nat_le, List, [], ◌∷◌, ◌++◌, length, codes, if◌then◌else◌, refl, sym, ap, ◌∙◌, subst, arith}
-use Rattle.std.specs.Prelude.{Option, Some, None}
+use Rattle.std.proofs.Common.{◌≡◌, ◌<◌, ◌≤◌, ℕ, suc, ◌+◌, ◌-◌, Bool, true, false, nat_le, List, [], ◌∷◌, length, codes, if◌then◌else◌, refl, sym, ap, ◌∙◌, arith}
+use Rattle.std.specs.Prelude.{Option, Some}
 use borrow.Author.Tests.{leb-true, leb-false}
-use Rattle.dk_model.specs.declared.code.Code.TheVariants.{E01, E03, E05}
+use Rattle.dk_model.specs.declared.code.Code.TheVariants.{E01, E05}
 use Rattle.dk_lexer.specs.declared.token.TokenKind.{TokenKind}
 use Rattle.dk_lexer.specs.declared.token.TokenKind.TheVariants as kind
 use Rattle.dk_lexer.specs.declared.token.Sign.TheVariants as sign
 use Rattle.dk_lexer.specs.declared.place.Place.{Place}
 use Rattle.dk_lexer.specs.declared.class.Class.{Class}
 use Rattle.dk_lexer.specs.declared.class.Class.TheVariants as class
-use Rattle.dk_lexer.specs.declared.part.Part.{Part}
 use Rattle.dk_lexer.specs.declared.part.Part.TheVariants as part
 use Rattle.dk_lexer.specs.declared.lexer.Lexer.{Lexer}
 use Rattle.dk_lexer.specs.Classes.{class_of, in_name}
-use Rattle.dk_lexer.specs.Spelling.{Spelling, blank, token, wrong, run_of, behind_run, letters_of, behind_letters, behind_name, name_spelled, word_spelled, quoted, quoted_spelled, behind_colon, colon_before, behind_equals, equals_before, behind_minus, minus_before, behind_two_minus, long_before, behind_bracket, bracket_before, behind_open, open_before, spelled_by, sign_spelled, comment, comment_open, Pair, pair, opens, closes, apart}
-use Rattle.dk_lexer.specs.Tokens.{Ending, Lexed, bound, behind, begin_of, outcome_at, Bound, fault_at, tokens_from, gives, token_at, command_after}
-use Rattle.dk_lexer.specs.Steps.{one, own, fails, goes_on, ended, begin_name, begin_by, begin, settles, takes}
+use Rattle.dk_lexer.specs.Spelling.{Spelling, blank, token, wrong, run_of, behind_run, letters_of, behind_letters, behind_name, name_spelled, word_spelled, quoted, behind_colon, colon_before, behind_equals, equals_before, behind_minus, minus_before, behind_two_minus, long_before, behind_bracket, bracket_before, behind_open, open_before, spelled_by, sign_spelled, comment, comment_open, pair, opens, closes, apart}
+use Rattle.dk_lexer.specs.Tokens.{Ending, Lexed, bound, behind, outcome_at, Bound, fault_at, tokens_from, gives, token_at, command_after}
+use Rattle.dk_lexer.specs.Steps.{one, own, fails, goes_on, ended, begin_by, begin, settles, takes}
 use Rattle.dk_lexer.proofs.Outcomes.{Leaves, begins, leaves_more, within_true, le_false}
 use Rattle.dk_lexer.proofs.Leaves.{name_leaves, word_leaves, letters_leave, spelled_leaves, quoted_leaves, run_length}
-use Rattle.dk_lexer.proofs.Bounds.{behind_offset, behind_name_byte, bound_begin, bound_after, bound_command, bound_same}
-use Rattle.dk_lexer.proofs.Runs.{run, does, with_part, setting, mid, next, onward, run_end, Fits, FitsOwn, AllAgree}
+use Rattle.dk_lexer.proofs.Bounds.{behind_name_byte, bound_begin, bound_after, bound_same}
+use Rattle.dk_lexer.proofs.Runs.{does, setting, mid, next, onward, run_end, Fits, FitsOwn, AllAgree}
 use Rattle.dk_lexer.proofs.Gives.{fails_gives, goes_gives, blank_gives, completes_gives, goes_any, over_own, over_blank, IsBlank, ahead, ahead_total, ahead_fits}
 
 -- signs that begin alike leave no more than what is behind their first byte

@@ -1,19 +1,16 @@
 -- The bounds of commands and of the input.
-use Rattle.std.proofs.Common.{◌≡◌, ◌<◌, ◌≤◌, ℕ, zero, suc, ◌+◌, min, max, Bool, true, false, nat_le, ◌==◌, List, [], ◌∷◌, length, if◌then◌else◌, refl, sym, ap, ◌∙◌, subst, arith}
+use Rattle.std.proofs.Common.{◌≡◌, ◌<◌, ◌≤◌, ℕ, ◌+◌, Bool, true, false, nat_le, ◌==◌, refl, subst, arith}
 use Rattle.std.specs.Prelude.{Option, Some, None}
 use Rattle.std.proofs.lemmas.Bool.Decides.{nat_tests}
 use borrow.Author.Tests.{eqb-true}
-use Rattle.dk_model.specs.declared.code.Code.{Code}
-use Rattle.dk_model.specs.declared.code.Code.TheVariants.{E05, E07}
+use Rattle.dk_model.specs.declared.code.Code.TheVariants.{E07}
 use Rattle.dk_model.specs.declared.limits.Limits.{Limits}
 use Rattle.dk_lexer.specs.declared.token.TokenKind.{TokenKind}
 use Rattle.dk_lexer.specs.declared.token.TokenKind.TheVariants as kind
 use Rattle.dk_lexer.specs.declared.token.Sign.TheVariants as sign
 use Rattle.dk_lexer.specs.declared.place.Place.{Place}
-use Rattle.dk_lexer.specs.declared.class.Class.{Class}
-use Rattle.dk_lexer.specs.declared.class.Class.TheVariants as class
 use Rattle.dk_lexer.specs.Classes.{class_of, in_name}
-use Rattle.dk_lexer.specs.Tokens.{Bound, bound, nearer, behind, begin_of, command_limit, input_limit, command_after, Setting, late_bound}
+use Rattle.dk_lexer.specs.Tokens.{bound, nearer, behind, begin_of, command_limit, input_limit, command_after}
 
 -- the nearer bound is no farther than either
 nearer_by : (t : Bool) (c i o : ℕ) → nat_le c i ≡ t → o ≤ c → o ≤ i → o ≤ (nearer c i).last

@@ -1,11 +1,8 @@
 -- Behind a plain run, a dot and a brace.
-use Rattle.std.proofs.Common.{◌≡◌, ◌<◌, ◌≤◌, ℕ, zero, suc, ◌+◌, ◌-◌, Bool, true, false, nat_le, nat_lt, ◌==◌, List, [], ◌∷◌, ◌++◌, length, codes, if◌then◌else◌, refl, sym, ap, ◌∙◌, subst, arith, length-append, append_assoc}
-use Rattle.std.proofs.lemmas.List.{append-nil}
+use Rattle.std.proofs.Common.{◌≡◌, ◌<◌, ◌≤◌, ℕ, suc, ◌+◌, Bool, true, false, nat_lt, ◌==◌, List, ◌∷◌, ◌++◌, length, codes, if◌then◌else◌, refl, sym, ap, ◌∙◌, arith}
 use Rattle.std.specs.Prelude.{Option, Some, None}
-use borrow.Author.Tests.{leb-true, leb-false, ltb-true, ltb-false}
-use Rattle.dk_model.specs.declared.code.Code.{Code}
-use Rattle.dk_model.specs.declared.code.Code.TheVariants.{E01, E03, E05, E07}
-use Rattle.dk_lexer.specs.declared.token.TokenKind.{TokenKind}
+use borrow.Author.Tests.{ltb-true}
+use Rattle.dk_model.specs.declared.code.Code.TheVariants.{E05}
 use Rattle.dk_lexer.specs.declared.token.TokenKind.TheVariants as kind
 use Rattle.dk_lexer.specs.declared.token.Sign.TheVariants as sign
 use Rattle.dk_lexer.specs.declared.place.Place.{Place}
@@ -14,19 +11,19 @@ use Rattle.dk_lexer.specs.declared.class.Class.TheVariants as class
 use Rattle.dk_lexer.specs.declared.part.Part.{Part}
 use Rattle.dk_lexer.specs.declared.part.Part.TheVariants as part
 use Rattle.dk_lexer.specs.declared.lexer.Lexer.{Lexer}
-use Rattle.dk_lexer.specs.Classes.{class_of, in_name}
-use Rattle.dk_lexer.proofs.Outcomes.{Leaves, begins, leaves_more, within_true, within_false, le_true, le_false, lt_true, lt_false, through, over, skip}
-use Rattle.dk_lexer.proofs.Bounds.{behind_offset, behind_name_byte, bound_begin, bound_after, bound_command, bound_input, bound_none, bound_first}
-use Rattle.dk_lexer.proofs.Runs.{run, does, with_part, setting, mid, next, onward, run_end, Fits, FitsOwn, AllAgree, at_bar}
-use Rattle.dk_lexer.proofs.Gives.{fails_gives, goes_gives, goes_mid, back, blank_gives, blank_mid, completes_gives, completes_mid, ahead, ahead_total, ahead_fits, run_failed}
-use Rattle.dk_lexer.proofs.Begins.{begin_does, settles_mid}
-use Rattle.dk_lexer.specs.Spelling.{Spelling, token, run_and_dot, wrong, up_to, run_of, behind_run, is_wildcard, kind_of, dot_before, behind_dot, behind_brace, brace_before, second_settled, second_spelled, late, quoted, quoted_spelled, sign_spelled, open_before}
-use Rattle.dk_lexer.specs.Tokens.{Ending, Setting, Lexed, Bound, bound, nearer, behind, begin_of, outcome, outcome_at, tokens_from, gives, token_at, dot_at, fault_at, command_after, command_limit, input_limit, late_bound, within, by_bound}
-use Rattle.dk_lexer.specs.Steps.{one, own, fails, taken, takes, goes_on, begin, second_begins, second_opens, dot_ends, dot_step, brace_step, sign_at}
-use Rattle.dk_lexer.proofs.Leaves.{second_leaves, brace_leaves, run_length, run_leaves, spelled_leaves, quoted_leaves}
-use Rattle.dk_lexer.proofs.Bounds.{nearer_within, nearer_input, nearer_command}
+use Rattle.dk_lexer.specs.Classes.{class_of}
+use Rattle.dk_lexer.proofs.Outcomes.{begins, leaves_more, within_true, le_true, through, over}
+use Rattle.dk_lexer.proofs.Bounds.{behind_offset, bound_first}
+use Rattle.dk_lexer.proofs.Runs.{does, setting, run_end, AllAgree}
+use Rattle.dk_lexer.proofs.Gives.{goes_mid, ahead, ahead_total, ahead_fits, run_failed}
+use Rattle.dk_lexer.proofs.Begins.{begin_does}
+use Rattle.dk_lexer.specs.Spelling.{Spelling, run_and_dot, kind_of, behind_brace, brace_before, quoted, quoted_spelled, sign_spelled, open_before}
+use Rattle.dk_lexer.specs.Tokens.{Ending, Setting, Lexed, Bound, bound, nearer, behind, outcome, outcome_at, tokens_from, gives, token_at, dot_at, fault_at, command_limit, input_limit, late_bound}
+use Rattle.dk_lexer.specs.Steps.{one, own, taken, goes_on, begin, second_opens, brace_step, sign_at}
+use Rattle.dk_lexer.proofs.Leaves.{spelled_leaves, quoted_leaves}
+use Rattle.dk_lexer.proofs.Bounds.{nearer_within, nearer_command}
 use borrow.Author.Tests.{eqb-true}
-use Rattle.dk_lexer.specs.Spelling.{spelled, spelled_by}
+use Rattle.dk_lexer.specs.Spelling.{spelled_by}
 use Rattle.std.proofs.lemmas.Bool.Decides.{nat_tests}
 
 -- a byte past the bound

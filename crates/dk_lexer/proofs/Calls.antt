@@ -1,12 +1,12 @@
 -- The answers of the public calls.
 use Rattle.std.proofs.Common.{◌≡◌, ℕ, List, [], ◌∷◌, ◌++◌, IfOk, OnOk, sym, ap, ◌∙◌, subst}
-use Rattle.std.specs.Prelude.{Option, Some, None, Result, Ok, Err}
+use Rattle.std.specs.Prelude.{Some, Result, Ok, Err}
 use Rattle.dk_model.specs.declared.code.Code.{Code}
 use Rattle.dk_model.specs.declared.memory.NoMemory.{NoMemory}
 use Rattle.dk_model.specs.declared.limits.Limits.{Limits}
 use Rattle.dk_lexer.specs.declared.fed.Fed.{Fed}
 use Rattle.dk_lexer.specs.declared.lexer.Lexer.{Lexer}
-use Rattle.dk_lexer.specs.Tokens.{Lexed, broken, whole, tokens}
+use Rattle.dk_lexer.specs.Tokens.{broken, whole, tokens}
 use Rattle.dk_lexer.specs.Given.{AddsTokens, begun_line}
 use Rattle.dk_lexer.specs.Steps.{step, lexer_after, lexer_ended, ends, after_end, line_of, fed_fault}
 use Rattle.dk_lexer.proofs.Agree.{after_more, adds_more, adds_end, line_after, line_ended, fed_faulty}

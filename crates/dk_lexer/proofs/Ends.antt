@@ -1,10 +1,9 @@
 -- The lexer at the end of the bytes, and so over all of them.
-use Rattle.std.proofs.Common.{◌≡◌, ◌<◌, ◌≤◌, ℕ, zero, suc, ◌+◌, ◌-◌, Bool, true, false, nat_le, nat_lt, ◌==◌, List, [], ◌∷◌, ◌++◌, length, codes, if◌then◌else◌, refl, sym, ap, ◌∙◌, subst, arith, length-append, append_assoc}
+use Rattle.std.proofs.Common.{◌≡◌, ◌≤◌, ℕ, zero, suc, ◌+◌, ◌-◌, Bool, true, false, nat_le, ◌==◌, List, [], ◌∷◌, ◌++◌, length, if◌then◌else◌, refl, sym, ap, ◌∙◌, arith}
 use Rattle.std.proofs.lemmas.List.{append-nil}
 use Rattle.std.specs.Prelude.{Option, Some, None}
-use borrow.Author.Tests.{leb-true, leb-false, ltb-true, ltb-false}
 use Rattle.dk_model.specs.declared.code.Code.{Code}
-use Rattle.dk_model.specs.declared.code.Code.TheVariants.{E01, E03, E05, E07}
+use Rattle.dk_model.specs.declared.code.Code.TheVariants.{E01, E03, E05}
 use Rattle.dk_lexer.specs.declared.token.TokenKind.{TokenKind}
 use Rattle.dk_lexer.specs.declared.token.TokenKind.TheVariants as kind
 use Rattle.dk_lexer.specs.declared.token.Sign.TheVariants as sign
@@ -14,16 +13,16 @@ use Rattle.dk_lexer.specs.declared.class.Class.TheVariants as class
 use Rattle.dk_lexer.specs.declared.part.Part.{Part}
 use Rattle.dk_lexer.specs.declared.part.Part.TheVariants as part
 use Rattle.dk_lexer.specs.declared.lexer.Lexer.{Lexer}
-use Rattle.dk_lexer.specs.Classes.{class_of, in_name}
-use Rattle.dk_lexer.proofs.Outcomes.{Leaves, begins, leaves_more, within_true, within_false, le_true, le_false, lt_true, lt_false, through, over, skip}
-use Rattle.dk_lexer.proofs.Bounds.{behind_offset, behind_name_byte, bound_begin, bound_after, bound_command, bound_input, bound_none, bound_first}
-use Rattle.dk_lexer.proofs.Runs.{run, does, with_part, setting, mid, next, onward, run_end, Fits, FitsOwn, AllAgree, at_bar}
-use Rattle.dk_lexer.proofs.Gives.{fails_gives, goes_gives, goes_mid, back, blank_gives, blank_mid, completes_gives, completes_mid, ahead, ahead_total, ahead_fits, run_failed}
-use Rattle.dk_lexer.proofs.Begins.{begin_does, settles_mid}
-use Rattle.dk_lexer.specs.Spelling.{Spelling, token, run_and_dot, wrong, unsettled, late, run_of, behind_run, kind_of, is_wildcard, behind_name, name_spelled, second_spelled, second_settled, up_to, word_spelled, quoted, quoted_spelled, behind_brace, spelled_by, open_ended, sign_spelled, comment_open}
-use Rattle.dk_lexer.specs.Tokens.{Ending, whole, broken, Lexed, Bound, bound, nearer, behind, Setting, command_limit, input_limit, late_bound, outcome, outcome_at, tokens_from, gives, token_at, dot_at, fault_at, nothing_at, command_after, within, at_end}
-use Rattle.dk_lexer.specs.Steps.{own, part_ends, sign_at, second_ends}
-use Rattle.dk_lexer.proofs.Runs.{Agrees, run_one, stop}
+use Rattle.dk_lexer.specs.Classes.{class_of}
+use Rattle.dk_lexer.proofs.Outcomes.{begins, within_true, le_true}
+use Rattle.dk_lexer.proofs.Bounds.{behind_offset, bound_first}
+use Rattle.dk_lexer.proofs.Runs.{with_part, setting, mid, run_end, Fits, FitsOwn, AllAgree, at_bar}
+use Rattle.dk_lexer.proofs.Gives.{run_failed}
+use Rattle.dk_lexer.proofs.Begins.{begin_does}
+use Rattle.dk_lexer.specs.Spelling.{token, run_and_dot, wrong, unsettled, kind_of, is_wildcard, behind_name, name_spelled, second_spelled, second_settled, word_spelled, quoted, quoted_spelled, behind_brace, spelled_by, comment_open}
+use Rattle.dk_lexer.specs.Tokens.{Ending, whole, broken, Lexed, bound, nearer, behind, Setting, command_limit, input_limit, late_bound, outcome, outcome_at, tokens_from, gives, token_at, dot_at, fault_at, nothing_at, within}
+use Rattle.dk_lexer.specs.Steps.{own, sign_at}
+use Rattle.dk_lexer.proofs.Runs.{run_one, stop}
 use Rattle.dk_lexer.proofs.Names.{run_does, second_does}
 use Rattle.dk_lexer.proofs.Dots.{dot_does}
 use Rattle.dk_lexer.proofs.Braces.{brace_does}

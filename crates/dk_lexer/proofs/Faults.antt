@@ -2,7 +2,7 @@
 use Rattle.std.proofs.Common.{◌≡◌, ℕ, zero, suc, ◌+◌, ◌-◌, min, Bool, true, false, nat_le, ◌==◌, List, [], ◌∷◌, ◌++◌, length, codes, if◌then◌else◌, refl}
 use Rattle.std.specs.Prelude.{Option, Some, None}
 use Rattle.dk_model.specs.declared.code.Code.{Code}
-use Rattle.dk_model.specs.declared.code.Code.TheVariants.{E01, E05}
+use Rattle.dk_model.specs.declared.code.Code.TheVariants.{E05}
 use Rattle.dk_lexer.specs.declared.token.TokenKind.{TokenKind}
 use Rattle.dk_lexer.specs.declared.token.TokenKind.TheVariants as kind
 use Rattle.dk_lexer.specs.declared.token.Sign.TheVariants as sign
@@ -14,7 +14,7 @@ use Rattle.dk_lexer.specs.declared.part.Part.TheVariants as part
 use Rattle.dk_lexer.specs.declared.lexer.Lexer.{Lexer}
 use Rattle.dk_lexer.specs.Classes.{class_of}
 use Rattle.dk_lexer.specs.Spelling.{is_wildcard, kind_of, Pair, opens, closes, apart, pair}
-use Rattle.dk_lexer.specs.Steps.{Move, Step, one, fails, taken, takes, goes_on, own, past, completed, completes, begin_name, begin_by, begin, ended, settles, comment_closes, comment_pair, run_name, run_step, second_begins, dot_ends, dot_step, second_opens, brace_step, second_name, second_step, quoted_step, bar_more, bar_step, hash_step, word_step, bracket_step, open_step, colon_step, equals_step, minus_step, two_minus_step, part_step, step}
+use Rattle.dk_lexer.specs.Steps.{Move, Step, one, fails, taken, goes_on, own, past, completed, completes, begin_name, begin_by, begin, ended, settles, comment_closes, comment_pair, run_name, run_step, second_begins, dot_step, brace_step, second_name, second_step, quoted_step, bar_more, bar_step, hash_step, word_step, bracket_step, open_step, colon_step, equals_step, minus_step, two_minus_step, part_step, step}
 use Rattle.dk_lexer.proofs.Runs.{fault_of}
 
 abbrev Tells : Move → Type 0

@@ -1,19 +1,15 @@
 -- What a byte gives, by what it does: it goes to a part, ends a token, comes behind one, or is at fault.
-use Rattle.std.proofs.Common.{◌≡◌, ◌<◌, ◌≤◌, ℕ, zero, suc, ◌+◌, Bool, true, false, nat_le, nat_lt, List, [], ◌∷◌, ◌++◌, length, if◌then◌else◌, refl, sym, ap, ◌∙◌, subst, arith}
+use Rattle.std.proofs.Common.{◌≡◌, ◌<◌, ◌≤◌, ℕ, suc, ◌+◌, Bool, true, false, nat_lt, List, [], ◌∷◌, length, if◌then◌else◌, refl, sym, ap, ◌∙◌, arith}
 use Rattle.std.specs.Prelude.{Option, Some, None}
 use borrow.Author.Tests.{ltb-true, ltb-false}
 use Rattle.dk_model.specs.declared.code.Code.{Code}
-use Rattle.dk_model.specs.declared.limits.Limits.{Limits}
 use Rattle.dk_lexer.specs.declared.token.TokenKind.{TokenKind}
-use Rattle.dk_lexer.specs.declared.place.Place.{Place}
-use Rattle.dk_lexer.specs.declared.class.Class.{Class}
 use Rattle.dk_lexer.specs.declared.part.Part.{Part}
 use Rattle.dk_lexer.specs.declared.part.Part.TheVariants as part
 use Rattle.dk_lexer.specs.declared.lexer.Lexer.{Lexer}
-use Rattle.dk_lexer.specs.Classes.{class_of}
-use Rattle.dk_lexer.specs.Spelling.{Spelling, blank, token, wrong, comment_open, spelled, spelled_by}
-use Rattle.dk_lexer.specs.Tokens.{Ending, whole, broken, Lexed, Bound, bound, behind, outcome, outcome_at, tokens_from, fault_at, nothing_at, gives, token_at, command_after, at_end, within}
-use Rattle.dk_lexer.specs.Steps.{Move, Step, one, own, fails, taken, takes, goes_on, completed, completes, ended, begin, settles}
+use Rattle.dk_lexer.specs.Spelling.{Spelling, blank, token, wrong, comment_open}
+use Rattle.dk_lexer.specs.Tokens.{Ending, whole, broken, Lexed, bound, behind, outcome_at, tokens_from, fault_at, gives, token_at, command_after, within}
+use Rattle.dk_lexer.specs.Steps.{one, own, fails, taken, takes, goes_on, completed, completes}
 use Rattle.dk_lexer.proofs.Outcomes.{Leaves, through, over, skip, within_true, within_false}
 use Rattle.dk_lexer.proofs.Bounds.{behind_offset, bound_after}
 use Rattle.dk_lexer.proofs.Runs.{run, does, run_one, with_part, setting, mid, next, Fits, FitsOwn, AllAgree}

@@ -1,12 +1,12 @@
 -- How many bytes each spelling leaves at most.
-use Rattle.std.proofs.Common.{◌≡◌, ◌≤◌, ℕ, zero, suc, ◌+◌, ◌-◌, Bool, true, false, nat_le, List, [], ◌∷◌, ◌++◌, length, codes, if◌then◌else◌, length-append, refl, arith}
+use Rattle.std.proofs.Common.{◌≡◌, ◌≤◌, ℕ, zero, suc, ◌+◌, ◌-◌, Bool, true, false, nat_le, List, [], ◌∷◌, ◌++◌, length, codes, if◌then◌else◌, length-append, arith}
 use Rattle.dk_model.specs.declared.code.Code.TheVariants.{E01, E05}
 use Rattle.dk_lexer.specs.declared.token.TokenKind.{TokenKind}
 use Rattle.dk_lexer.specs.declared.token.TokenKind.TheVariants as kind
 use Rattle.dk_lexer.specs.declared.class.Class.{Class}
 use Rattle.dk_lexer.specs.declared.class.Class.TheVariants as class
 use Rattle.dk_lexer.specs.Classes.{class_of, in_name, is_letter_class}
-use Rattle.dk_lexer.specs.Spelling.{Spelling, token, wrong, up_to, run_of, behind_run, letters_of, behind_letters, is_wildcard, kind_of, Quoted, closed, faulty, open_ended, one_more, too_long, bar_before, behind_bar, behind_last_bar, quoted_byte, last_byte, quoted, quoted_spelled, second_settled, second_spelled, brace_before, behind_brace, dot_before, behind_dot, run_before, behind_name, name_spelled, word_spelled}
+use Rattle.dk_lexer.specs.Spelling.{Spelling, token, wrong, up_to, run_of, behind_run, behind_letters, is_wildcard, kind_of, Quoted, closed, faulty, open_ended, one_more, too_long, bar_before, behind_bar, behind_last_bar, quoted_byte, last_byte, quoted, quoted_spelled, second_settled, second_spelled, brace_before, behind_brace, dot_before, behind_dot, run_before, behind_name, name_spelled, word_spelled}
 use Rattle.dk_lexer.proofs.Outcomes.{Leaves, leaves_more}
 
 run_step : (t : Bool) (b : ℕ) (bs rest : List ℕ) → length rest ≤ length bs → length (if t then rest else b ∷ bs) ≤ suc (length bs)

@@ -1,29 +1,24 @@
 -- Plain runs and qualified names.
-use Rattle.std.proofs.Common.{◌≡◌, ◌<◌, ◌≤◌, ℕ, zero, suc, ◌+◌, ◌-◌, Bool, true, false, nat_le, nat_lt, ◌==◌, List, [], ◌∷◌, ◌++◌, length, codes, if◌then◌else◌, refl, sym, ap, ◌∙◌, subst, arith, length-append, append_assoc}
+use Rattle.std.proofs.Common.{◌≡◌, ◌<◌, ◌≤◌, ℕ, suc, ◌+◌, ◌-◌, Bool, true, false, nat_le, List, [], ◌∷◌, ◌++◌, length, if◌then◌else◌, refl, sym, ap, ◌∙◌, subst, arith, length-append, append_assoc}
 use Rattle.std.proofs.lemmas.List.{append-nil}
-use Rattle.std.specs.Prelude.{Option, Some, None}
-use borrow.Author.Tests.{leb-true, leb-false, ltb-true, ltb-false}
-use Rattle.dk_model.specs.declared.code.Code.{Code}
-use Rattle.dk_model.specs.declared.code.Code.TheVariants.{E01, E03, E05, E07}
-use Rattle.dk_lexer.specs.declared.token.TokenKind.{TokenKind}
+use borrow.Author.Tests.{leb-true, leb-false}
+use Rattle.dk_model.specs.declared.code.Code.TheVariants.{E01, E05}
 use Rattle.dk_lexer.specs.declared.token.TokenKind.TheVariants as kind
-use Rattle.dk_lexer.specs.declared.token.Sign.TheVariants as sign
 use Rattle.dk_lexer.specs.declared.place.Place.{Place}
 use Rattle.dk_lexer.specs.declared.class.Class.{Class}
 use Rattle.dk_lexer.specs.declared.class.Class.TheVariants as class
-use Rattle.dk_lexer.specs.declared.part.Part.{Part}
 use Rattle.dk_lexer.specs.declared.part.Part.TheVariants as part
 use Rattle.dk_lexer.specs.declared.lexer.Lexer.{Lexer}
 use Rattle.dk_lexer.specs.Classes.{class_of, in_name}
-use Rattle.dk_lexer.proofs.Outcomes.{Leaves, begins, leaves_more, within_true, within_false, le_true, le_false, lt_true, lt_false, through, over, skip}
-use Rattle.dk_lexer.proofs.Bounds.{behind_offset, behind_name_byte, bound_begin, bound_after, bound_command, bound_input, bound_none, bound_first}
-use Rattle.dk_lexer.proofs.Runs.{run, does, with_part, setting, mid, next, onward, run_end, Fits, FitsOwn, AllAgree, at_bar}
-use Rattle.dk_lexer.proofs.Gives.{fails_gives, goes_gives, goes_mid, back, blank_gives, blank_mid, completes_gives, completes_mid, ahead, ahead_total, ahead_fits, run_failed}
-use Rattle.dk_lexer.proofs.Begins.{begin_does, settles_mid}
-use Rattle.dk_lexer.specs.Spelling.{Spelling, token, run_and_dot, wrong, up_to, run_of, behind_run, is_wildcard, kind_of, run_before, behind_name, name_spelled, dot_before, behind_dot, behind_brace, second_settled, second_spelled}
-use Rattle.dk_lexer.specs.Tokens.{Ending, Lexed, Bound, bound, behind, begin_of, outcome, outcome_at, tokens_from, gives, token_at, dot_at, fault_at, command_after, input_limit, late_bound, within, by_bound}
-use Rattle.dk_lexer.specs.Steps.{one, own, fails, taken, takes, goes_on, begin, settles, run_name, run_step, second_begins, dot_ends, dot_step, second_name, second_step, sign_at}
-use Rattle.dk_lexer.proofs.Leaves.{name_leaves, second_leaves, dot_leaves, run_length, run_leaves}
+use Rattle.dk_lexer.proofs.Outcomes.{le_true, le_false}
+use Rattle.dk_lexer.proofs.Bounds.{behind_name_byte}
+use Rattle.dk_lexer.proofs.Runs.{does, mid, run_end, FitsOwn, AllAgree}
+use Rattle.dk_lexer.proofs.Gives.{fails_gives, goes_mid, ahead, ahead_total, ahead_fits}
+use Rattle.dk_lexer.proofs.Begins.{settles_mid}
+use Rattle.dk_lexer.specs.Spelling.{Spelling, token, wrong, up_to, run_of, behind_run, is_wildcard, kind_of, run_before, behind_name, name_spelled, behind_dot, second_settled, second_spelled}
+use Rattle.dk_lexer.specs.Tokens.{Ending, behind, tokens_from}
+use Rattle.dk_lexer.specs.Steps.{one, fails, goes_on, settles, run_name, run_step, second_name, second_step}
+use Rattle.dk_lexer.proofs.Leaves.{name_leaves, second_leaves, dot_leaves, run_length}
 
 -- the run at a byte of a name, and at another
 pub run_of_name : (b : ℕ) (bs : List ℕ) → in_name (class_of b) ≡ true → run_of (b ∷ bs) ≡ b ∷ run_of bs

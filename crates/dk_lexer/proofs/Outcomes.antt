@@ -1,12 +1,11 @@
 -- What a spelling gives, as the place goes on, where its bytes are within the bound and where they are not.
-use Rattle.std.proofs.Common.{◌≡◌, ◌≢◌, ◌<◌, ◌≤◌, ℕ, zero, suc, ◌+◌, ◌-◌, Bool, true, false, nat_le, nat_lt, List, [], ◌∷◌, ◌++◌, length, refl, sym, ap, ◌∙◌, subst, arith}
-use Rattle.std.specs.Prelude.{Option, Some, None}
+use Rattle.std.proofs.Common.{◌≡◌, ◌<◌, ◌≤◌, ℕ, suc, ◌+◌, true, false, nat_le, nat_lt, List, ◌∷◌, length, refl, ap, arith}
+use Rattle.std.specs.Prelude.{Option, None}
 use Rattle.std.proofs.lemmas.Bool.Decides.{nat_tests}
-use Rattle.dk_model.specs.declared.code.Code.{Code}
 use Rattle.dk_model.specs.declared.limits.Limits.{Limits}
 use Rattle.dk_lexer.specs.declared.place.Place.{Place}
 use Rattle.dk_lexer.specs.Spelling.{Spelling, blank, token, run_and_dot, wrong, comment_open, unsettled, late, kind_of, spelled}
-use Rattle.dk_lexer.specs.Tokens.{Ending, whole, broken, Lexed, Bound, bound, behind, input_limit, late_bound, Setting, within, by_bound, at_end, outcome, outcome_at, tokens_from, fault_at, nothing_at, gives, token_at, dot_at, command_after}
+use Rattle.dk_lexer.specs.Tokens.{Ending, whole, broken, Lexed, Bound, behind, input_limit, late_bound, Setting, within, by_bound, at_end, outcome, outcome_at, tokens_from, fault_at, nothing_at, gives, token_at, dot_at, command_after}
 use Rattle.dk_model.specs.declared.code.Code.TheVariants.{E07}
 
 pub le_true : (a b : ℕ) → a ≤ b → nat_le a b ≡ true

@@ -1,5 +1,5 @@
 -- The place behind some bytes.
-use Rattle.std.proofs.Common.{◌≡◌, ◌≤◌, ℕ, zero, suc, ◌+◌, min, Bool, true, false, ◌==◌, List, [], ◌∷◌, length, if◌then◌else◌, refl, ap, ◌∙◌, arith}
+use Rattle.std.proofs.Common.{◌≡◌, ◌≤◌, ℕ, suc, ◌+◌, min, Bool, true, false, ◌==◌, List, [], ◌∷◌, length, if◌then◌else◌, ap, ◌∙◌, arith}
 use Rattle.dk_lexer.specs.declared.place.Place.{Place}
 use Rattle.dk_lexer.specs.Tokens.{behind, next_line}
 use Rattle.dk_lexer.specs.Pieces.{place_behind, newlines}

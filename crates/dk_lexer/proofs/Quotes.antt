@@ -1,32 +1,20 @@
 -- Quoted names, words, signs and comments.
-use Rattle.std.proofs.Common.{◌≡◌, ◌<◌, ◌≤◌, ℕ, zero, suc, ◌+◌, ◌-◌, Bool, true, false, nat_le, nat_lt, ◌==◌, List, [], ◌∷◌, ◌++◌, length, codes, if◌then◌else◌, refl, sym, ap, ◌∙◌, subst, arith, length-append, append_assoc}
-use Rattle.std.proofs.lemmas.List.{append-nil}
-use Rattle.std.specs.Prelude.{Option, Some, None}
-use borrow.Author.Tests.{leb-true, leb-false, ltb-true, ltb-false}
+use Rattle.std.proofs.Common.{◌≡◌, ℕ, zero, suc, ◌+◌, List, [], ◌∷◌, ◌++◌, length, codes, refl, sym, ap, ◌∙◌, append_assoc}
+use Rattle.std.specs.Prelude.{Option}
 use Rattle.dk_model.specs.declared.code.Code.{Code}
-use Rattle.dk_model.specs.declared.code.Code.TheVariants.{E01, E03, E05, E07}
+use Rattle.dk_model.specs.declared.code.Code.TheVariants.{E01, E05}
 use Rattle.dk_lexer.specs.declared.token.TokenKind.{TokenKind}
-use Rattle.dk_lexer.specs.declared.token.TokenKind.TheVariants as kind
-use Rattle.dk_lexer.specs.declared.token.Sign.TheVariants as sign
-use Rattle.dk_lexer.specs.declared.place.Place.{Place}
 use Rattle.dk_lexer.specs.declared.class.Class.{Class}
 use Rattle.dk_lexer.specs.declared.class.Class.TheVariants as class
-use Rattle.dk_lexer.specs.declared.part.Part.{Part}
 use Rattle.dk_lexer.specs.declared.part.Part.TheVariants as part
 use Rattle.dk_lexer.specs.declared.lexer.Lexer.{Lexer}
-use Rattle.dk_lexer.specs.Classes.{class_of, in_name}
-use Rattle.dk_lexer.proofs.Outcomes.{Leaves, begins, leaves_more, within_true, within_false, le_true, le_false, lt_true, lt_false, through, over, skip}
-use Rattle.dk_lexer.proofs.Bounds.{behind_offset, behind_name_byte, bound_begin, bound_after, bound_command, bound_input, bound_none, bound_first}
-use Rattle.dk_lexer.proofs.Runs.{run, does, with_part, setting, mid, next, onward, run_end, Fits, FitsOwn, AllAgree, at_bar}
-use Rattle.dk_lexer.proofs.Gives.{fails_gives, goes_gives, goes_mid, back, blank_gives, blank_mid, completes_gives, completes_mid, ahead, ahead_total, ahead_fits, run_failed}
-use Rattle.dk_lexer.proofs.Begins.{begin_does, settles_mid}
-use Rattle.dk_lexer.specs.Classes.{is_letter_class}
-use Rattle.dk_lexer.specs.Spelling.{Spelling, token, wrong, up_to, letters_of, behind_letters, Quoted, closed, faulty, open_ended, one_more, too_long, bar_before, behind_bar, behind_last_bar, quoted_byte, last_byte, quoted, quoted_spelled, word_spelled, sign_spelled, comment, comment_open, blank, Pair, opens, closes, apart, pair, colon_before, behind_colon, equals_before, behind_equals, long_before, behind_two_minus, minus_before, behind_minus, bracket_before, behind_bracket, open_before, behind_open}
-use Rattle.dk_lexer.specs.Tokens.{Ending, Lexed, bound, behind, outcome_at, tokens_from, input_limit}
-use Rattle.dk_lexer.specs.Steps.{one, own, fails, takes, goes_on, completes, settles, quoted_step, bar_more, bar_step, hash_step, word_step, bracket_step, open_step, colon_step, equals_step, minus_step, two_minus_step, comment_closes, comment_pair}
-use Rattle.dk_lexer.proofs.Leaves.{QuotedLeaves, quoted_leaves, spelled_leaves, behind_bar_leaves, last_bar_leaves, one_leaves, letters_leave, word_leaves}
-use Rattle.dk_lexer.proofs.Begins.{two_minus_leaves, comment_blank}
-use Rattle.dk_lexer.proofs.Gives.{IsBlank}
+use Rattle.dk_lexer.specs.Classes.{class_of}
+use Rattle.dk_lexer.proofs.Runs.{does, mid, FitsOwn, AllAgree, at_bar}
+use Rattle.dk_lexer.proofs.Gives.{fails_gives, goes_mid, completes_mid, ahead, ahead_total, ahead_fits}
+use Rattle.dk_lexer.specs.Spelling.{Spelling, token, wrong, Quoted, closed, faulty, open_ended, one_more, too_long, bar_before, quoted_byte, last_byte, quoted, quoted_spelled}
+use Rattle.dk_lexer.specs.Tokens.{Ending, Lexed, tokens_from}
+use Rattle.dk_lexer.specs.Steps.{one, fails, goes_on, quoted_step, bar_step}
+use Rattle.dk_lexer.proofs.Leaves.{QuotedLeaves, quoted_leaves, spelled_leaves, behind_bar_leaves, last_bar_leaves, one_leaves}
 
 -- from the place of a byte on
 abbrev pub from_here : Lexer → Ending → ℕ → ℕ → List ℕ → Option ℕ → ℕ → Lexed

@@ -1,5 +1,5 @@
 -- The classes of bytes.
-use Rattle.std.specs.Prelude.{ℕ, Bool, true, false, List, [], ◌∷◌, if◌then◌else◌, ◌==◌, nat_le, ◌&&◌, ◌||◌}
+use Rattle.std.specs.Prelude.{ℕ, Bool, true, false, if◌then◌else◌, ◌==◌, nat_le, ◌&&◌, ◌||◌}
 use Rattle.dk_lexer.specs.declared.class.Class.{Class}
 use Rattle.dk_lexer.specs.declared.class.Class.TheVariants as class
 

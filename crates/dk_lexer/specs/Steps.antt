@@ -16,7 +16,7 @@ use Rattle.dk_lexer.specs.declared.part.Part.TheVariants as part
 use Rattle.dk_lexer.specs.declared.fed.Fed.{Fed}
 use Rattle.dk_lexer.specs.declared.fed.Begun.{Begun}
 use Rattle.dk_lexer.specs.declared.lexer.Lexer.{Lexer}
-use Rattle.dk_lexer.specs.Classes.{class_of, in_name, begins_name}
+use Rattle.dk_lexer.specs.Classes.{class_of, in_name}
 use Rattle.dk_lexer.specs.Spelling.{kind_of, is_wildcard, Pair, opens, closes, apart, pair}
 use Rattle.dk_lexer.specs.Parts.{in_quoted}
 use Rattle.dk_lexer.specs.Tokens.{Bound, bound, behind, begin_of, command_after, token_at}
