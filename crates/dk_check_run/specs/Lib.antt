@@ -1,2 +1,5 @@
+pub mod Counts
 pub mod Outcomes
+pub mod Progress
+pub mod Run
 pub mod Theories

@@ -45,11 +45,6 @@ Adds old entry name new = new ≡ record {
   shown = old.shown ++ name ∷ [];
 }
 
--- the command is accepted, and its entry is this one
-pub record IsAcceptedEntry (S : PlainSignature) (c : PlainCommand) (budget : ℕ) (entry : PlainEntry) : Type 0 where
-  pub accepted : verdict_of S c budget ≡ verdict.Accepted
-  pub entry_is : entry ≡ entry_of S c (inferred_type S c budget)
-
 -- the verdict that is due, or want of memory, and not that the command is accepted
 pub record IsOtherVerdict (due given : Verdict) : Type 0 where
   pub given_is : IsVerdictOrMemory due given

@@ -1,6 +1,10 @@
 //! Checks a file: reads it, checks its commands one after the other and writes the report. Begin at `run`.
 #![tactic(auto)]
 
+mod reader;
+mod shelf_read;
 mod theory;
 
+pub use reader::Reader;
+pub use shelf_read::read_book;
 pub use theory::Theory;

@@ -1,15 +1,14 @@
 //! The theory of the commands accepted so far, and the check of the next one.
 ghost use Rattle.std.specs.Prelude.{◌≡◌, ◌<◌, ◌≤◌, ◌∷◌, ◌++◌, [], IfOk, IfErr, OnOk, OnErr, length};
-ghost use Rattle.dk_model.specs.Signatures.{maybe_tree, plain_entry, plain_signature};
-ghost use Rattle.dk_model.specs.Scoping.{plain_command};
-ghost use Rattle.dk_model.specs.Verdicts.{HasNoRules, entry_of, is_untyped, verdict_of};
+ghost use Rattle.dk_model.specs.Signatures.{plain_entry};
+ghost use Rattle.dk_model.specs.Verdicts.{HasNoRules};
 ghost use Rattle.dk_parser.specs.Written.{written_form};
 ghost use Rattle.dk_check_run.specs.Outcomes.{shown_name, verdict_after};
-ghost use Rattle.dk_check_run.specs.Theories.{AcceptsWith, Adds, IsAcceptedEntry, IsOtherVerdict, IsSound, Judges, checked_of, nothing_checked};
+ghost use Rattle.dk_check_run.specs.Theories.{AcceptsWith, Adds, IsOtherVerdict, IsSound, Judges, checked_of, nothing_checked};
 
-use dk_model::{Code, Entry, Fault, Limits, Listed, NoMemory, Scoped, Signature, Term, Verdict};
+use dk_model::{Code, Entry, Fault, Limits, Listed, NoMemory, Signature, Verdict};
 use dk_parser::{Raw, RawForm};
-use plain_check::{check_plain, entry_of, infer_plain};
+use plain_check::enter_plain;
 use scope_terms::Names;
 use std::alloc::Global;
 
@@ -59,6 +58,7 @@ impl Theory {
         requires sound { IsSound (checked_of self.old) }
         requires few { limits.now.commands < 4294967296 }
         ensures sound { result ≡ Verdict.Accepted → IsSound (checked_of self.new) }
+        ensures few { result ≡ Verdict.Accepted → length (checked_of self.new).shown ≤ limits.now.commands }
         ensures judged { Judges limits.now budget (checked_of self.old) (written_form raw.form) result (checked_of self.new) }
     {
         if self.shown.len() >= limits.commands as usize {
@@ -82,7 +82,10 @@ impl Theory {
         ensures kept { (checked_of self.new).shown ≡ (checked_of self.old).shown }
     {
         match self.names.scope(alloc, raw) {
-            Ok(scoped) => judged_entry(alloc, &self.signature, &scoped, budget),
+            Ok(scoped) => match enter_plain(alloc, &self.signature, &scoped, budget) {
+                Ok(entry) => Ok(entry),
+                Err(verdict) => Err(verdict),
+            },
             Err(Fault::Refused(code)) => Err(Verdict::Refused(code)),
             Err(Fault::NoMemory) => Err(Verdict::Memory),
         }
@@ -96,57 +99,5 @@ impl Theory {
         self.signature.entries.push(entry)?;
         self.shown.push(name)?;
         Ok(())
-    }
-}
-
-// Whether the command is a definition without a declared type.
-fn is_untyped(command: &Scoped) -> bool
-    ensures { result ≡ is_untyped (plain_command command.now) }
-{
-    matches!(
-        command,
-        Scoped::Declare {
-            typ: None,
-            body: Some(_),
-            ..
-        }
-    )
-}
-
-// The entry of a command that is accepted, or its verdict.
-fn judged_entry(
-    alloc: Global,
-    signature: &Signature,
-    command: &Scoped,
-    budget: u64,
-) -> Result<Entry, Verdict>
-    requires { HasNoRules (plain_signature signature.now) }
-    ensures ok { IfOk result (λ e. IsAcceptedEntry (plain_signature signature.now) (plain_command command.now) budget (plain_entry e)) }
-    ensures err { IfErr result (λ v. IsOtherVerdict (verdict_of (plain_signature signature.now) (plain_command command.now) budget) v) }
-{
-    if is_untyped(command) {
-        return match infer_plain(alloc, signature, command, budget) {
-            Ok(typ) => kept_entry(alloc, signature, command, Some(typ)),
-            Err(verdict) => Err(verdict),
-        };
-    }
-    match check_plain(alloc, signature, command, budget) {
-        Verdict::Accepted => kept_entry(alloc, signature, command, None),
-        verdict => Err(verdict),
-    }
-}
-
-fn kept_entry(
-    alloc: Global,
-    signature: &Signature,
-    command: &Scoped,
-    inferred: Option<Term>,
-) -> Result<Entry, Verdict>
-    ensures ok { IfOk result (λ e. plain_entry e ≡ entry_of (plain_signature signature.now) (plain_command command.now) (maybe_tree inferred)) }
-    ensures err { IfErr result (λ v. v ≡ Verdict.Memory) }
-{
-    match entry_of(alloc, signature, command, inferred) {
-        Ok(entry) => Ok(entry),
-        Err(_) => Err(Verdict::Memory),
     }
 }

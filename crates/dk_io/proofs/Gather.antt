@@ -1,12 +1,12 @@
 -- Texts that go through a buffer, one after another.
-use Rattle.std.proofs.Common.{◌≡◌, ◌≤◌, ◌<◌, ◌+◌, ◌-◌, ℕ, List, [], ◌∷◌, ◌++◌, length, take, drop, refl, sym, ap, subst, ◌∙◌, arith, min, length-append, length-drop}
+use Rattle.std.proofs.Common.{◌≡◌, ◌≤◌, ◌+◌, ℕ, List, [], ◌∷◌, ◌++◌, length, take, drop, refl, sym, ap, subst, ◌∙◌, arith, min, length-append, length-drop}
 use Rattle.std.proofs.lemmas.List.{append_assoc, take-append-le, take_min, take_all, length-take-le, take-append-drop}
 use Rattle.std.proofs.Math.Seq.{take-add, take-append-add}
 use Rattle.std.specs.Prelude.{Option, Some, None, Result, Ok, Err}
 use denote.Ref.{Bor}
 use Rattle.dk_io.specs.Bytes.{added, AddsSome, Wrote, joined}
 use Rattle.dk_io.specs.Gathered.{Moves, Gathers}
-use Rattle.dk_io.proofs.Adds.{added-added, wrote_stop, wrote_then}
+use Rattle.dk_io.proofs.Adds.{added-added}
 
 append_none : (s : List ℕ) → s ++ [] ≡ s
 append_none [] = refl
@@ -25,8 +25,8 @@ pub moves_then : {a b c : Option (List ℕ)} {w x y s t : List ℕ} → Moves a 
 moves_then {a = a} {w = w} {x = x} {y = y} {s = s} {t = t} first second = record {
   front = first.front ++ second.front;
   parts =
-    sym (append_assoc w s t) ∙ ap (λ u. u ++ t) first.parts ∙ append_assoc first.front x t
-    ∙ ap (λ u. first.front ++ u) second.parts ∙ sym (append_assoc first.front second.front y);
+      sym (append_assoc w s t) ∙ ap (λ u. u ++ t) first.parts ∙ append_assoc first.front x t
+      ∙ ap (λ u. first.front ++ u) second.parts ∙ sym (append_assoc first.front second.front y);
   taken = second.taken ∙ ap (λ o. added o second.front) first.taken ∙ added-added a first.front second.front;
 }
 
@@ -42,10 +42,11 @@ adds_longer a b s t some =
 -- the sink took a front of what waited after some texts
 pub moves_stop : {a b c : Option (List ℕ)} {w x s : List ℕ} → Moves a w b x s → AddsSome b c x → AddsSome a c (w ++ s)
 moves_stop {a = a} {c = c} {x = x} first some =
-    let text : AddsSome a c (first.front ++ x) =
-      (length first.front + some.0,
-       some.1 ∙ ap (λ o. added o (take some.0 x)) first.taken ∙ added-added a first.front (take some.0 x)
-       ∙ ap (added a) (sym (take-append-add first.front x some.0)))
+    let text : AddsSome a c (first.front ++ x) = (
+      length first.front + some.0,
+      some.1 ∙ ap (λ o. added o (take some.0 x)) first.taken ∙ added-added a first.front (take some.0 x)
+          ∙ ap (added a) (sym (take-append-add first.front x some.0)),
+    )
     in subst (λ (u : List ℕ). AddsSome a c u) (sym first.parts) text
 
 -- a text goes on
@@ -76,13 +77,14 @@ pub room_more : {S E : Type 0} {s0 s1 s2 : S} (w x y bytes rest : List ℕ) (at 
 room_more w x y bytes rest at n within is before now fits =
     let p = before fits in
     let shorter : length x + length rest ≤ 4096 =
-      omega (arith, ap length p.1, ap length is, length-append w (take at bytes), length-take-le at bytes within, length-drop at bytes) in
+    omega (arith, ap length p.1, ap length is, length-append w (take at bytes), length-take-le at bytes within, length-drop at bytes) in
     let q = now shorter in
     let count : n ≡ length rest = cc q.0 in
-    let whole : take n rest ≡ rest = take_all n rest (omega arith) in
-    (q.1 ∙ p.0,
-     q.2 ∙ ap (λ u. u ++ rest) p.1 ∙ append_assoc w (take at bytes) rest
-     ∙ ap (λ u. w ++ (take at bytes ++ u)) (sym whole ∙ ap (take n) is) ∙ ap (λ u. w ++ u) (sym (take-add at n bytes)))
+    let whole : take n rest ≡ rest = take_all n rest (omega arith) in (
+      q.1 ∙ p.0,
+      q.2 ∙ ap (λ u. u ++ rest) p.1 ∙ append_assoc w (take at bytes) rest
+          ∙ ap (λ u. w ++ (take at bytes ++ u)) (sym whole ∙ ap (take n) is) ∙ ap (λ u. w ++ u) (sym (take-add at n bytes)),
+    )
 
 -- the sink took a front of what waited after a text and of one more text
 adds_more : (a c : Option (List ℕ)) (w x s t : List ℕ) {b : Option (List ℕ)} → Moves a w b x s → AddsSome b c (x ++ t) → AddsSome a c (w ++ (s ++ t))
@@ -122,8 +124,8 @@ gathers_stop_at {E = E} {a = a} {c = c} {w = w} {y = y} {z = z} {e = failed} don
 pub wrote_whole : {E : Type 0} {a b c : Option (List ℕ)} {w x s : List ℕ} {r : Result (Unit {0}) E} → w ≡ [] → Gathers {E = E} a w b x s (Ok tt) → Wrote b c x r → Wrote a c s r
 wrote_whole {a = a} {c = c} {x = x} {s = s} {r = Ok _} empty first second = record {
   whole =
-    second.whole ∙ ap (λ o. added o x) first.whole.taken ∙ added-added a first.whole.front x
-    ∙ ap (added a) (sym first.whole.parts ∙ ap (λ v. v ++ s) empty);
+      second.whole ∙ ap (λ o. added o x) first.whole.taken ∙ added-added a first.whole.front x
+      ∙ ap (added a) (sym first.whole.parts ∙ ap (λ v. v ++ s) empty);
   front = tt;
 }
 wrote_whole {a = a} {c = c} {s = s} {r = Err _} empty first second = record {

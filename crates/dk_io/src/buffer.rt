@@ -1,4 +1,4 @@
-ghost use Rattle.std.specs.Prelude.{◌≡◌, ◌≤◌, ◌+◌, ◌-◌, ◌++◌, [], length, min, take, IfOk, IsOk, Ok, IsTrue, OnErr, ◌<◌,  ◌↔◌, OnOk};
+ghost use Rattle.std.specs.Prelude.{◌≡◌, ◌≤◌, ◌+◌, ◌-◌, ◌++◌, [], length, min, take, IfOk, IsOk, Ok, IsTrue, OnErr, ◌<◌, ◌↔◌, OnOk};
 ghost use Rattle.dk_io.specs.Bytes.{AddsSome, Wrote, joined};
 ghost use Rattle.dk_io.specs.Causes.{HasCause};
 ghost use Rattle.dk_io.specs.Gathered.{Gathers, Moves};
@@ -60,6 +60,7 @@ impl Buffer {
     pub fn flush<K: Sink>(&mut self, sink: &mut K) -> Result<(), Failed>
         ensures wrote { Wrote (K.taken sink.old) (K.taken sink.new) self.old result }
         ensures empty { OnOk result (self.new ≡ []) }
+        ensures nothing { self.old ≡ [] → IsOk result × (sink.new ≡ sink.old) }
         ensures cause { HasCause (K.faults sink.old) (K.faults sink.new) result }
     {
         put(sink, &self.bytes[..self.count])?;
@@ -67,16 +68,18 @@ impl Buffer {
         Ok(())
     }
 
+    // Writes what waits if the buffer is full, and then takes as many bytes as there is room for.
     #[tactic(auto, using(crate::proofs::Gather::moves_flushed, crate::proofs::Gather::moves_fill))]
-    // Writes what waits if the buffer is full, and then takes as many of the bytes as there is room for.
     fn put_some<K: Sink>(&mut self, sink: &mut K, bytes: &[u8]) -> Result<usize, Failed>
         requires { 0 < length bytes.now }
         ensures some { IfOk result (λ n. (0 < n) × (n ≤ length bytes.now)) }
-        ensures moves { IfOk result (λ n. Moves (K.taken sink.old) self.old (K.taken sink.new) self.new (take n bytes.now)) }
+        ensures moves { IfOk result (λ n.
+            Moves (K.taken sink.old) self.old (K.taken sink.new) self.new (take n bytes.now)) }
         ensures front { OnErr result (AddsSome (K.taken sink.old) (K.taken sink.new) self.old) }
         ensures cause { HasCause (K.faults sink.old) (K.faults sink.new) result }
         ensures room { length self.old + length bytes.now ≤ 4096 →
-            (result ≡ Ok (length bytes.now)) × (sink.new ≡ sink.old) × (self.new ≡ self.old ++ bytes.now) }
+            (result ≡ Ok (length bytes.now)) × (sink.new ≡ sink.old)
+            × (self.new ≡ self.old ++ bytes.now) }
     {
         if self.is_full() {
             if let Err(failed) = self.flush(sink) {
@@ -87,10 +90,11 @@ impl Buffer {
         Ok(self.fill(bytes))
     }
 
-    #[tactic(auto, using(crate::proofs::Gather::moves_more, crate::proofs::Gather::moves_stop, crate::proofs::Gather::moves_none))]
     /// Puts the bytes behind those that wait, and writes whenever the buffer is full.
+    #[tactic(auto, using(crate::proofs::Gather::moves_none))]
     pub fn put<K: Sink>(&mut self, sink: &mut K, bytes: &[u8]) -> Result<(), Failed>
-        ensures put { Gathers (K.taken sink.old) self.old (K.taken sink.new) self.new bytes.now result }
+        ensures put { Gathers (K.taken sink.old) self.old
+            (K.taken sink.new) self.new bytes.now result }
         ensures cause { HasCause (K.faults sink.old) (K.faults sink.new) result }
 
         // Where there is room for them, the sink isn't called.
@@ -110,7 +114,8 @@ impl Buffer {
 
     /// Puts all of the pieces, one after the other.
     pub fn put_all<K: Sink>(&mut self, sink: &mut K, pieces: &[&[u8]]) -> Result<(), Failed>
-        ensures put { Gathers (K.taken sink.old) self.old (K.taken sink.new) self.new (joined pieces.now) result }
+        ensures put { Gathers (K.taken sink.old) self.old
+            (K.taken sink.new) self.new (joined pieces.now) result }
         ensures cause { HasCause (K.faults sink.old) (K.faults sink.new) result }
 
         // Where there is room for them, the sink isn't called.

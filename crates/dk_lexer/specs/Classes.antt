@@ -48,7 +48,3 @@ begins_name _ = false
 abbrev pub is_letter_class : Class → Bool
 is_letter_class class.Letter = true
 is_letter_class _ = false
-
-abbrev pub is_newline : Class → Bool
-is_newline class.Newline = true
-is_newline _ = false

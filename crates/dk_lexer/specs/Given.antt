@@ -23,10 +23,10 @@ pub record AddsTokens (old : Lexed) (fed : Fed) (new : Lexed) : Type 0 where
 abbrev pub begun_line : Limits → List ℕ → ℕ
 begun_line limits bytes = (tokens limits bytes broken).line
 
--- a fault that stands stays, with its line
+-- a fault that stands stays, with its line, and no token comes after it
 abbrev pub Stays : Option Code → Lexed → Lexed → Type 0
 Stays None old new = Unit {0}
-Stays (Some code) old new = (new.fault ≡ Some code) × (new.line ≡ old.line)
+Stays (Some code) old new = new ≡ old
 
 -- tokens that are a front of others
 pub record IsFrontOf (old new : Lexed) : Type 0 where

@@ -1,5 +1,7 @@
 pub mod Classes
 pub mod Spelling
 pub mod Tokens
+pub mod Parts
 pub mod Steps
 pub mod Given
+pub mod Pieces

@@ -102,7 +102,7 @@ behind_last_bar (c ∷ cs) = bar_before (class_of c) (length cs) (too_long (clas
 -- a byte of a quoted name that may have more bytes, and what they make of it
 abbrev pub quoted_byte : Class → ℕ → List ℕ → Quoted → Quoted
 quoted_byte class.Newline b bs more = faulty E01 (suc (length bs))
-quoted_byte class.Bar b bs more = behind_bar bs (one_more b more)
+quoted_byte class.Bar b bs more = behind_bar bs (one_more 124 more)
 quoted_byte _ b bs more = one_more b more
 
 -- a byte behind a quoted name that is as long as it may be
@@ -138,10 +138,10 @@ pair _ _ = apart
 abbrev pub comment : ℕ → Class → List ℕ → Spelling
 comment depth last [] = comment_open
 comment depth last (b ∷ bs) = elim (pair last (class_of b)) [
-  opens ↦ comment (depth + 1) class.Other bs
+  | opens ↦ comment (depth + 1) class.Other bs
   | closes ↦ elim (nat_le depth 1) [ true ↦ blank (length bs) | false ↦ comment (depth - 1) class.Other bs ]
   | apart ↦ comment depth (class_of b) bs
-  ]
+]
 
 -- a qualified name whose second part is a run: the wildcard can't be one
 abbrev pub second_settled : Bool → List ℕ → List ℕ → ℕ → Spelling

@@ -1,5 +1,5 @@
 -- What the lexer does with one byte, over its own state. The laws on it tie it to the tokens of the bytes so far.
-use Rattle.std.specs.Prelude.{ℕ, zero, suc, ◌+◌, ◌-◌, Bool, true, false, List, [], ◌∷◌, ◌++◌, length, codes, Option, Some, None, if◌then◌else◌, ◌==◌, nat_le, nat_lt}
+use Rattle.std.specs.Prelude.{ℕ, zero, suc, ◌+◌, ◌-◌, min, Bool, true, false, List, [], ◌∷◌, ◌++◌, length, codes, Option, Some, None, if◌then◌else◌, ◌==◌, nat_le, nat_lt, ◌||◌}
 use Rattle.dk_model.specs.declared.code.Code.{Code}
 use Rattle.dk_model.specs.declared.code.Code.TheVariants.{E01, E03, E05}
 use Rattle.dk_model.specs.declared.limits.Limits.{Limits}
@@ -18,6 +18,7 @@ use Rattle.dk_lexer.specs.declared.fed.Begun.{Begun}
 use Rattle.dk_lexer.specs.declared.lexer.Lexer.{Lexer}
 use Rattle.dk_lexer.specs.Classes.{class_of, in_name, begins_name}
 use Rattle.dk_lexer.specs.Spelling.{kind_of, is_wildcard, Pair, opens, closes, apart, pair}
+use Rattle.dk_lexer.specs.Parts.{in_quoted}
 use Rattle.dk_lexer.specs.Tokens.{Bound, bound, behind, begin_of, command_after, token_at}
 
 -- what a byte gives by itself, and the lexer behind it
@@ -139,7 +140,7 @@ comment_closes l true depth b = takes l l.command part.Nothing b
 comment_closes l false depth b = takes l l.command (part.Comment (depth - 1) class.Other) b
 
 abbrev pub comment_pair : Lexer → Pair → ℕ → Class → ℕ → Move
-comment_pair l opens depth c b = takes l l.command (part.Comment (depth + 1) class.Other) b
+comment_pair l opens depth c b = takes l l.command (part.Comment (min (depth + 1) 4294967295) class.Other) b
 comment_pair l closes depth c b = comment_closes l (nat_le depth 1) depth b
 comment_pair l apart depth c b = takes l l.command (part.Comment depth c) b
 
@@ -171,8 +172,11 @@ dot_step l text dot class.Underscore b = second_begins l text b
 dot_step l text dot class.OpenBrace b = one (takes l None (part.RunBrace text dot l.here) b)
 dot_step l text dot class b = dot_ends l text dot class b
 
+abbrev pub second_opens : Lexer → List ℕ → ℕ → Step
+second_opens l text b = one (goes_on l (part.Quoted kind.Qualified (text ++ codes ".{|") l.limits.name_bytes) b)
+
 abbrev pub brace_step : Lexer → List ℕ → Place → Place → Class → ℕ → Step
-brace_step l text dot brace class.Bar b = one (goes_on l (part.Quoted kind.Qualified (text ++ codes ".{|") l.limits.name_bytes) b)
+brace_step l text dot brace class.Bar b = second_opens l text b
 brace_step l text dot brace class b =
     four (token_at l.first (kind_of text) text) (sign_at dot sign.Dot) (sign_at brace sign.OpenBrace)
     (begin (record l { part = part.Nothing; command = Some brace.offset }) class b)
@@ -194,11 +198,15 @@ quoted_step l kind text room class.Bar b = goes_on l (part.Bar kind text room) b
 quoted_step l kind text zero class b = fails l E05
 quoted_step l kind text (suc room) class b = goes_on l (part.Quoted kind (text ++ b ∷ []) room) b
 
+-- the bar is a byte of the name
+abbrev pub bar_more : Lexer → TokenKind → List ℕ → ℕ → Class → ℕ → Move
+bar_more l kind text zero class b = fails l E05
+bar_more l kind text (suc room) class b = quoted_step l kind (text ++ 124 ∷ []) room class b
+
 abbrev pub bar_step : Lexer → TokenKind → List ℕ → ℕ → Class → ℕ → Move
 bar_step l kind text room class.CloseBrace b = completes l kind (text ++ codes "|}") b
 bar_step l kind text room class.Newline b = fails l E01
-bar_step l kind text zero class b = fails l E05
-bar_step l kind text (suc room) class b = quoted_step l kind (text ++ 124 ∷ []) room class b
+bar_step l kind text room class b = bar_more l kind text room class b
 
 abbrev pub hash_step : Lexer → Class → ℕ → Step
 hash_step l class.Letter b = one (goes_on l (part.Word (35 ∷ b ∷ [])) b)
@@ -235,7 +243,7 @@ two_minus_step l class b = fails l E01
 
 abbrev pub part_step : Lexer → Part → Class → ℕ → Step
 part_step l part.Nothing class b = one (begin l class b)
-part_step l (part.Failed code) class b = record { fed = fed_one (none_begun (Some code)); lexer = l }
+part_step l (part.Failed code) class b = one (fails l code)
 part_step l (part.Comment depth last) class b = one (comment_pair l (pair last class) depth class b)
 part_step l (part.Run text) class b = run_step l text class b
 part_step l (part.RunDot text dot) class b = dot_step l text dot class b
@@ -254,7 +262,7 @@ part_step l part.TwoMinus class b = one (two_minus_step l class b)
 
 -- a byte
 unfoldable pub step : Lexer → ℕ → Step
-step l b = part_step l l.part (class_of b) b
+step l b = part_step (record l { part = part.Nothing }) l.part (class_of b) b
 
 -- the lexer of a file before its first byte
 abbrev pub start : Limits → Lexer
@@ -322,3 +330,11 @@ closed_part (Some code) = part.Failed code
 
 abbrev pub after_end : Lexer → Lexer
 after_end l = record l { part = closed_part (ends l).fault }
+
+-- the lexer after these bytes and their end
+unfoldable pub lexer_ended : Limits → List ℕ → Lexer
+lexer_ended limits bytes = after_end (lexer_after limits bytes)
+
+-- a byte of a name, a quoted name or a word
+abbrev pub is_text : Lexer → ℕ → Bool
+is_text l b = in_name (class_of b) || in_quoted l.part (class_of b)

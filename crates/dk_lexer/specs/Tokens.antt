@@ -1,5 +1,5 @@
 -- The tokens of a list of bytes (Dedukti manual, lexical conventions; the limits are our own; docs/syntax.md).
-use Rattle.std.specs.Prelude.{◌≡◌, ℕ, zero, suc, ◌+◌, ◌-◌, min, max, Bool, true, false, List, [], ◌∷◌, ◌++◌, length, Option, Some, None, if◌then◌else◌, ◌==◌, nat_le}
+use Rattle.std.specs.Prelude.{◌≡◌, ℕ, zero, suc, ◌+◌, ◌-◌, min, max, Bool, true, false, List, [], ◌∷◌, ◌++◌, length, Option, Some, None, if◌then◌else◌, ◌==◌, nat_le, nat_lt}
 use Rattle.dk_model.specs.declared.code.Code.{Code}
 use Rattle.dk_model.specs.declared.code.Code.TheVariants.{E03, E05, E07}
 use Rattle.dk_model.specs.declared.limits.Limits.{Limits}
@@ -8,7 +8,6 @@ use Rattle.dk_lexer.specs.declared.token.TokenKind.{TokenKind}
 use Rattle.dk_lexer.specs.declared.token.TokenKind.TheVariants as kind
 use Rattle.dk_lexer.specs.declared.token.Sign.TheVariants as sign
 use Rattle.dk_lexer.specs.declared.place.Place.{Place}
-use Rattle.dk_lexer.specs.Classes.{class_of, is_newline}
 use Rattle.dk_lexer.specs.Spelling.{Spelling, blank, token, run_and_dot, wrong, comment_open, unsettled, late, kind_of, spelled}
 
 -- How the bytes end: with the input, or where it broke off, so that more may follow.
@@ -44,9 +43,13 @@ unfoldable pub bound : Limits → Option ℕ → Bound
 bound limits None = record { last = input_limit limits; code = E07 }
 bound limits (Some begin) = nearer (begin + command_limit limits) (input_limit limits)
 
+-- the next line; `input_limit` keeps the lines of an input below 2 ^ 32
+abbrev pub next_line : ℕ → ℕ
+next_line line = min (line + 1) 4294967295
+
 -- the place behind a byte
 unfoldable pub behind : Place → ℕ → Place
-behind here b = record { offset = here.offset + 1; line = if is_newline (class_of b) then here.line + 1 else here.line }
+behind here b = record { offset = here.offset + 1; line = if b == 10 then next_line here.line else here.line }
 
 -- where the command begins that a token at this offset belongs to
 abbrev pub begin_of : Option ℕ → ℕ → ℕ
@@ -95,7 +98,8 @@ abbrev pub at_end : Ending → Lexed → Lexed → Lexed
 at_end whole settled begun = settled
 at_end broken settled begun = begun
 
--- the bound where the byte of the command behind its last one is a brace that is settled a byte later
+-- The bound behind a brace that may belong to a name. The brace itself is within the input; where the bound of the
+-- command falls on it, that is settled a byte later.
 abbrev pub late_bound : Setting → ℕ → ℕ → Bound
 late_bound s begin left =
     let last = begin + command_limit s.limits in
@@ -108,7 +112,8 @@ outcome s begin bound (run_and_dot text left) more =
     within s bound left (gives (token_at s.here (kind_of text) text) (gives (dot_at s.here text) (more None left)))
 outcome s begin bound (wrong code left) more = within s bound left (fault_at s.here code)
 outcome s begin bound (unsettled settled) more = at_end s.ending (outcome s begin bound settled more) (within s bound 0 (nothing_at s.here))
-outcome s begin bound (late left spelling) more = outcome s begin (late_bound s begin left) spelling more
+outcome s begin bound (late left spelling) more =
+    within s bound left (by_bound s.here E07 (nat_lt s.total (input_limit s.limits + left)) (outcome s begin (late_bound s begin left) spelling more))
 outcome s begin _ (blank left) more = within s (bound s.limits s.command) left (more s.command left)
 outcome s begin _ comment_open more = within s (bound s.limits s.command) 0 (at_end s.ending (fault_at s.here E03) (nothing_at s.here))
 
@@ -119,12 +124,11 @@ outcome_at s spelling more = let begin = begin_of s.command s.here.offset in out
 abbrev pub tokens_from : Limits → Ending → ℕ → Place → Option ℕ → ℕ → List ℕ → Lexed
 tokens_from limits ending total here command left [] = nothing_at here
 tokens_from limits ending total here command left (b ∷ bs) = elim (nat_le left (length bs)) [
-  true ↦ tokens_from limits ending total (behind here b) command left bs
+  | true ↦ tokens_from limits ending total (behind here b) command left bs
   | false ↦ outcome_at (record { limits = limits; ending = ending; total = total; here = here; command = command }) (spelled limits.name_bytes b bs)
-    (λ command left. tokens_from limits ending total (behind here b) command left bs)
-  ]
+      (λ command left. tokens_from limits ending total (behind here b) command left bs)
+]
 
 -- the tokens of the bytes of an input
 unfoldable pub tokens : Limits → List ℕ → Ending → Lexed
 tokens limits bytes ending = tokens_from limits ending (length bytes) (record { offset = 0; line = 1 }) None (length bytes) bytes
-

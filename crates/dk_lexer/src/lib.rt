@@ -1,14 +1,21 @@
-//! Tokens of the bytes of a file, one byte at a time.
+//! Tokens of the bytes of a file, one byte at a time. Begin at `Lexer::feed`.
 #![tactic(auto)]
 
 mod class;
 mod fed;
+mod laws;
 mod lexer;
 mod part;
 mod place;
+#[cfg(test)]
+mod rows;
+#[cfg(test)]
+mod tests;
 mod token;
+mod words;
 
 pub use fed::Fed;
+pub use laws::{front_law, pieces_law, place_law};
 pub use lexer::Lexer;
 pub use place::Place;
 pub use token::{Sign, Token, TokenKind};

@@ -17,8 +17,13 @@ abbrev numbers : PlainSignature
 numbers = symbol_entry Static star None ∷ symbol_entry Static (symbol 0) None ∷ symbol_entry Static (product (symbol 0) (symbol 0)) None
     ∷ symbol_entry Definable (product (symbol 0) (product (symbol 0) (symbol 0))) None
     ∷ rules_entry (record { head = 3; vars = 1; pats = symbol_pattern 1 no_patterns ∷ rule_variable_pattern 0 [] ∷ []; notes = None ∷ []; right = rule_variable 0 }
-            ∷ record { head = 3; vars = 2; pats = symbol_pattern 2 (more_patterns (rule_variable_pattern 0 []) no_patterns) ∷ rule_variable_pattern 1 [] ∷ [];
-                       notes = None ∷ None ∷ []; right = apply (symbol 2) (apply (apply (symbol 3) (rule_variable 0)) (rule_variable 1)) } ∷ [])
+    ∷ record {
+      head = 3;
+      vars = 2;
+      pats = symbol_pattern 2 (more_patterns (rule_variable_pattern 0 []) no_patterns) ∷ rule_variable_pattern 1 [] ∷ [];
+      notes = None ∷ None ∷ [];
+      right = apply (symbol 2) (apply (apply (symbol 3) (rule_variable 0)) (rule_variable 1));
+    } ∷ [])
     ∷ symbol_entry Static (product (symbol 0) (product (symbol 0) star)) None
     ∷ symbol_entry Static (product (symbol 0) (apply (apply (symbol 5) (variable 0)) (variable 0))) None ∷ []
 

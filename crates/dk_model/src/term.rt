@@ -2,6 +2,7 @@
 ghost use Rattle.std.specs.Prelude.{◌≡◌, ◌+◌, IfOk};
 ghost use Rattle.dk_model.specs.Trees.{tree, apply, bare, annotated, product};
 ghost use Rattle.dk_model.specs.Substitution.{shift, substitute, equal};
+ghost use Rattle.dk_model.specs.Erasure.{erased};
 
 use crate::NoMemory;
 use std::alloc::Global;
@@ -158,6 +159,22 @@ impl Term {
                 a.substitute(alloc, depth, by)?,
                 b.substitute(alloc, next(depth)?, by)?,
             ),
+        }
+    }
+
+    /// The term with every annotation of an abstraction removed.
+    pub fn erased(&self, alloc: Global) -> Result<Term, NoMemory>
+        ensures { IfOk result (λ t. tree t ≡ erased (tree self.now)) }
+    {
+        match self {
+            Term::Star => Ok(Term::Star),
+            Term::Kind => Ok(Term::Kind),
+            Term::Sym(k) => Ok(Term::Sym(*k)),
+            Term::Var(k) => Ok(Term::Var(*k)),
+            Term::Rvar(k) => Ok(Term::Rvar(*k)),
+            Term::App(f, a) => make_app(alloc, f.erased(alloc)?, a.erased(alloc)?),
+            Term::Abs(_, b) => make_bare(alloc, b.erased(alloc)?),
+            Term::Prod(a, b) => make_product(alloc, a.erased(alloc)?, b.erased(alloc)?),
         }
     }
 

@@ -13,7 +13,7 @@ use Rattle.dk_parser.specs.declared.terminal.Terminal.{Terminal}
 use Rattle.dk_parser.specs.declared.terminal.Terminal.TheVariants as terminal
 use Rattle.dk_parser.specs.Terminals.{terminal_of}
 use Rattle.dk_parser.specs.Written.{WrittenCommand, written_command}
-use Rattle.dk_parser.specs.Parsing.{Part, PartStep, goes, ends, refuses, part_next, part_level, Parsing, started, Answer, more, command, refused, Turn, turn, turn_refused, turn_by_step, turn_by_terminal, turn_by_fault, parsing_from, parsing_after, answered, commands_from}
+use Rattle.dk_parser.specs.Parsing.{Part, PartStep, goes, ends, refuses, part_next, part_level, Parsing, started, Answer, more, command, refused, turn, turn_refused, turn_by_step, turn_by_terminal, turn_by_fault, parsing_from, parsing_after, answered, commands_from}
 use Rattle.dk_parser.specs.Reading.{TokenReading, read_tokens, fault_of, GoesOn, AddsCommand, AddsFault, AddsStep, Answers}
 use Rattle.dk_parser.specs.Views.{CameTo}
 
@@ -51,7 +51,7 @@ says_refused s line code e = (refl, refl, λ h. absurd (no_fault s.fault e h))
 
 says_level : (b : Bool) (s : Parsing) (line : ℕ) (part : Part) → s.fault ≡ None →
     Says (if b then turn_refused s line E04 else record { state = record s { begun = Some line; part = part }; answer = more }).answer s
-        (if b then turn_refused s line E04 else record { state = record s { begun = Some line; part = part }; answer = more }).state
+    (if b then turn_refused s line E04 else record { state = record s { begun = Some line; part = part }; answer = more }).state
 says_level true s line part e = says_refused s line E04 e
 says_level false s line part e = (e, e, refl)
 
@@ -152,8 +152,8 @@ adds_fault limits ts t code e =
       begun = line.1;
       after = fault_some (parsing_after limits (ts ++ t ∷ [])) code line.0 said.0 line.1;
       before = λ h.
-        ap (λ cs. reading_at cs (parsing_after limits (ts ++ t ∷ []))) commands
-        ∙ ap (reading_at (read_tokens limits ts).commands) (said.2 (mapped_some (parsing_after limits ts).fault (parsing_after limits ts).begun h));
+          ap (λ cs. reading_at cs (parsing_after limits (ts ++ t ∷ []))) commands
+          ∙ ap (reading_at (read_tokens limits ts).commands) (said.2 (mapped_some (parsing_after limits ts).fault (parsing_after limits ts).begun h));
     }
 
 adds_came : (limits : Limits) (ts : List Token) (t : Token) (r : Result Step Fault) (n : Parsing) → CameTo (turn (parsing_after limits ts) t) r n → AddsStep (read_tokens limits ts) r (read_tokens limits (ts ++ t ∷ []))

@@ -1,5 +1,5 @@
 -- The grammar: which terminals spell which commands (Dedukti manual, syntax; docs/grammar.md).
-use Rattle.std.specs.Prelude.{◌≡◌, ℕ, List, [], ◌∷◌, ◌++◌, Option, Some, None, map}
+use Rattle.std.specs.Prelude.{◌≡◌, ℕ, List, [], ◌∷◌, ◌++◌, Some, None, map}
 use Rattle.dk_model.specs.declared.signature.SymSort.TheVariants.{Static, Theorem}
 use Rattle.dk_lexer.specs.declared.token.Token.{Token}
 use Rattle.dk_lexer.specs.declared.token.Sign.TheVariants as sign
@@ -49,6 +49,10 @@ pub record Spells (ts : List Token) (c : WrittenCommand) : Type 0 where
   pub line : c.line ≡ first_line ts
   pub form : SpellsForm (terminals ts) c.form
 
--- a command begins so
+-- a command begins so, or is spelt so
 abbrev pub Begins : List Terminal → Type 0
 Begins xs = (rest : List Terminal) × (form : WrittenForm) × SpellsForm (xs ++ rest) form
+
+-- a command begins so, and more of it is due
+abbrev pub IsBegun : List Terminal → Type 0
+IsBegun xs = (x : Terminal) × (rest : List Terminal) × (form : WrittenForm) × SpellsForm (xs ++ x ∷ rest) form

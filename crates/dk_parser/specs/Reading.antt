@@ -13,7 +13,7 @@ use Rattle.dk_parser.specs.declared.terminal.Terminal.{Terminal}
 use Rattle.dk_parser.specs.declared.terminal.Terminal.TheVariants as terminal
 use Rattle.dk_parser.specs.Terminals.{terminal_of}
 use Rattle.dk_parser.specs.Written.{WrittenCommand, written_command}
-use Rattle.dk_parser.specs.Grammar.{terminals, first_line, Spells, Begins}
+use Rattle.dk_parser.specs.Grammar.{terminals, first_line, Spells, Begins, IsBegun}
 use Rattle.dk_parser.specs.Levels.{level, IsWithin}
 use Rattle.dk_parser.specs.Parsing.{Parsing, started, parsing_after, commands_from}
 
@@ -24,9 +24,9 @@ IsFault limits front x E02 = ¬ (x ≡ terminal.Profile) × ¬ Begins (front ++ 
 IsFault limits front x E04 = Begins (front ++ x ∷ []) × (limits.levels < level (front ++ x ∷ []))
 IsFault limits front x code = ⊥
 
--- no token of a front of a command is at fault
+-- these tokens begin a command that isn't ended, and none of them is at fault
 pub record IsFront (limits : Limits) (ts : List Token) : Type 0 where
-  pub begins : Begins (terminals ts)
+  pub begun : IsBegun (terminals ts)
   pub within : IsWithin limits.levels (terminals ts)
 
 -- the commands of a list of tokens, the line of the first token of one that has begun and not ended, and the first fault with the line of its command

@@ -3,12 +3,17 @@
 //! Begin at `Parser`. The meaning is in specs/Grammar.antt and specs/Reading.antt (docs/grammar.md).
 #![tactic(auto)]
 
+mod laws;
 mod parser;
 mod part;
 mod raw;
 mod term_part;
 mod terminal;
 
+pub use laws::{grammar_law, reading_law};
 pub use parser::{ParseFault, Parser, Step};
 pub use raw::{Raw, RawForm, RawNote, RawParam, RawPat, RawRule, RawTerm};
 pub use terminal::Terminal;
+
+#[cfg(test)]
+mod tests;

@@ -9,9 +9,9 @@ ghost use Rattle.dk_parser.specs.Parsing.{parsing_after, turn, turn_by_step};
 ghost use Rattle.dk_parser.specs.Reading.{AddsStep, Answers, finished, read_tokens};
 ghost use Rattle.dk_parser.specs.Views.{CameTo, parsing, plain_step};
 
-use crate::{Raw, RawForm};
 use crate::part::{Part, PartStep};
 use crate::terminal::Terminal;
+use crate::{Raw, RawForm};
 use dk_lexer::Token;
 use dk_model::{Code, Fault, Limits, NoMemory};
 use std::alloc::Global;

@@ -30,7 +30,10 @@ impl TermPart {
             (TermPart::Due(depth), Terminal::Qualified(m, n)) => {
                 Ok(Some(TermPart::Read(depth, RawTerm::Qualified(m, n))))
             }
-            (TermPart::Due(depth), Terminal::Star) => Ok(Some(TermPart::Read(depth, RawTerm::Star))),
+            (TermPart::Due(depth), Terminal::Star) => Ok(Some(TermPart::Read(
+                depth,
+                RawTerm::Star,
+            ))),
             (TermPart::Due(depth), Terminal::Wildcard) => {
                 Ok(Some(TermPart::Read(depth, RawTerm::Wild)))
             }

@@ -1,0 +1,6 @@
+pub mod Machine
+pub mod Given
+pub mod Pending
+pub mod Contexts
+pub mod Spine
+pub mod Clauses

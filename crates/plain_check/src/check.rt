@@ -1,53 +1,274 @@
 //! The verdict on a command, the type of a definition without one, and the entry of an accepted command.
-ghost use Rattle.std.specs.Prelude.{◌≡◌, IfOk, IfErr, IsTrue, Some};
+ghost use Rattle.std.specs.Prelude.{◌≡◌, ◌++◌, ◌∷◌, OnOk, OnErr, [], IfOk, IfErr, IsTrue, Some};
 ghost use Rattle.dk_model.specs.Trees.{tree};
 ghost use Rattle.dk_model.specs.Signatures.{plain_signature, plain_entry, maybe_tree};
 ghost use Rattle.dk_model.specs.Scoping.{plain_command};
-ghost use Rattle.dk_model.specs.Verdicts.{verdict_of, entry_of, inferred_type, is_untyped, IsVerdictOrMemory, HasNoRules};
+ghost use Rattle.dk_model.specs.Verdicts.{is_untyped, AddsNoRules, entry_type_of, kept_body};
+ghost use Rattle.plain_check.specs.Given.{fault_verdict};
+ghost use Rattle.plain_check.specs.Clauses.{NoRules, due, IsDue, inferred_for, IsEntryOf, ChecksDeclaration, ChecksBody, GivesSort, GivesBodyType};
 
-use dk_model::{Entry, NoMemory, Scoped, Signature, Term, Verdict};
+use crate::context::Context;
+use crate::expect::{as_sort, not_kind};
+use crate::fault::TypeFault;
+use crate::infer::{check, infer};
+use dk_model::{Code, Entry, Listed, NoMemory, Scoped, Signature, SymSort, Term, Verdict};
 use std::alloc::Global;
 
 /// The verdict on a command over the signature of the commands before it (docs/typing.md).
 ///
 /// The check may take `budget` units; `Ended` says that it needs more. `Memory` says nothing of the command.
-pub fn check_plain(
-    alloc: Global,
-    signature: &Signature,
-    command: &Scoped,
-    budget: u64,
-) -> Verdict
-    requires { HasNoRules (plain_signature signature.now) }
-    ensures { IsVerdictOrMemory (verdict_of (plain_signature signature.now) (plain_command command.now) budget) result }
+#[tactic(auto, using(crate::proofs::Verdict::fit_verdict))]
+pub fn check_plain(alloc: Global, signature: &Signature, command: &Scoped, budget: u64) -> Verdict
+    requires { NoRules signature.now }
+    ensures { IsDue signature.now command.now budget result }
 {
-    Verdict::Memory
+    match command {
+        Scoped::Declare { typ, body, .. } => {
+            let mut left = budget;
+            match check_declaration(alloc, signature, typ, body, &mut left) {
+                Ok(()) => Verdict::Accepted,
+                Err(fault) => fault_verdict(fault),
+            }
+        }
+        Scoped::Rules(_) => Verdict::Refused(Code::E31),
+    }
 }
 
 /// The type of the body of a definition without a declared type, where the command is accepted; else its verdict.
+#[tactic(auto, using(crate::proofs::Verdict::fault_refuses))]
 pub fn infer_plain(
     alloc: Global,
     signature: &Signature,
     command: &Scoped,
     budget: u64,
 ) -> Result<Term, Verdict>
-    requires no_rules { HasNoRules (plain_signature signature.now) }
+    requires no_rules { NoRules signature.now }
     requires untyped { IsTrue (is_untyped (plain_command command.now)) }
-    ensures ok { IfOk result (λ t. inferred_type (plain_signature signature.now) (plain_command command.now) budget ≡ Some (tree t)) }
-    ensures accepted { IfOk result (λ _. verdict_of (plain_signature signature.now) (plain_command command.now) budget ≡ Verdict.Accepted) }
-    ensures err { IfErr result (λ v. IsVerdictOrMemory (verdict_of (plain_signature signature.now) (plain_command command.now) budget) v) }
+    ensures ok { IfOk result (λ t. inferred_for signature.now command.now budget ≡ Some (tree t)) }
+    ensures accepted { IfOk result (λ _. due signature.now command.now budget ≡ Verdict.Accepted) }
+    ensures err { IfErr result (λ v. IsDue signature.now command.now budget v) }
     ensures refused { IfErr result (λ v. ¬ (v ≡ Verdict.Accepted)) }
 {
-    Err(Verdict::Memory)
+    match command {
+        Scoped::Declare {
+            typ: None,
+            body: Some(body),
+            ..
+        } => {
+            let mut left = budget;
+            match infer_body(alloc, signature, body, &mut left) {
+                Ok(typ) => Ok(typ),
+                Err(fault) => Err(fault_verdict(fault)),
+            }
+        }
+        _ => Err(Verdict::Memory),
+    }
+}
+
+/// Whether a command is a definition without a declared type.
+pub fn is_untyped(command: &Scoped) -> bool
+    ensures { result ≡ is_untyped (plain_command command.now) }
+{
+    match command {
+        Scoped::Declare { typ, body, .. } => typ.is_none() && body.is_some(),
+        Scoped::Rules(_) => false,
+    }
+}
+
+/// The entry that a command adds, where it is accepted; else its verdict.
+pub fn enter_plain(
+    alloc: Global,
+    signature: &Signature,
+    command: &Scoped,
+    budget: u64,
+) -> Result<Entry, Verdict>
+    requires { NoRules signature.now }
+    ensures ok { IfOk result (λ e. IsEntryOf signature.now command.now (inferred_for signature.now command.now budget) e) }
+    ensures accepted { IfOk result (λ _. due signature.now command.now budget ≡ Verdict.Accepted) }
+    ensures no_rules { IfOk result (λ e. AddsNoRules (plain_entry e)) }
+    ensures err { IfErr result (λ v. IsDue signature.now command.now budget v) }
+    ensures refused { IfErr result (λ v. ¬ (v ≡ Verdict.Accepted)) }
+{
+    let mut inferred = None;
+    if is_untyped(command) {
+        match infer_plain(alloc, signature, command, budget) {
+            Ok(typ) => inferred = Some(typ),
+            Err(verdict) => return Err(verdict),
+        }
+    } else {
+        match check_plain(alloc, signature, command, budget) {
+            Verdict::Accepted => {}
+            verdict => return Err(verdict),
+        }
+    }
+    match entry_of(alloc, signature, command, inferred) {
+        Ok(entry) => Ok(entry),
+        Err(_) => Err(Verdict::Memory),
+    }
+}
+
+fn fault_verdict(fault: TypeFault) -> Verdict
+    ensures { result ≡ fault_verdict fault }
+{
+    match fault {
+        TypeFault::Refused(code) => Verdict::Refused(code),
+        TypeFault::Ended => Verdict::Ended,
+        TypeFault::NoMemory => Verdict::Memory,
+    }
+}
+
+/// That a declared type has a sort and a body fits it; without a declared type, that the body has a type.
+#[tactic(auto, using(crate::proofs::Verdict::declared_fails, crate::proofs::Verdict::declared_body, crate::proofs::Verdict::untyped_fails, crate::proofs::Verdict::untyped_given))]
+fn check_declaration(
+    alloc: Global,
+    signature: &Signature,
+    typ: &Option<Term>,
+    body: &Option<Term>,
+    left: &mut u64,
+) -> Result<(), TypeFault>
+    requires { NoRules signature.now }
+    ensures { ChecksDeclaration signature.now typ.now body.now left.old result left.new }
+{
+    match typ {
+        Some(typ) => {
+            match check_type(alloc, signature, typ, left) {
+                Ok(_) => {}
+                Err(fault) => return Err(fault),
+            }
+            check_body(alloc, signature, typ, body, left)
+        }
+        None => match body {
+            Some(body) => match infer_body(alloc, signature, body, left) {
+                Ok(_) => Ok(()),
+                Err(fault) => Err(fault),
+            },
+            None => Ok(()),
+        },
+    }
+}
+
+/// The sort of a declared type.
+#[tactic(auto, using(crate::proofs::Verdict::sort_fails, crate::proofs::Verdict::sort_given))]
+fn check_type(
+    alloc: Global,
+    signature: &Signature,
+    typ: &Term,
+    left: &mut u64,
+) -> Result<Term, TypeFault>
+    requires { NoRules signature.now }
+    ensures { GivesSort signature.now typ.now left.old result left.new }
+{
+    let mut context = Context::new(alloc);
+    match infer(alloc, signature, &mut context, typ, left) {
+        Ok(found) => as_sort(alloc, signature, found, left),
+        Err(fault) => Err(fault),
+    }
+}
+
+/// That a body, where there is one, fits the declared type.
+fn check_body(
+    alloc: Global,
+    signature: &Signature,
+    typ: &Term,
+    body: &Option<Term>,
+    left: &mut u64,
+) -> Result<(), TypeFault>
+    requires { NoRules signature.now }
+    ensures { ChecksBody signature.now typ.now body.now left.old result left.new }
+{
+    match body {
+        Some(body) => {
+            let expected = typ.erased(alloc)?;
+            let mut context = Context::new(alloc);
+            check(alloc, signature, &mut context, body, &expected, left)
+        }
+        None => Ok(()),
+    }
+}
+
+/// The type of a body without a declared type.
+#[tactic(auto, using(crate::proofs::Verdict::body_fails, crate::proofs::Verdict::body_kind))]
+fn infer_body(
+    alloc: Global,
+    signature: &Signature,
+    body: &Term,
+    left: &mut u64,
+) -> Result<Term, TypeFault>
+    requires { NoRules signature.now }
+    ensures { GivesBodyType signature.now body.now left.old result left.new }
+{
+    let mut context = Context::new(alloc);
+    match infer(alloc, signature, &mut context, body, left) {
+        Ok(found) => not_kind(found),
+        Err(fault) => Err(fault),
+    }
 }
 
 /// The entry that an accepted command adds, with the type that was inferred for a definition without a declared one.
+///
+/// A definition keeps its body; a theorem keeps none.
 pub fn entry_of(
     alloc: Global,
     signature: &Signature,
     command: &Scoped,
     inferred: Option<Term>,
 ) -> Result<Entry, NoMemory>
-    ensures { IfOk result (λ e. plain_entry e ≡ entry_of (plain_signature signature.now) (plain_command command.now) (maybe_tree inferred)) }
+    ensures value { IfOk result (λ e. IsEntryOf signature.now command.now (maybe_tree inferred) e) }
+    ensures no_rules { IfOk result (λ e. AddsNoRules (plain_entry e)) }
 {
-    Err(NoMemory)
+    match command {
+        Scoped::Declare { sort, typ, body } => {
+            let typ = entry_type(alloc, typ, inferred)?;
+            let body = kept_body(alloc, *sort, body)?;
+            Ok(Entry::Symbol {
+                sort: *sort,
+                typ,
+                body,
+            })
+        }
+        Scoped::Rules(_) => Ok(Entry::Rules(Listed::new(alloc))),
+    }
+}
+
+/// Adds the entry of an accepted command to the signature.
+pub fn add_entry(signature: &mut Signature, entry: Entry) -> Result<(), NoMemory>
+    requires signature { NoRules signature.old }
+    requires entry { AddsNoRules (plain_entry entry) }
+    ensures ok { OnOk result (plain_signature signature.new ≡ plain_signature signature.old ++ plain_entry entry ∷ []) }
+    ensures no_rules { OnOk result (NoRules signature.new) }
+    ensures err { OnErr result (plain_signature signature.new ≡ plain_signature signature.old) }
+{
+    signature.entries.push(entry)?;
+    Ok(())
+}
+
+/// The declared type without annotations, or the inferred one.
+fn entry_type(
+    alloc: Global,
+    declared: &Option<Term>,
+    inferred: Option<Term>,
+) -> Result<Term, NoMemory>
+    ensures { IfOk result (λ t. tree t ≡ entry_type_of (maybe_tree declared.now) (maybe_tree inferred)) }
+{
+    match declared {
+        Some(typ) => typ.erased(alloc),
+        None => match inferred {
+            Some(typ) => Ok(typ),
+            None => Ok(Term::Kind),
+        },
+    }
+}
+
+/// The body that the entry keeps, without annotations: that of a definition.
+fn kept_body(alloc: Global, sort: SymSort, body: &Option<Term>) -> Result<Option<Term>, NoMemory>
+    ensures { IfOk result (λ b. maybe_tree b ≡ kept_body sort (maybe_tree body.now)) }
+{
+    match sort {
+        SymSort::Definable => match body {
+            Some(body) => Ok(Some(body.erased(alloc)?)),
+            None => Ok(None),
+        },
+        SymSort::Static => Ok(None),
+        SymSort::Theorem => Ok(None),
+    }
 }

@@ -4,5 +4,16 @@
 #![tactic(auto)]
 
 mod check;
+mod compare;
+mod context;
+mod evaluate;
+mod expect;
+mod fault;
+mod infer;
+pub mod laws;
+mod machine;
 
-pub use check::{check_plain, entry_of, infer_plain};
+pub use check::{add_entry, check_plain, enter_plain, entry_of, infer_plain, is_untyped};
+
+#[cfg(test)]
+mod tests;

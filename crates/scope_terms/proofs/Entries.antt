@@ -1,5 +1,5 @@
 -- The entries of the map, seen as names with their numbers.
-use Rattle.std.proofs.Common.{◌≡◌, ◌∙◌, sym, ℕ, ◌+◌, Bool, List, [], ◌∷◌, ◌++◌, refl, ap, subst, map, cond}
+use Rattle.std.proofs.Common.{◌≡◌, ◌∙◌, sym, ℕ, ◌+◌, Bool, List, [], ◌∷◌, refl, ap, subst, map, cond}
 use Rattle.std.proofs.lemmas.List.{map-append}
 use Rattle.std.specs.Prelude.{None, Some}
 use Rattle.std.specs.Map.{lookup}

@@ -1,2 +1,5 @@
 pub mod Entries
+pub mod Numbers
 pub mod Stages
+pub mod Contexts
+pub mod Rows

@@ -32,6 +32,6 @@ pub behind_none : {A : Type 0} (s : Scoping (List A)) → s ≡ behind [] s
 behind_none (scoped xs) = refl
 behind_none (refused c) = refl
 
-pub behind_more : {A : Type 0} (done : List A) (x : A) (s : Scoping (List A)) → one (λ xs. done ++ (x ∷ xs)) s ≡ behind (done ++ x ∷ []) s
+pub behind_more : {A : Type 0} (done : List A) (x : A) (s : Scoping (List A)) → behind done (one (λ xs. x ∷ xs) s) ≡ behind (done ++ x ∷ []) s
 behind_more done x (scoped xs) = ap scoped (sym (append_assoc done (x ∷ []) xs))
 behind_more done x (refused c) = refl

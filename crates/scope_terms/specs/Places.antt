@@ -1,10 +1,22 @@
--- The code's binders, meanings and declarations as plain data.
-use Rattle.std.specs.Prelude.{Option, Some, None, List, [], ◌∷◌}
+-- What the code holds as plain data, and its scoping.
+use Rattle.std.specs.Prelude.{ℕ, Option, List, [], ◌∷◌, map}
 use Rattle.std.specs.Option.{option_map}
-use Rattle.scope_terms.specs.Scopes.{Binder, Meaning, means_variable, means_rule_variable, means_symbol, unknown, Declaration}
+use Rattle.dk_model.specs.Trees.{Tree}
+use Rattle.dk_model.specs.Scoping.{PlainLeft, PlainScopedRule, PlainCommand, plain_scoped_rule}
+use Rattle.dk_model.specs.declared.scoped.ScopedRule.{ScopedRule}
+use Rattle.dk_parser.specs.Written.{written, maybe_written, written_pattern, written_param, written_note, written_rule, written_form}
+use Rattle.dk_parser.specs.declared.raw.Raw.{Raw}
+use Rattle.dk_parser.specs.declared.raw.RawTerm.{RawTerm}
+use Rattle.dk_parser.specs.declared.raw.RawPat.{RawPat}
+use Rattle.dk_parser.specs.declared.raw.RawParam.{RawParam}
+use Rattle.dk_parser.specs.declared.raw.RawNote.{RawNote}
+use Rattle.dk_parser.specs.declared.raw.RawRule.{RawRule}
+use Rattle.scope_terms.specs.Scopes.{Binder, Meaning, means_variable, means_rule_variable, means_symbol, unknown, Declaration, Numbered, no_names, Scoping, meant_term, meant_left, meaning_of, term_of, maybe_term_of, left_of, declaration_of, notes_of, variables_of, rule_of, rules_of, scope_of}
 use Rattle.dk_model.specs.Signatures.{maybe_tree}
 use Rattle.scope_terms.specs.declared.declaration.TypeAndBody.{TypeAndBody}
 use Rattle.scope_terms.specs.declared.place.Binders.{Binders, Outermost, Under'}
+use Rattle.scope_terms.specs.declared.rule.Context.{Context}
+use Rattle.scope_terms.specs.declared.place.Scope.{Scope}
 use Rattle.scope_terms.specs.declared.place.Named.{Named}
 use Rattle.scope_terms.specs.declared.place.Named.TheVariants.{Variable, RuleVariable, Symbol, Unknown}
 
@@ -21,3 +33,52 @@ meaning Unknown = unknown
 
 abbrev pub declaration : TypeAndBody → Declaration
 declaration d = record { typ = maybe_tree d.typ; body = maybe_tree d.body }
+
+-- ---- the scoping of what the parser gives
+
+-- what the name means under these binders
+abbrev pub sense : Scope → Binders → List ℕ → Meaning
+sense scope bound x = meaning_of scope.names.now scope.variables.now (binders bound) x
+
+-- the term, the left side that the name stands for
+abbrev pub named_term : Scope → Binders → List ℕ → Scoping Tree
+named_term scope bound x = meant_term (sense scope bound x)
+
+abbrev pub named_left : Scope → Binders → List ℕ → Scoping PlainLeft
+named_left scope bound x = meant_left (sense scope bound x)
+
+abbrev pub term_sense : Scope → Binders → RawTerm → Scoping Tree
+term_sense scope bound t = term_of scope.names.now scope.variables.now (binders bound) (written t)
+
+abbrev pub maybe_sense : Scope → Binders → Option RawTerm → Scoping (Option Tree)
+maybe_sense scope bound t = maybe_term_of scope.names.now scope.variables.now (binders bound) (maybe_written t)
+
+abbrev pub left_sense : Scope → Binders → RawPat → Scoping PlainLeft
+left_sense scope bound p = left_of scope.names.now scope.variables.now (binders bound) (written_pattern p)
+
+-- the type and the body under these parameters
+abbrev pub declaring : Scope → Binders → List RawParam → Option RawTerm → Option RawTerm → Scoping Declaration
+declaring scope bound params typ body = declaration_of scope.names.now (binders bound) (map written_param params) (maybe_written typ) (maybe_written body)
+
+-- the annotations of a context
+abbrev pub noted : Context → List (Option Tree)
+noted c = map maybe_tree c.notes
+
+abbrev pub notes_sense : Numbered → List RawNote → Scoping (List (Option Tree))
+notes_sense names context = notes_of names no_names (map written_note context)
+
+-- the rule variables of the context
+abbrev pub declared : List RawNote → Numbered
+declared context = variables_of no_names (map written_note context)
+
+abbrev pub rule_sense : Numbered → RawRule → Scoping PlainScopedRule
+rule_sense names rule = rule_of names (written_rule rule)
+
+abbrev pub plain_rules : List ScopedRule → List PlainScopedRule
+plain_rules rules = map plain_scoped_rule rules
+
+abbrev pub rules_sense : Numbered → List RawRule → Scoping (List PlainScopedRule)
+rules_sense names rules = rules_of names (map written_rule rules)
+
+abbrev pub scoping_of : Numbered → Raw → Scoping PlainCommand
+scoping_of names raw = scope_of names (written_form raw.form)

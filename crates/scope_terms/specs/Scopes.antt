@@ -1,5 +1,5 @@
 -- Scoping: which binder, rule variable or symbol each name means (docs/scoping.md).
-use Rattle.std.specs.Prelude.{ℕ, ◌+◌, nat_eq, Bool, false, if◌then◌else◌, is_some, Option, Some, None, List, [], ◌∷◌, ◌++◌, length, map}
+use Rattle.std.specs.Prelude.{ℕ, ◌+◌, nat_eq, Bool, false, if◌then◌else◌, is_some, Option, Some, None, List, [], ◌∷◌, ◌++◌, length}
 use Rattle.std.specs.Option.{option_map, option_map_or}
 use Rattle.std.specs.Cmp.Lexicographic.{pointwise}
 use Rattle.std.specs.Map.{lookup}
@@ -77,7 +77,7 @@ abbrev pub meaning_of : Numbered → Numbered → List Binder → Spelling → M
 meaning_of names variables bound x =
     option_map_or means_variable (place_from 0 (binds x) bound)
     (option_map_or means_rule_variable (number_of variables x)
-        (option_map_or means_symbol (number_of names x) unknown))
+    (option_map_or means_symbol (number_of names x) unknown))
 
 abbrev pub meant_term : Meaning → Scoping Tree
 meant_term (means_variable k) = scoped (variable k)

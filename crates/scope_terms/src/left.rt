@@ -1,13 +1,11 @@
 //! The left side that a pattern stands for.
-ghost use Rattle.std.specs.Prelude.{◌≡◌, IfOk, IfErr, []};
-ghost use Rattle.dk_model.specs.Scoping.{plain_left, left_apply, left_abstraction, left_guard};
-ghost use Rattle.dk_parser.specs.Written.{written_pattern};
-ghost use Rattle.scope_terms.specs.Scopes.{scoped, left_of, meant_left, meaning_of};
+ghost use Rattle.std.specs.Prelude.{◌≡◌, IfOk, IfErr};
+ghost use Rattle.dk_model.specs.Scoping.{plain_left, left_apply, left_abstraction};
+ghost use Rattle.scope_terms.specs.Scopes.{scoped};
 ghost use Rattle.scope_terms.specs.Answers.{IsFaultOf};
-ghost use Rattle.scope_terms.specs.Places.{binders};
+ghost use Rattle.scope_terms.specs.Places.{named_left, left_sense};
 
-use crate::Names;
-use crate::place::{Binders, Named, look_up};
+use crate::place::{Binders, Named, Scope, look_up};
 use crate::term::term_at;
 use dk_model::{Code, Fault, Left, Listed, NoMemory};
 use dk_parser::RawPat;
@@ -37,16 +35,11 @@ fn narrow(place: u64) -> Result<u32, NoMemory>
     }
 }
 
-fn name_at<'a>(
-    name: &Listed<u8>,
-    names: &Names,
-    variables: &Names,
-    bound: &'a Binders<'a>,
-) -> Result<Left, Fault>
-    ensures ok { IfOk result (λ l. meant_left (meaning_of names.now variables.now (binders bound.now) name.now) ≡ scoped (plain_left l)) }
-    ensures refused { IfErr result (IsFaultOf (meant_left (meaning_of names.now variables.now (binders bound.now) name.now))) }
+fn name_at<'a>(scope: &Scope, name: &Listed<u8>, bound: &'a Binders<'a>) -> Result<Left, Fault>
+    ensures ok { IfOk result (λ l. named_left scope.now bound.now name.now ≡ scoped (plain_left l)) }
+    ensures refused { IfErr result (IsFaultOf (named_left scope.now bound.now name.now)) }
 {
-    match look_up(names, variables, bound, name.as_slice())? {
+    match look_up(scope, bound, name.as_slice())? {
         Named::Variable(place) => Ok(Left::Var(narrow(place)?)),
         Named::RuleVariable(place) => Ok(Left::Rvar(place)),
         Named::Symbol(number) => Ok(Left::Sym(number)),
@@ -54,34 +47,33 @@ fn name_at<'a>(
     }
 }
 
-/// The left side, under these binders and with these rule variables, or its first code.
+/// The left side under these binders, or its first code.
 #[tactic(auto, using(crate::proofs::Stages::one_scoped, crate::proofs::Stages::one_fault, crate::proofs::Stages::both_scoped, crate::proofs::Stages::both_first, crate::proofs::Stages::both_second))]
 pub(crate) fn left_at<'a>(
-    raw: &'a RawPat,
     alloc: Global,
-    names: &Names,
-    variables: &Names,
+    scope: &Scope,
+    raw: &'a RawPat,
     bound: &'a Binders<'a>,
 ) -> Result<Left, Fault>
-    ensures ok { IfOk result (λ l. left_of names.now variables.now (binders bound.now) (written_pattern raw.now) ≡ scoped (plain_left l)) }
-    ensures refused { IfErr result (IsFaultOf (left_of names.now variables.now (binders bound.now) (written_pattern raw.now))) }
+    ensures ok { IfOk result (λ l. left_sense scope.now bound.now raw.now ≡ scoped (plain_left l)) }
+    ensures refused { IfErr result (IsFaultOf (left_sense scope.now bound.now raw.now)) }
 {
     match raw {
-        RawPat::Name(name) => name_at(name, names, variables, bound),
+        RawPat::Name(name) => name_at(scope, name, bound),
         RawPat::Qualified(_, _) => Err(Fault::Refused(Code::E10)),
         RawPat::Wild => Ok(Left::Any),
         RawPat::Guard(guard) => {
-            let guard = term_at(guard, alloc, names, variables, &Binders::Outermost)?;
+            let guard = term_at(alloc, scope, guard, &Binders::Outermost)?;
             Ok(Left::Guard(guard))
         }
         RawPat::App(f, a) => {
-            let f = left_at(f, alloc, names, variables, bound)?;
-            let a = left_at(a, alloc, names, variables, bound)?;
+            let f = left_at(alloc, scope, f, bound)?;
+            let a = left_at(alloc, scope, a, bound)?;
             Ok(make_left_app(alloc, f, a)?)
         }
         RawPat::Abs(x, body) => {
             let under = Binders::Under(x.as_ref(), bound);
-            let body = left_at(body, alloc, names, variables, &under)?;
+            let body = left_at(alloc, scope, body, &under)?;
             Ok(make_left_abs(alloc, body)?)
         }
     }

@@ -1,13 +1,17 @@
 //! Scoping: which binder, rule variable or symbol each name of a command means.
 //!
-//! A written command names its variables and symbols; a scoped one numbers them. Begin at `Names`, then
-//! docs/scoping.md and specs/Scopes.antt, which says what scoping is.
+//! A written command names its variables and symbols; a scoped one numbers them. Begin at `Names`,
+//! then docs/scoping.md and specs/Scopes.antt, which says what scoping is.
 #![tactic(auto)]
 
 mod declaration;
+pub mod laws;
 mod left;
 mod names;
 mod place;
+mod rule;
 mod term;
+#[cfg(test)]
+mod tests;
 
 pub use names::{Names, ScopeFault};

@@ -1,12 +1,14 @@
 //! The names that the commands so far declare.
-ghost use Rattle.std.specs.Prelude.{◌≡◌, ◌<◌, None, IfOk, IfErr, OnOk, OnErr};
+ghost use Rattle.std.specs.Prelude.{◌≡◌, ◌<◌, is_some, None, IfOk, IfErr, OnOk, OnErr};
 ghost use Rattle.dk_model.specs.Scoping.{plain_command};
 ghost use Rattle.dk_parser.specs.Written.{written_form};
-ghost use Rattle.scope_terms.specs.Scopes.{no_names, number_of, with_name, names_after, scope_of, scoped};
+ghost use Rattle.scope_terms.specs.Scopes.{no_names, number_of, with_name, names_after, scoped};
 ghost use Rattle.scope_terms.specs.Answers.{IsFaultOf};
+ghost use Rattle.scope_terms.specs.Places.{scoping_of};
 
 use crate::declaration::{TypeAndBody, declaration_at};
-use crate::place::Binders;
+use crate::place::{Binders, Scope};
+use crate::rule::rules_at;
 use dk_model::{Code, Fault, Listed, NoMemory, Scoped};
 use dk_parser::{Raw, RawForm};
 use indexmap::IndexMap;
@@ -60,13 +62,13 @@ impl Names {
 
     /// The command with its names as numbers, or its first code from left to right.
     ///
-    /// Accepted, the declared name is added with the next number; rules take a number without a name. After a
-    /// refusal, want of memory too, the names are as before. `docs/scoping.md` has the rules.
+    /// Accepted, the declared name is added with the next number; rules take a number without a
+    /// name. After a refusal, want of memory too, the names are as before (docs/scoping.md).
     pub fn scope(&mut self, alloc: Global, raw: &Raw) -> Result<Scoped, ScopeFault>
         requires { self.old.count < 4294967295 }
-        ensures ok { IfOk result (λ c. scope_of self.old (written_form raw.now.form) ≡ scoped (plain_command c)) }
+        ensures ok { IfOk result (λ c. scoping_of self.old raw.now ≡ scoped (plain_command c)) }
         ensures added { OnOk result (self.new ≡ names_after self.old (written_form raw.now.form)) }
-        ensures refused { IfErr result (IsFaultOf (scope_of self.old (written_form raw.now.form))) }
+        ensures refused { IfErr result (IsFaultOf (scoping_of self.old raw.now)) }
         ensures err { OnErr result (self.new ≡ self.old) }
     {
         match &raw.form {
@@ -77,17 +79,20 @@ impl Names {
                 typ,
                 body,
             } => {
-                if self.number(name.as_slice()).is_some() {
+                if self.has(name) {
                     return Err(Fault::Refused(Code::E11));
                 }
                 let none = Names::new(alloc)?;
+                let scope = Scope {
+                    names: self,
+                    variables: &none,
+                };
                 let TypeAndBody { typ, body } = declaration_at(
+                    alloc,
+                    &scope,
                     params.as_slice(),
                     typ,
                     body,
-                    alloc,
-                    self,
-                    &none,
                     &Binders::Outermost,
                 )?;
                 self.add(alloc, name)?;
@@ -97,8 +102,19 @@ impl Names {
                     body,
                 })
             }
-            RawForm::Rules(_) => Err(Fault::NoMemory),
+            RawForm::Rules(rules) => {
+                let rules = rules_at(alloc, rules.as_slice(), self)?;
+                self.count += 1;
+                Ok(Scoped::Rules(rules))
+            }
         }
+    }
+
+    /// Whether the name has a number.
+    pub(crate) fn has(&self, name: &Listed<u8>) -> bool
+        ensures { result ≡ is_some (number_of self.now name.now) }
+    {
+        self.number(name.as_slice()).is_some()
     }
 
     /// Adds a name with the next number.

@@ -1,17 +1,24 @@
 //! What a name means at a place of a command.
 ghost use Rattle.std.specs.Prelude.{◌≡◌, IfOk};
 ghost use Rattle.std.specs.Option.{option_map};
-ghost use Rattle.scope_terms.specs.Scopes.{binds, place_from, meaning_of};
-ghost use Rattle.scope_terms.specs.Places.{binders, meaning};
+ghost use Rattle.scope_terms.specs.Scopes.{binds, place_from};
+ghost use Rattle.scope_terms.specs.Places.{binders, meaning, sense};
 
 use crate::Names;
 use dk_model::{Listed, NoMemory};
 
-/// The binders above a place, innermost first. A binder that is None binds nothing that can be named.
+/// The binders above a place, innermost first. One that is None binds nothing that can be named.
 #[derive(Clone, Copy)]
 pub(crate) enum Binders<'a> {
     Outermost,
     Under(Option<&'a Listed<u8>>, &'a Binders<'a>),
+}
+
+/// What names may mean beside binders: the symbols, and the rule variables of the rule.
+#[derive(Clone, Copy)]
+pub(crate) struct Scope<'a> {
+    pub names: &'a Names,
+    pub variables: &'a Names,
 }
 
 /// What a name means.
@@ -51,22 +58,21 @@ fn variable<'a>(bound: &'a Binders<'a>, name: &[u8]) -> Result<Option<u64>, NoMe
     Ok(None)
 }
 
-/// What the name means under these binders, with these rule variables.
+/// What the name means under these binders.
 pub(crate) fn look_up<'a>(
-    names: &Names,
-    variables: &Names,
+    scope: &Scope,
     bound: &'a Binders<'a>,
     name: &[u8],
 ) -> Result<Named, NoMemory>
-    ensures { IfOk result (λ m. meaning m ≡ meaning_of names.now variables.now (binders bound.now) name.now) }
+    ensures { IfOk result (λ m. meaning m ≡ sense scope.now bound.now name.now) }
 {
     if let Some(place) = variable(bound, name)? {
         return Ok(Named::Variable(place));
     }
-    if let Some(number) = variables.number(name) {
+    if let Some(number) = scope.variables.number(name) {
         return Ok(Named::RuleVariable(number));
     }
-    match names.number(name) {
+    match scope.names.number(name) {
         Some(number) => Ok(Named::Symbol(number)),
         None => Ok(Named::Unknown),
     }

@@ -1,4 +1,4 @@
-mod Lists
+pub mod Lists
 mod Seats
 mod Rules
 mod Tickets

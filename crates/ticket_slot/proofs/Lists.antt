@@ -120,12 +120,16 @@ longest log ys p xs e = go (leb (length xs) (length ys)) refl
 pub calls_more : {E : Type 0} (by n : ℕ) (e : E) (log : List (ℕ × E)) → by ≢ n → calls_by by (log ++ (n, e) ∷ []) ≡ calls_by by log
 calls_more {E} by n e log other = filter-append (λ (x : ℕ × E). eqb x.0 by) log ((n, e) ∷ []) ∙ (ap (λ (b : Bool). calls_by by log ++ cond b ((n, e) ∷ []) []) (ne_eqb n by (λ i. other (sym i))) ∙ append-nil (calls_by by log))
 
+-- what one more event leaves behind the history before it: with this a caller of `add` sees `mine` grow by just that event
+pub behind_snoc : {A : Type 0} (seen : List A) (x : A) → behind seen (seen ++ x ∷ []) ≡ x ∷ []
+behind_snoc seen x = drop-append_seam seen (x ∷ [])
+
 -- one's own event stands behind one's others
 pub calls_own : {E : Type 0} (n : ℕ) (e : E) (log seen mine : List (ℕ × E)) → mine ≡ calls_by n log → seen ≡ log → mine ++ behind seen (log ++ (n, e) ∷ []) ≡ calls_by n (log ++ (n, e) ∷ [])
 calls_own {E} n e log seen mine own s = (λ i. own i ++ part i) ∙ sym (filter-append (λ (x : ℕ × E). eqb x.0 n) log ((n, e) ∷ []) ∙ ap (λ (b : Bool). calls_by n log ++ cond b ((n, e) ∷ []) []) (same n))
   where
     part : behind seen (log ++ (n, e) ∷ []) ≡ (n, e) ∷ []
-    part = ap (λ k. behind k (log ++ (n, e) ∷ [])) s ∙ drop-append_seam log ((n, e) ∷ [])
+    part = ap (λ k. behind k (log ++ (n, e) ∷ [])) s ∙ behind_snoc log (n, e)
 
     same : (n : ℕ) → eqb n n ≡ true
     same n = grind arith

@@ -41,6 +41,7 @@ impl<V: Kept> Model for Slot<V> {
 pub type Pass<V> = Seat<Option<V>, View<<V as Kept>::Event, <V as Kept>::Item>>;
 
 /// Memory ran out. The value comes back.
+#[derive(Drop)]
 pub struct NoMemory<V> {
     pub value: V,
 }
@@ -75,7 +76,6 @@ impl<V: Kept> Slot<V> {
         requires reader { IsReader pass.old.me.0 }
         requires room { pass.old.me.0.made < 2 ^ 32 - 1 }
         ensures own { (pass.new.table_id ≡ self.now) × (result.table_id ≡ self.now) }
-        ensures same { pass.new.id ≡ pass.old.id }
         ensures parent { pass.new.me ≡ (parent pass.old.me.0, pass.old.me.1) }
         ensures child { result.me ≡ (child pass.old.me.0, []) }
     {
@@ -88,7 +88,6 @@ impl<V: Kept> Slot<V> {
         requires reader { IsReader pass.old.me.0 }
         requires free { IsFree other.me }
         ensures own { pass.new.table_id ≡ self.now }
-        ensures same { pass.new.id ≡ pass.old.id }
         ensures joined { pass.new.me ≡ (joined pass.old.me.0 other.me.0, pass.old.me.1) }
     {
         self.table.shared.join_seat::<Seating>(pass, other);
@@ -123,7 +122,6 @@ impl<V: Kept> Slot<V> {
         requires own { pass.old.table_id ≡ self.now }
         requires free { IsFree pass.old.me }
         ensures own { pass.new.table_id ≡ self.now }
-        ensures same { pass.new.id ≡ pass.old.id }
         ensures turn { TookTurn pass.old.me.0 (V.events result) (V.items result) pass.new.me }
         ensures lawful { V.lawful (V.events result) (V.items result) }
         ensures seen { StartsWith (V.events result) pass.old.me.0.seen }
@@ -155,7 +153,6 @@ impl<V: Kept> Slot<V> {
         requires event { AddsOne pass.old.me.0 (V.events value.now) }
         requires list { KeepsList pass.old.me.0 (V.items value.now) }
         ensures own { pass.new.table_id ≡ self.now }
-        ensures same { pass.new.id ≡ pass.old.id }
         ensures added { pass.new.me ≡ added pass.old.me (V.events value.now) (V.items value.now) }
     {
         self.add_as::<Brand>(pass, value);
@@ -171,7 +168,6 @@ impl<V: Kept> Slot<V> {
         requires list { KeepsList pass.old.me.0 (V.items value.now) }
         requires picked { (X.events ≡ V.events value.now) × (X.items ≡ V.items value.now) }
         ensures own { pass.new.table_id ≡ self.now }
-        ensures same { pass.new.id ≡ pass.old.id }
         ensures added { pass.new.me ≡ added pass.old.me (V.events value.now) (V.items value.now) }
     {
         let _ = value;
@@ -186,7 +182,6 @@ impl<V: Kept> Slot<V> {
         requires events { V.events value ≡ pass.old.me.0.seen }
         requires items { V.items value ≡ pass.old.me.0.known }
         ensures own { pass.new.table_id ≡ self.now }
-        ensures same { pass.new.id ≡ pass.old.id }
         ensures passed { pass.new.me ≡ (passed pass.old.me.0, []) }
     {
         let shared = &self.table.shared;

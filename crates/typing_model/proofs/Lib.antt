@@ -1,5 +1,10 @@
 pub mod Reduction
 pub mod Evaluation
-pub mod Bodies
 pub mod Typing
 pub mod Commands
+pub mod Matrix
+pub mod Loose
+pub mod Rows
+pub mod Selection
+pub mod Rules
+pub mod Worked

@@ -9,9 +9,9 @@ use Rattle.dk_model.specs.Erasure.{erased}
 use Rattle.dk_model.specs.Signatures.{PlainSignature}
 use Rattle.dk_model.specs.Units.{Units}
 use Rattle.dk_model.specs.Evaluation.{whnf_of, comparison_of}
-use Rattle.dk_model.specs.Typing.{Judged, answer, refused, ended, after, next, symbol_type, variable_type, rule_variable_type, parts_of_product, a_sort, the_star, agreed, not_kind, as_product, as_sort, as_star, as_same, against, application_type, product_type, abstraction_type, annotated_fits as annotated_checked, inferred, checked}
+use Rattle.dk_model.specs.Typing.{Judged, answer, refused, ended, after, next, symbol_type, variable_type, rule_variable_type, parts_of_product, a_sort, the_star, agreed, not_kind, as_product, as_sort, as_star, as_same, against, application_type, product_type, abstraction_type, annotated_fits as annotated_checked, inferred, checked, is_abstraction}
 use Rattle.typing_model.specs.Steps.{ReducesTo, AreJoinable}
-use Rattle.typing_model.specs.Derivations.{HasType, type_has, symbol_has, variable_has, rule_variable_has, application_has, abstraction_has, product_has, Fits, bare_fits, annotated_fits, other_fits, is_abstraction, IsSort, type_is_sort, kind_is_sort}
+use Rattle.typing_model.specs.Derivations.{HasType, type_has, symbol_has, variable_has, rule_variable_has, application_has, abstraction_has, product_has, Fits, bare_fits, annotated_fits, other_fits, IsSort, type_is_sort, kind_is_sort}
 use Rattle.typing_model.specs.Laws.{WhnfReduces, ComparisonJoins}
 
 pub from_after : {A B : Type 0} (P : Type 0) (x : Units A) (g : A → ℕ → Judged B) (b : B) (m : ℕ) → after x g ≡ answer b m

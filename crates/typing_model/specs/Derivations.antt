@@ -6,18 +6,13 @@ use Rattle.dk_model.specs.Signatures.{PlainSignature}
 use Rattle.dk_model.specs.Scoping.{PlainLeft, left_symbol, left_rule_variable, left_variable, left_wildcard, left_guard, left_abstraction, left_apply, PlainScopedRule, PlainCommand, declare, rule_command}
 use Rattle.dk_model.specs.Erasure.{erased}
 use Rattle.dk_model.specs.Spines.{applied}
-use Rattle.dk_model.specs.Typing.{symbol_type, variable_type, rule_variable_type}
+use Rattle.dk_model.specs.Typing.{symbol_type, variable_type, rule_variable_type, is_abstraction}
 use Rattle.typing_model.specs.Steps.{ReducesTo, AreJoinable}
 
 -- a context has the innermost variable's type first, each over the variables outside it; a symbol or a variable that nothing
 -- declares has the type Kind
 abbrev pub Context : Type 0
 Context = List Tree
-
-abbrev pub is_abstraction : Tree → Bool
-is_abstraction (bare b) = true
-is_abstraction (annotated n b) = true
-is_abstraction t = false
 
 pub data IsSort : Tree → Type 0 where
   type_is_sort : IsSort star

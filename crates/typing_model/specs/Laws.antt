@@ -1,7 +1,7 @@
 -- What the laws say: the answers of evaluation and of typing have the meaning that reduction and derivations give them.
-use Rattle.std.specs.Prelude.{ℕ, ◌≡◌, Some, true, List}
+use Rattle.std.specs.Prelude.{ℕ, ◌≡◌, ◌<◌, Some, true, List, [], ◌∷◌}
 use Rattle.dk_model.specs.Trees.{Tree}
-use Rattle.dk_model.specs.Signatures.{PlainSignature}
+use Rattle.dk_model.specs.Signatures.{Pattern, Patterns, no_patterns, more_patterns, rule_variable_pattern, wildcard_pattern, guard_pattern, symbol_pattern, variable_pattern, abstraction_pattern, PlainRule, symbol_entry, rules_entry, PlainSignature}
 use Rattle.dk_model.specs.Scoping.{PlainCommand}
 use Rattle.dk_model.specs.Evaluation.{whnf_of, comparison_of, normal_of}
 use Rattle.dk_model.specs.Typing.{answer, inferred, checked}
@@ -10,6 +10,34 @@ use Rattle.dk_model.specs.declared.code.Verdict.TheVariants.{Accepted}
 use Rattle.typing_model.specs.Steps.{ReducesTo, AreJoinable}
 use Rattle.typing_model.specs.Derivations.{Context, HasType, Fits, HasDerivation}
 pub use Rattle.dk_model.specs.Verdicts.{HasNoRules}
+
+abbrev mutual
+  -- the rule variables of a pattern, outside its guards, are numbered below `vars`
+  pub IsNumberedPattern : ℕ → Pattern → Type 0
+  IsNumberedPattern vars (rule_variable_pattern k xs) = k < vars
+  IsNumberedPattern vars wildcard_pattern = Unit {0}
+  IsNumberedPattern vars (guard_pattern t) = Unit {0}
+  IsNumberedPattern vars (symbol_pattern k ps) = AreNumberedPatterns vars ps
+  IsNumberedPattern vars (variable_pattern k ps) = AreNumberedPatterns vars ps
+  IsNumberedPattern vars (abstraction_pattern p) = IsNumberedPattern vars p
+
+  pub AreNumberedPatterns : ℕ → Patterns → Type 0
+  AreNumberedPatterns vars no_patterns = Unit {0}
+  AreNumberedPatterns vars (more_patterns p ps) = IsNumberedPattern vars p × AreNumberedPatterns vars ps
+
+abbrev pub AreNumbered : ℕ → List Pattern → Type 0
+AreNumbered vars [] = Unit {0}
+AreNumbered vars (p ∷ ps) = IsNumberedPattern vars p × AreNumbered vars ps
+
+abbrev pub AreNumberedRules : List PlainRule → Type 0
+AreNumberedRules [] = Unit {0}
+AreNumberedRules (r ∷ rs) = AreNumbered r.vars r.pats × AreNumberedRules rs
+
+-- each rule numbers the rule variables of its patterns below the count that it gives
+abbrev pub IsNumbered : PlainSignature → Type 0
+IsNumbered [] = Unit {0}
+IsNumbered (symbol_entry s t b ∷ es) = IsNumbered es
+IsNumbered (rules_entry rs ∷ es) = AreNumberedRules rs × IsNumbered es
 
 -- a term reduces to its weak head form
 abbrev pub WhnfReduces : PlainSignature → Type 0
@@ -34,3 +62,7 @@ CheckedFits S = (types : List Tree) (context : Context) (n m : ℕ) (t T : Tree)
 -- a command that the plain check accepts has a derivation
 abbrev pub AcceptedHasDerivation : PlainSignature → Type 0
 AcceptedHasDerivation S = (command : PlainCommand) (budget : ℕ) → verdict_of S command budget ≡ Accepted → HasDerivation S command
+
+-- no context gives the term a type
+abbrev pub HasNoType : PlainSignature → Tree → Type 0
+HasNoType S t = (types : List Tree) (context : Context) (T : Tree) → ¬ HasType S types context t T

@@ -61,12 +61,15 @@ abbrev pub later_occurrence : Option Tree → Tree → List (Tree × Tree)
 later_occurrence None t = []
 later_occurrence (Some first) t = (first, t) ∷ []
 
--- the conditions that the parts behind `before` leave, under the capture s: for each later occurrence of a rule variable its
--- capture and its own part, for each guard its part and its term under the capture, shifted to its place
+-- the condition that a part behind `before` leaves, under the capture s: of a later occurrence of a rule variable its
+-- capture and this part, of a guard the part and the guard's term under the capture, shifted to its place
+abbrev pub condition_of : (ℕ → Option Tree) → List Part → Part → List (Tree × Tree)
+condition_of s before (variable_part k t) = later_occurrence (capture before k) t
+condition_of s before (guard_part depth g t) = (t, shift 0 depth (instantiated s 0 g)) ∷ []
+
 abbrev pub conditions_behind : (ℕ → Option Tree) → List Part → List Part → List (Tree × Tree)
 conditions_behind s before [] = []
-conditions_behind s before (variable_part k t ∷ parts) = later_occurrence (capture before k) t ++ conditions_behind s (before ++ (variable_part k t ∷ [])) parts
-conditions_behind s before (guard_part depth g t ∷ parts) = (t, shift 0 depth (instantiated s 0 g)) ∷ conditions_behind s before parts
+conditions_behind s before (part ∷ parts) = condition_of s before part ++ conditions_behind s (before ++ (part ∷ [])) parts
 
 -- the pairs of terms that must be joinable for a rule with these parts to apply
 abbrev pub conditions : List Part → List (Tree × Tree)

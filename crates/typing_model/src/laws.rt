@@ -1,31 +1,57 @@
 //! The laws between the plain check and the meaning of typing, each on a function that does nothing.
 //!
-//! A caller that needs a law calls its function, whose clause then stands among what is known.
+//! A caller that needs a law calls its function, whose clauses then stand among what is known.
 
+ghost use Rattle.dk_model.specs.Trees.{bare, kind};
 ghost use Rattle.typing_model.specs.Laws.{
   AcceptedHasDerivation,
   CheckedFits,
   ComparisonJoins,
+  HasNoType,
   HasNoRules,
   InferredHasType,
+  IsNumbered,
   NormalReduces,
   WhnfReduces,
 };
 
-/// Evaluation answers reducts, and the comparison finds only joinable terms alike.
+/// A term reduces to what evaluation answers, and terms that the comparison finds alike are joinable.
+///
+/// Rules need not be confluent nor terminate: where the units suffice, the answer is a reduct.
 pub fn evaluation_reduces()
-    ensures weak_head_form { (S : _) → HasNoRules S → WhnfReduces S }
-    ensures normal_form { (S : _) → HasNoRules S → NormalReduces S }
-    ensures comparison { (S : _) → HasNoRules S → ComparisonJoins S }
-{}
+    ensures weak_head_form { (S : _) → IsNumbered S → WhnfReduces S }
+    ensures normal_form { (S : _) → IsNumbered S → NormalReduces S }
+    ensures comparison { (S : _) → IsNumbered S → ComparisonJoins S }
+{
+    // Proved for each signature, number of units and term.
+}
 
-/// What inference answers is a type of the term, and what checking accepts fits.
+/// A term has the type that inference answers, and fits the type against which checking accepts it.
 pub fn typing_derives()
-    ensures inference { (S : _) → HasNoRules S → InferredHasType S }
-    ensures checking { (S : _) → HasNoRules S → CheckedFits S }
-{}
+    ensures inference { (S : _) → IsNumbered S → InferredHasType S }
+    ensures checking { (S : _) → IsNumbered S → CheckedFits S }
+{
+    // Proved by the structure of the term.
+}
 
 /// A command that the plain check accepts has a derivation over the signature of those before it.
 pub fn accepted_has_derivation()
-    ensures { (S : _) → HasNoRules S → AcceptedHasDerivation S }
-{}
+    ensures { (S : _) → IsNumbered S → AcceptedHasDerivation S }
+{
+    // Proved for each command and budget.
+}
+
+/// A signature in which no symbol has rules, only bodies, meets the condition of the laws.
+pub fn without_rules_is_numbered()
+    ensures { (S : _) → HasNoRules S → IsNumbered S }
+{
+    // Proved by the list of its entries.
+}
+
+/// `Kind` has no type, and an abstraction without annotation none of its own.
+pub fn some_have_no_type()
+    ensures kind { (S : _) → HasNoType S kind }
+    ensures bare_abstraction { (S b : _) → HasNoType S (bare b) }
+{
+    // Proved by the rules of typing: none is for such a term.
+}

@@ -1,0 +1,7 @@
+pub mod Histories
+pub mod Lawful
+pub mod Keeping
+pub mod Holding
+pub mod Replaying
+pub mod Reading
+pub mod Legal

@@ -1,0 +1,26 @@
+use Rattle.std.proofs.Common.{refl, sym, subst}
+use Rattle.std.specs.Arc.{arc_value}
+use Rattle.board_core.specs.Machine.{HoldsNone}
+use Rattle.board_core.specs.Kept.{jobs_in, waiters_in}
+use Rattle.board_core.proofs.Lawful.{holds_after}
+use Rattle.board_core.proofs.Holding.{idle_holds, idles, claim_holds}
+use Rattle.board_core.proofs.book.Book.claim.Goals as goal
+
+pub returns-in_default : goal.returns-in_default
+returns-in_default g c = let t = c.in_default.ensures in let none = subst (λ b. HoldsNone c.args.worker b.events) (sym c.self.view_is) c.requires in record {
+  reply = rw (c.idle.ensures, ← c.self.view_is) (idles _ c.args.worker c.self.invariant.keeps t.1);
+  holds = rw c.idle.ensures (idle_holds _ c.args.worker c.self.inside.end c.self.inside.fault c.self.inside.history.items none);
+}
+
+pub invariant_of-self-2 : goal.invariant_of-self-2
+invariant_of-self-2 g c = let t = c.in-Some.ensures in let none = subst (λ b. HoldsNone c.args.worker b.events) (sym c.self.view_is) c.requires in
+    let r = claim_holds (jobs_in c.self.inside.jobs.items) (waiters_in c.self.inside.waiting.items) c.self.invariant.keeps c.self.invariant.shares c.args.worker c.in-Some.task.number (arc_value c.in-Some.task.job) (waiters_in c.take_below.new.waiting.items) t.0 t.1 none in
+    record { keeps = rw (c.push_reserved.ensures.items, c.push_reserved.ensures.capacity) r.3; shares = r.4 }
+
+pub returns : goal.returns
+returns g c = let t = c.in-Some.ensures in let none = subst (λ b. HoldsNone c.args.worker b.events) (sym c.self.view_is) c.requires in
+    let r = claim_holds (jobs_in c.self.inside.jobs.items) (waiters_in c.self.inside.waiting.items) c.self.invariant.keeps c.self.invariant.shares c.args.worker c.in-Some.task.number (arc_value c.in-Some.task.job) (waiters_in c.take_below.new.waiting.items) t.0 t.1 none in
+    record {
+      reply = rw (c.push_reserved.ensures.items, ← c.self.view_is) (r.1, r.2, refl);
+      holds = rw c.push_reserved.ensures.items (holds_after _ _ c.self.invariant.keeps.lawful _ _ r.1);
+    }

@@ -1,0 +1,5 @@
+pub mod Events
+pub mod Machine
+pub mod Shown
+pub mod Kept
+pub mod Parts

@@ -1,0 +1,221 @@
+//! The book: the jobs, what was done with them, and the history that says so.
+ghost use Rattle.std.specs.Prelude.{◌≡◌, ◌+◌, ◌-◌, ◌*◌, ◌^◌, ◌<◌, ◌≤◌, false, [], length, slice_get, IfOk, IfErr, IfSome, IfNone, IsSomeAnd};
+ghost use Rattle.std.specs.List.{list_any};
+ghost use Rattle.std.specs.Arc.{arc_value};
+ghost use Rattle.board_core.specs.declared.event.Event.{Event};
+ghost use Rattle.board_core.specs.Events.{is_seal, is_fault, puts, end_of, verdict_at, is_settled, IsFirstFault};
+ghost use Rattle.board_core.specs.Machine.{Allowed, Holds, HoldsNone, IsLawful, marks_of};
+ghost use Rattle.board_core.specs.Shown.{added, put_on, ClaimReply, HoldsGiven, IsRefusal};
+
+mod replay;
+#[cfg(test)]
+mod tests;
+
+use crate::event::{End, Event};
+use crate::steps::{fault_after, idle, let_wait, make_room, share_of, take_below};
+use crate::task::{Claimed, PutRefused};
+use dk_model::{NoMemory, Verdict};
+use std::alloc::Global;
+use std::collections::VecDeque;
+use std::marker::Model;
+use std::sync::Arc;
+
+/// A job as it was put.
+#[derive(Drop)]
+pub struct Posted<J> {
+    pub job: Arc<J>,
+    pub settled: bool,
+}
+
+/// A job that is neither settled nor claimed, with the share that its claim gives away.
+#[derive(Drop)]
+pub struct Waiting<J> {
+    pub number: u32,
+    pub share: Arc<J>,
+}
+
+/// The jobs, numbered from 1, each settled or not, and the history of all that happened to them.
+#[derive(Drop)]
+pub struct Book<J> {
+    jobs: Vec<Posted<J>>,
+    // The least number first.
+    waiting: VecDeque<Waiting<J>>,
+    // What was answered for each job.
+    verdicts: Vec<Option<Verdict>>,
+    // The least number with a verdict other than `Accepted`, and that verdict.
+    fault: Option<(u32, Verdict)>,
+    end: Option<End>,
+    history: Vec<Event>,
+}
+
+impl<J> Model for Book<J> {
+    ghost use Rattle.board_core.specs.Shown.{Shown};
+
+    ghost Value = { Shown J };
+
+    ghost use Rattle.board_core.specs.Kept.{Kept, jobs_in};
+
+    ghost view = { λ b. record { jobs = jobs_in b.jobs.items; events = b.history.items } };
+
+    ghost invariant = { λ b. Kept b };
+}
+
+impl<J> Book<J> {
+    /// A book without jobs. The one place that its seal needs is reserved here.
+    pub fn new(alloc: Global) -> Result<Book<J>, NoMemory>
+        ensures { IfOk result (λ b. b ≡ record { jobs = []; events = [] }) }
+    {
+        let mut history = Vec::new(alloc);
+        history.reserve(1)?;
+        Ok(Book {
+            jobs: Vec::new(alloc),
+            waiting: VecDeque::new(alloc),
+            verdicts: Vec::new(alloc),
+            fault: None,
+            end: None,
+            history,
+        })
+    }
+
+    /// All that happened, in order, and what every history of a book is.
+    pub fn history(&self) -> &[Event]
+        ensures value { result.now ≡ self.now.events }
+        ensures lawful { IsLawful (marks_of self.now.jobs) self.now.events }
+        ensures all_put { puts self.now.events ≡ length self.now.jobs }
+        ensures few_jobs { length self.now.jobs < 2 ^ 32 - 1 }
+        ensures few_events { length self.now.events ≤ 3 * length self.now.jobs + 1 }
+    {
+        self.history.as_slice()
+    }
+
+    /// How many jobs were put.
+    pub fn len(&self) -> usize
+        ensures { result ≡ length self.now.jobs }
+    {
+        self.jobs.len()
+    }
+
+    /// The job of this number.
+    pub fn job(&self, number: u32) -> &Arc<J>
+        requires { (0 < number) × (number ≤ length self.now.jobs) }
+        ensures { IsSomeAnd (slice_get self.now.jobs (number - 1)) (λ j. j.0 ≡ arc_value result.now) }
+    {
+        &self.jobs[number as usize - 1].job
+    }
+
+    /// Whether that job was put as settled.
+    pub fn is_settled(&self, number: u32) -> bool
+        requires { (0 < number) × (number ≤ length self.now.jobs) }
+        ensures { result ≡ is_settled (marks_of self.now.jobs) number }
+    {
+        self.jobs[number as usize - 1].settled
+    }
+
+    /// The verdict that stands for that job: the answered one, or `Accepted` where it is settled.
+    pub fn verdict(&self, number: u32) -> Option<Verdict>
+        requires { (0 < number) × (number ≤ length self.now.jobs) }
+        ensures { result ≡ verdict_at (marks_of self.now.jobs) self.now.events number }
+    {
+        let at = number as usize - 1;
+        if self.jobs[at].settled {
+            return Some(Verdict::Accepted);
+        }
+        self.verdicts[at]
+    }
+
+    /// The least number with a verdict other than `Accepted`, and that verdict.
+    pub fn fault(&self) -> Option<(u32, Verdict)>
+        ensures none { IfNone result (list_any is_fault self.now.events ≡ false) }
+        ensures first { IfSome result (λ f. IsFirstFault self.now.events f.0 f.1) }
+    {
+        self.fault
+    }
+
+    /// How the board was sealed, if it was.
+    pub fn end(&self) -> Option<End>
+        ensures { result ≡ end_of self.now.events }
+    {
+        self.end
+    }
+}
+
+impl<J: Drop> Book<J> {
+    /// Puts a job, which takes the next number, unless some verdict is other than `Accepted`. A
+    /// settled job counts as answered `Accepted` and is never claimed. Room for the job's claim and
+    /// answer is made here. A refusal changes nothing and hands the job back.
+    pub fn put(&mut self, job: Arc<J>, settled: bool) -> Result<u32, PutRefused<J>>
+        requires few { length self.old.jobs < 4294967294 }
+        requires unsealed { list_any is_seal self.old.events ≡ false }
+        ensures running { IfOk result (λ n. list_any is_fault self.old.events ≡ false) }
+        ensures number { IfOk result (λ n. n ≡ length self.old.jobs + 1) }
+        ensures ok { IfOk result (λ n. self.new ≡ put_on self.old (arc_value job) settled n) }
+        ensures refused { IfErr result (λ r. IsRefusal self.old.events (arc_value job) r) }
+        ensures err { IfErr result (λ r. self.new ≡ self.old) }
+    {
+        if let Some((number, verdict)) = self.fault {
+            return Err(PutRefused::Stopped {
+                number,
+                verdict,
+                job,
+            });
+        }
+        let Ok(share) = share_of(&job, settled) else {
+            return Err(PutRefused::NoMemory { job });
+        };
+        let Book {
+            jobs,
+            waiting,
+            verdicts,
+            history,
+            ..
+        } = self;
+        let Ok(()) = make_room(jobs, waiting, verdicts, history) else {
+            return Err(PutRefused::NoMemory { job });
+        };
+        let number = jobs.len() as u32 + 1;
+        jobs.push_reserved(Posted { job, settled });
+        let_wait(waiting, number, share);
+        verdicts.push_reserved(None);
+        history.push_reserved(Event::Put(number));
+        Ok(number)
+    }
+
+    /// Gives the worker the least job that is neither settled nor claimed, if it lies below every
+    /// fault. Takes no memory, and the same time however many jobs there are.
+    pub fn claim(&mut self, worker: u32) -> Claimed<J>
+        requires { HoldsNone worker self.old.events }
+        ensures reply { ClaimReply self.old worker result self.new }
+        ensures holds { HoldsGiven worker result self.new.events }
+    {
+        let Some(task) = take_below(&mut self.waiting, self.fault) else {
+            return idle(self.end, self.fault);
+        };
+        self.history
+            .push_reserved(Event::Claim(worker, task.number));
+        Claimed::Task(task)
+    }
+
+    /// Keeps the verdict of a job that this worker has claimed. Takes no memory.
+    pub fn answer(&mut self, worker: u32, number: u32, verdict: Verdict)
+        requires { Holds worker number self.old.events }
+        ensures added { self.new ≡ added self.old (Event.Answer worker number verdict) }
+        ensures idle { HoldsNone worker self.new.events }
+    {
+        let _opened = &self.history;
+        let at = number as usize - 1;
+        self.verdicts[at] = Some(verdict);
+        self.fault = fault_after(self.fault, number, verdict);
+        self.history
+            .push_reserved(Event::Answer(worker, number, verdict));
+    }
+
+    /// No job comes after this. Takes no memory.
+    pub fn seal(&mut self, end: End)
+        requires { Allowed (marks_of self.old.jobs) self.old.events (Event.Seal end) }
+        ensures { self.new ≡ added self.old (Event.Seal end) }
+    {
+        let _opened = &self.history;
+        self.end = Some(end);
+        self.history.push_reserved(Event::Seal(end));
+    }
+}

@@ -1,0 +1,33 @@
+//! What workers do with a claimed job.
+ghost use Rattle.std.specs.Prelude.{◌≡◌};
+
+use dk_model::Verdict;
+
+/// What gives each job its verdict.
+pub trait Checker {
+    ghost use Rattle.std.specs.Prelude.{◌≡◌, ◌⊎◌, Bool};
+    ghost use Rattle.dk_model.specs.declared.code.Verdict.{Verdict};
+    ghost use Rattle.dk_model.specs.declared.code.Verdict.TheVariants.{Memory};
+
+    type Job;
+
+    // The verdict that a job has, whoever checks it and when.
+    ghost due: { Self.Job → Verdict };
+
+    // Whether the reader may check the job itself before it puts it.
+    ghost early: { Self.Job → Bool };
+
+    /// The verdict of the job, or `Memory` where a growth was refused.
+    fn check(&self, job: &Self::Job) -> Verdict
+        ensures { (result ≡ due job.now) ⊎ (result ≡ Memory) };
+}
+
+/// What a worker passes before and after it checks a job, so that a test can hold it up there. No
+/// answer depends on it.
+pub trait Gate {
+    /// Called before the check of the job of this number.
+    fn enter(&self, number: u32);
+
+    /// Called after that check, before it is answered.
+    fn leave(&self, number: u32);
+}

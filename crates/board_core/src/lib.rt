@@ -1,0 +1,26 @@
+//! The board without threads: which events may happen, and the book that keeps them.
+//!
+//! A reader puts jobs, workers claim and answer them, and the reader seals the board. What they do is
+//! a list of events. `IsLawful` of specs/Machine.antt says which lists of events may happen
+//! (docs/board.md has it as a table).
+//! Begin at `Book`, then specs/.
+#![tactic(auto)]
+
+mod book;
+mod checker;
+mod event;
+mod laws;
+mod steps;
+mod task;
+mod titled;
+
+pub use book::Book;
+pub use checker::{Checker, Gate};
+pub use event::{End, Event};
+pub use laws::{
+    answered_by_claimer, answered_once, claimed_by_one, claimed_once, finished_when_drained,
+    lawful_prefix, one_task_each, settled_unclaimed, verdict_answered, verdict_due,
+    verdict_from_answer,
+};
+pub use task::{Claimed, PutRefused, Task};
+pub use titled::Titled;

@@ -1,0 +1,54 @@
+//! Reads a book from a shelf, piece by piece.
+ghost use Rattle.std.specs.Prelude.{◌≡◌, ◌≤◌, ◌<◌, ◌+◌, ◌++◌, [], ℕ, List, Some, None, length};
+ghost use Rattle.dk_check_run.specs.Counts.{MayRiseAtUnread, RoseAtUnread};
+ghost use Rattle.dk_model.specs.declared.limits.Limits.{Limits};
+ghost use Rattle.dk_check_run.specs.Progress.{EndsOn, IsReady, StandsAt};
+ghost use Rattle.dk_check_run.specs.Theories.{checked_of};
+
+use crate::Reader;
+use dk_io::Shelf;
+use std::alloc::Global;
+use verdict_book::Outcome;
+
+// Takes the bytes of a piece.
+fn feed_piece(alloc: Global, reader: &mut Reader, bytes: &[u8])
+    requires ready { reader.old.stop ≡ None → IsReady reader.old }
+    ensures stands { (limits : Limits) (budget : ℕ) (given : List ℕ) → StandsAt limits budget given reader.old →
+        StandsAt limits budget (given ++ bytes.now) reader.new }
+    ensures ready { reader.new.stop ≡ None → IsReady reader.new }
+{
+    for byte in bytes {
+        reader.feed(alloc, *byte);
+    }
+}
+
+/// Reads the rest of the current book, in pieces of 4,096 bytes, and judges its commands, up to the first that is not
+/// accepted. The outcome is `Unread` only where a read failed.
+pub fn read_book<H: Shelf>(alloc: Global, shelf: &mut H, reader: &mut Reader) -> Outcome
+    requires ready { IsReady reader.old }
+    requires going { reader.old.stop ≡ None }
+    ensures books { H.books shelf.new ≡ H.books shelf.old }
+    ensures ends { (limits : Limits) (budget : ℕ) (bytes : List ℕ) → StandsAt limits budget [] reader.old →
+        H.left shelf.old ≡ Some bytes →
+        EndsOn limits budget bytes (H.left shelf.new) (checked_of reader.new.theory).shown result }
+    ensures faults { RoseAtUnread (H.faults shelf.old) (H.faults shelf.new) result }
+    ensures missed { MayRiseAtUnread (H.missed shelf.old) (H.missed shelf.new) result }
+{
+    let mut buf = [0u8; 4096];
+    'pieces: for _turn in 0..u64::MAX {
+        let count = match shelf.read(&mut buf) {
+            Ok(count) => count,
+            Err(_) => return reader.unread(),
+        };
+        if count == 0 {
+            return reader.finish(alloc);
+        }
+        let (piece, _) = buf.split_at(count);
+        feed_piece(alloc, reader, piece);
+        if let Some(outcome) = reader.stop {
+            return outcome;
+        }
+    }
+    // Never reached: a file of more bytes than the limit is refused long before.
+    reader.out_of_memory()
+}

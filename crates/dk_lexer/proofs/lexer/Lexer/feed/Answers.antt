@@ -1,0 +1,11 @@
+use Rattle.dk_lexer.proofs.Calls.{feed_after, feed_fed, feed_faulty}
+use Rattle.dk_lexer.proofs.lexer.Lexer.feed.Goals as goal
+
+pub returns-clause-after : goal.returns-clause-after
+returns-clause-after c = feed_after _ _ _ _ c.step.ensures.after
+
+pub returns-clause-fed : goal.returns-clause-fed
+returns-clause-fed c = feed_fed _ _ _ c.step.ensures.fed
+
+pub returns-clause-faulty : goal.returns-clause-faulty
+returns-clause-faulty c = feed_faulty _ _ _ c.step.ensures.fed

@@ -1,0 +1,421 @@
+-- Reading is exact: what the parser makes of a list of tokens is its one reading.
+use Rattle.std.proofs.Common.{◌≡◌, ℕ, ◌<◌, ◌≤◌, Bool, true, false, List, [], ◌∷◌, ◌++◌, refl, sym, ap, ◌∙◌, subst, append_assoc, arith, inl, inr}
+use Rattle.std.specs.Prelude.{Option, Some, None, IsSome, option_map, unwrap_or, if◌then◌else◌, nat_lt, ◌⊎◌}
+use Rattle.std.proofs.lemmas.Bool.Decides.{nat_tests}
+use Rattle.dk_model.specs.declared.code.Code.{Code}
+use Rattle.dk_model.specs.declared.code.Code.TheVariants.{E02, E04, E06}
+use Rattle.dk_model.specs.declared.limits.Limits.{Limits}
+use Rattle.dk_lexer.specs.declared.token.Token.{Token}
+use Rattle.dk_parser.specs.declared.terminal.Terminal.{Terminal}
+use Rattle.dk_parser.specs.declared.terminal.Terminal.TheVariants as terminal
+use Rattle.dk_parser.specs.Terminals.{terminal_of}
+use Rattle.dk_parser.specs.Written.{WrittenForm, WrittenCommand}
+use Rattle.dk_parser.specs.Grammar.{SpellsForm, terminals, first_line, Spells, Begins}
+use Rattle.dk_parser.specs.Levels.{level, IsWithin}
+use Rattle.dk_parser.specs.Parsing.{Part, command_due, PartStep, goes, ends, refuses, part_next, part_level, Parsing, started, more, refused, Turn, turn, turn_refused, turn_by_step, turn_by_terminal, turn_by_fault, parsing_from, answered, commands_from}
+use Rattle.dk_parser.specs.Reading.{IsFault, IsFront, TokenReading, with_command, Reads, reads_nothing, reads_front, reads_fault, reads_command, fault_of, read_tokens, Extends}
+use Rattle.dk_parser.proofs.Machine.{going, ended, stuck, run_by, run, run_next, run_goes, front_goes}
+use Rattle.dk_parser.proofs.Language.{complete}
+use Rattle.dk_parser.proofs.Reached.{sound, begins}
+use Rattle.dk_parser.proofs.Leveled.{leveled, end_level, profile_refused}
+use Rattle.dk_parser.proofs.Turns.{reading_at}
+
+-- Lists
+
+append_nil : {A : Type 0} (xs : List A) → xs ++ [] ≡ xs
+append_nil [] = refl
+append_nil (x ∷ xs) = ap (λ ys. x ∷ ys) (append_nil xs)
+
+terminals_append : (ts us : List Token) → terminals (ts ++ us) ≡ terminals ts ++ terminals us
+terminals_append [] us = refl
+terminals_append (t ∷ ts) us = ap (λ xs. terminal_of t ∷ xs) (terminals_append ts us)
+
+none_left : (ts : List Token) → terminals ts ≡ [] → ts ≡ []
+none_left [] e = refl
+none_left (t ∷ ts) e = cc
+
+no_more : (front rest : List Terminal) (f : Terminal) → f ∷ (front ++ rest) ≡ [] → ⊥
+no_more front rest f e = cc
+
+-- a front of a list with one terminal more is the whole list, or a front of the list without it
+front_of : (xs front rest : List Terminal) (x : Terminal) → xs ++ x ∷ [] ≡ front ++ rest → (front ≡ xs ++ x ∷ []) ⊎ ((zs : List Terminal) × (xs ≡ front ++ zs))
+front_of [] [] rest x e = inr ([], refl)
+front_of [] (f ∷ []) rest x e = inl cc
+front_of [] (f ∷ g ∷ front) rest x e =
+    let tail : g ∷ (front ++ rest) ≡ [] = cc in
+    absurd (no_more front rest g tail)
+front_of (y ∷ xs) [] rest x e = inr (y ∷ xs, refl)
+front_of (y ∷ xs) (f ∷ front) rest x e =
+    let head : f ≡ y = cc in
+    let tail : xs ++ x ∷ [] ≡ front ++ rest = cc in
+    elim (front_of xs front rest x tail) [ inl h ↦ inl cc | inr h ↦ inr (h.0, cc (h.1)) ]
+
+within_more : (limit : ℕ) (xs : List Terminal) (x : Terminal) → IsWithin limit xs → level (xs ++ x ∷ []) ≤ limit → IsWithin limit (xs ++ x ∷ [])
+within_more limit xs x h k front rest e = elim (front_of xs front rest x e) [ inl f ↦ subst (λ ys. level ys ≤ limit) (sym f) k | inr f ↦ h front f.0 f.1 ]
+
+within_front : (limit : ℕ) (xs ys : List Terminal) → IsWithin limit (xs ++ ys) → IsWithin limit xs
+within_front limit xs ys h front rest e = h front (rest ++ ys) (ap (λ zs. zs ++ ys) e ∙ append_assoc front rest ys)
+
+within_all : (limit : ℕ) (xs : List Terminal) → IsWithin limit xs → level xs ≤ limit
+within_all limit xs h = h xs [] (sym (append_nil xs))
+
+within_nothing : (limit : ℕ) → IsWithin limit []
+within_nothing limit [] rest e = grind (arith)
+within_nothing limit (f ∷ front) rest e = absurd (no_more front rest f (sym e))
+
+-- Turns
+
+-- a parser without a fault
+abbrev state_at : Limits → Option ℕ → Part → Parsing
+state_at limits begun part = record { limits = limits; begun = begun; part = part; fault = None }
+
+abbrev read_from : Parsing → List Token → TokenReading
+read_from s ts = reading_at (commands_from s ts) (parsing_from s ts)
+
+abbrev first_begun : List Token → Option ℕ
+first_begun [] = None
+first_begun (t ∷ ts) = Some t.line
+
+line_of : (front : List Token) (t : Token) → unwrap_or (first_begun front) t.line ≡ first_line (front ++ t ∷ [])
+line_of [] t = refl
+line_of (f ∷ front) t = refl
+
+begun_more : (front : List Token) (t : Token) (us : List Token) → first_begun (front ++ t ∷ us) ≡ Some (unwrap_or (first_begun front) t.line)
+begun_more [] t us = refl
+begun_more (f ∷ front) t us = refl
+
+profile_or_not : (x : Terminal) → (x ≡ terminal.Profile) ⊎ (x ≡ terminal.Profile → ⊥)
+profile_or_not terminal.Profile = inl refl
+profile_or_not x = inr (λ e. cc)
+
+by_terminal : (s : Parsing) (line : ℕ) (x : Terminal) → (x ≡ terminal.Profile → ⊥) → turn_by_terminal s line x ≡ turn_by_step s line (part_next s.part x)
+by_terminal s line terminal.Profile h = absurd (h refl)
+by_terminal s line x h = refl
+
+faulty_turn : (s : Parsing) (code : Code) (t : Token) → s.fault ≡ Some code → turn s t ≡ record { state = s; answer = refused code }
+faulty_turn s code t e = ap (λ (f : Option Code). turn_by_fault f s t) e
+
+faulty_parsing : (s : Parsing) (code : Code) (ts : List Token) → s.fault ≡ Some code → parsing_from s ts ≡ s
+faulty_parsing s code [] e = refl
+faulty_parsing s code (t ∷ ts) e = ap (λ (u : Turn). parsing_from u.state ts) (faulty_turn s code t e) ∙ faulty_parsing s code ts e
+
+faulty_commands : (s : Parsing) (code : Code) (ts : List Token) → s.fault ≡ Some code → commands_from s ts ≡ []
+faulty_commands s code [] e = refl
+faulty_commands s code (t ∷ ts) e = ap (λ (u : Turn). answered u.answer ++ commands_from u.state ts) (faulty_turn s code t e) ∙ faulty_commands s code ts e
+
+-- after a fault the reading is as it was
+faulty_reading : (s : Parsing) (code : Code) (ts : List Token) → s.fault ≡ Some code → read_from s ts ≡ reading_at [] s
+faulty_reading s code ts e =
+    ap (λ cs. reading_at cs (parsing_from s ts)) (faulty_commands s code ts e)
+    ∙ ap (reading_at []) (faulty_parsing s code ts e)
+
+abbrev fault_reading : ℕ → Code → TokenReading
+fault_reading line code = record { commands = []; begun = Some line; fault = Some (line, code) }
+
+read_by : (s : Parsing) (t : Token) (ts : List Token) (u : Turn) → turn s t ≡ u → read_from s (t ∷ ts) ≡ reading_at (answered u.answer ++ commands_from u.state ts) (parsing_from u.state ts)
+read_by s t ts u e = ap (λ (u : Turn). reading_at (answered u.answer ++ commands_from u.state ts) (parsing_from u.state ts)) e
+
+read_refused : (s : Parsing) (t : Token) (ts : List Token) (line : ℕ) (code : Code) → turn s t ≡ turn_refused s line code → read_from s (t ∷ ts) ≡ fault_reading line code
+read_refused s t ts line code e =
+    read_by s t ts (turn_refused s line code) e
+    ∙ faulty_reading (turn_refused s line code).state code ts refl
+
+module _ (limits : Limits) where
+  -- the turn where the token is no word outside the profile
+  turn_at : (front : List Token) (p : Part) (t : Token) (step : PartStep) → (terminal_of t ≡ terminal.Profile → ⊥) → part_next p (terminal_of t) ≡ step →
+      turn (state_at limits (first_begun front) p) t ≡ turn_by_step (state_at limits (first_begun front) p) (first_line (front ++ t ∷ [])) step
+  turn_at front p t step h e =
+      by_terminal (state_at limits (first_begun front) p) (unwrap_or (first_begun front) t.line) (terminal_of t) h
+      ∙ ap (λ (step : PartStep). turn_by_step (state_at limits (first_begun front) p) (unwrap_or (first_begun front) t.line) step) e
+      ∙ ap (λ line. turn_by_step (state_at limits (first_begun front) p) line step) (line_of front t)
+
+  profile_read : (front : List Token) (p : Part) (t : Token) (ts : List Token) → terminal_of t ≡ terminal.Profile →
+      read_from (state_at limits (first_begun front) p) (t ∷ ts) ≡ fault_reading (first_line (front ++ t ∷ [])) E06
+  profile_read front p t ts e =
+      read_refused (state_at limits (first_begun front) p) t ts (first_line (front ++ t ∷ [])) E06
+      (ap (λ (x : Terminal). turn_by_terminal (state_at limits (first_begun front) p) (unwrap_or (first_begun front) t.line) x) e
+      ∙ ap (λ line. turn_refused (state_at limits (first_begun front) p) line E06) (line_of front t))
+
+  refused_read : (front : List Token) (p : Part) (t : Token) (ts : List Token) → (terminal_of t ≡ terminal.Profile → ⊥) → part_next p (terminal_of t) ≡ refuses →
+      read_from (state_at limits (first_begun front) p) (t ∷ ts) ≡ fault_reading (first_line (front ++ t ∷ [])) E02
+  refused_read front p t ts h e = read_refused (state_at limits (first_begun front) p) t ts (first_line (front ++ t ∷ [])) E02 (turn_at front p t refuses h e)
+
+  -- the turn of a step that goes on
+  abbrev turn_on : Parsing → ℕ → Part → Bool → Turn
+  turn_on s line q b = if b then turn_refused s line E04 else record { state = record s { begun = Some line; part = q }; answer = more }
+
+  too_deep_read : (front : List Token) (p : Part) (t : Token) (ts : List Token) (q : Part) → (terminal_of t ≡ terminal.Profile → ⊥) → part_next p (terminal_of t) ≡ goes q → nat_lt limits.levels (part_level q) ≡ true →
+      read_from (state_at limits (first_begun front) p) (t ∷ ts) ≡ fault_reading (first_line (front ++ t ∷ [])) E04
+  too_deep_read front p t ts q h e b =
+      read_refused (state_at limits (first_begun front) p) t ts (first_line (front ++ t ∷ [])) E04
+      (turn_at front p t (goes q) h e ∙ ap (turn_on (state_at limits (first_begun front) p) (first_line (front ++ t ∷ [])) q) b)
+
+  goes_read : (front : List Token) (p : Part) (t : Token) (ts : List Token) (q : Part) → (terminal_of t ≡ terminal.Profile → ⊥) → part_next p (terminal_of t) ≡ goes q → nat_lt limits.levels (part_level q) ≡ false →
+      read_from (state_at limits (first_begun front) p) (t ∷ ts) ≡ read_from (state_at limits (first_begun (front ++ t ∷ [])) q) ts
+  goes_read front p t ts q h e b =
+      read_by (state_at limits (first_begun front) p) t ts (turn_on (state_at limits (first_begun front) p) (first_line (front ++ t ∷ [])) q false)
+      (turn_at front p t (goes q) h e ∙ ap (turn_on (state_at limits (first_begun front) p) (first_line (front ++ t ∷ [])) q) b)
+      ∙ ap (λ (begun : Option ℕ). read_from (state_at limits begun q) ts) (ap (λ line. Some line) (sym (line_of front t)) ∙ sym (begun_more front t []))
+
+  ends_read : (front : List Token) (p : Part) (t : Token) (ts : List Token) (form : WrittenForm) → (terminal_of t ≡ terminal.Profile → ⊥) → part_next p (terminal_of t) ≡ ends form →
+      read_from (state_at limits (first_begun front) p) (t ∷ ts) ≡ with_command (record { line = first_line (front ++ t ∷ []); form = form }) (read_tokens limits ts)
+  ends_read front p t ts form h e =
+      read_by (state_at limits (first_begun front) p) t ts (turn_by_step (state_at limits (first_begun front) p) (first_line (front ++ t ∷ [])) (ends form)) (turn_at front p t (ends form) h e)
+
+not_profile_goes : (p q : Part) (x : Terminal) → part_next p x ≡ goes q → x ≡ terminal.Profile → ⊥
+not_profile_goes p q x e is =
+    let r : part_next p x ≡ refuses = ap (part_next p) is ∙ profile_refused p in
+    cc
+
+not_profile_ends : (p : Part) (form : WrittenForm) (x : Terminal) → part_next p x ≡ ends form → x ≡ terminal.Profile → ⊥
+not_profile_ends p form x e is =
+    let r : part_next p x ≡ refuses = ap (part_next p) is ∙ profile_refused p in
+    cc
+
+below : (limit n : ℕ) → nat_lt limit n ≡ true → limit < n
+below limit n e = grind (arith, nat_tests)
+
+within : (limit n : ℕ) → nat_lt limit n ≡ false → n ≤ limit
+within limit n e = grind (arith, nat_tests)
+
+within_test : (limit n : ℕ) → n ≤ limit → nat_lt limit n ≡ false
+within_test limit n h = grind (arith, nat_tests)
+
+below_test : (limit n : ℕ) → limit < n → nat_lt limit n ≡ true
+below_test limit n h = grind (arith, nat_tests)
+
+-- what no part takes begins no command
+refused_begins : (xs : List Terminal) (p : Part) (x : Terminal) → run command_due xs ≡ going p → part_next p x ≡ refuses → Begins (xs ++ x ∷ []) → ⊥
+refused_begins xs p x is e (rest, form, h) =
+    let whole : run command_due (xs ++ x ∷ rest) ≡ ended form [] = ap (run command_due) (sym (append_assoc xs (x ∷ []) rest)) ∙ complete h in
+    let next : run command_due (xs ++ x ∷ rest) ≡ stuck = run_next command_due p xs x rest is ∙ ap (λ (s : PartStep). run_by s (λ r. run r rest) rest) e in
+    cc
+
+-- what a part takes begins one
+goes_begins : (xs : List Terminal) (p q : Part) (x : Terminal) → run command_due xs ≡ going p → part_next p x ≡ goes q → Begins (xs ++ x ∷ [])
+goes_begins xs p q x is e =
+    let b = begins (xs ++ x ∷ []) q (run_goes command_due p q xs x is e) in
+    (b.0 ∷ b.1, b.2, b.3)
+
+ends_begins : (xs : List Terminal) (p : Part) (x : Terminal) (form : WrittenForm) → run command_due xs ≡ going p → part_next p x ≡ ends form → Begins (xs ++ x ∷ [])
+ends_begins xs p x form is e = ([], form, subst (λ ys. SpellsForm ys form) (sym (append_nil (xs ++ x ∷ []))) (sound xs p x form is e))
+
+terminals_more : (front : List Token) (t : Token) → terminals (front ++ t ∷ []) ≡ terminals front ++ terminal_of t ∷ []
+terminals_more front t = terminals_append front (t ∷ [])
+
+module _ (limits : Limits) where
+  -- a front of a command, and what is behind it
+  front_ok : (front : List Token) (p : Part) → run command_due (terminals front) ≡ going p → IsWithin limits.levels (terminals front) → IsFront limits front
+  front_ok front p is w = record { begun = begins (terminals front) p is; within = w }
+
+  -- the level of a token behind a front
+  level_at : (front : List Token) (p q : Part) (t : Token) → run command_due (terminals front) ≡ going p → part_next p (terminal_of t) ≡ goes q → level (terminals front ++ terminal_of t ∷ []) ≡ part_level q
+  level_at front p q t is e = leveled (terminals front ++ terminal_of t ∷ []) q (run_goes command_due p q (terminals front) (terminal_of t) is e)
+
+  -- the readings of what is behind a front, for every front
+  abbrev Behind : List Token → Type 0
+  Behind us = (front : List Token) (p : Part) → run command_due (terminals front) ≡ going p → IsWithin limits.levels (terminals front) → Reads limits (front ++ us) (read_from (state_at limits (first_begun front) p) us)
+
+  exact_goes : (front : List Token) (p q : Part) (t : Token) (us : List Token) (b : Bool) → run command_due (terminals front) ≡ going p → IsWithin limits.levels (terminals front) → part_next p (terminal_of t) ≡ goes q → nat_lt limits.levels (part_level q) ≡ b → Behind us → Reads limits (front ++ t ∷ us) (read_from (state_at limits (first_begun front) p) (t ∷ us))
+  exact_goes front p q t us true is w e b later =
+      let other = not_profile_goes p q (terminal_of t) e in
+      let deep : limits.levels < level (terminals front ++ terminal_of t ∷ []) = subst (λ n. limits.levels < n) (sym (level_at front p q t is e)) (below limits.levels (part_level q) b) in
+      subst (Reads limits (front ++ t ∷ us)) (sym (too_deep_read limits front p t us q other e b))
+      (reads_fault {front = front} {code = E04} t us (front_ok front p is w) (goes_begins (terminals front) p q (terminal_of t) is e, deep))
+  exact_goes front p q t us false is w e b later =
+      let other = not_profile_goes p q (terminal_of t) e in
+      let next : run command_due (terminals (front ++ t ∷ [])) ≡ going q = ap (run command_due) (terminals_more front t) ∙ run_goes command_due p q (terminals front) (terminal_of t) is e in
+      let deep : level (terminals front ++ terminal_of t ∷ []) ≤ limits.levels = subst (λ n. n ≤ limits.levels) (sym (level_at front p q t is e)) (within limits.levels (part_level q) b) in
+      let w_next : IsWithin limits.levels (terminals (front ++ t ∷ [])) = subst (IsWithin limits.levels) (sym (terminals_more front t)) (within_more limits.levels (terminals front) (terminal_of t) w deep) in
+      subst (λ ts. Reads limits ts (read_from (state_at limits (first_begun front) p) (t ∷ us))) (append_assoc front (t ∷ []) us)
+      (subst (Reads limits ((front ++ t ∷ []) ++ us)) (sym (goes_read limits front p t us q other e b)) (later (front ++ t ∷ []) q next w_next))
+
+  exact_ends : (front : List Token) (p : Part) (t : Token) (us : List Token) (form : WrittenForm) → run command_due (terminals front) ≡ going p → IsWithin limits.levels (terminals front) → part_next p (terminal_of t) ≡ ends form → Behind us → Reads limits (front ++ t ∷ us) (read_from (state_at limits (first_begun front) p) (t ∷ us))
+  exact_ends front p t us form is w e later =
+      let other = not_profile_ends p form (terminal_of t) e in
+      let spelt : SpellsForm (terminals (front ++ t ∷ [])) form = subst (λ xs. SpellsForm xs form) (sym (terminals_more front t)) (sound (terminals front) p (terminal_of t) form is e) in
+      let deep : level (terminals front ++ terminal_of t ∷ []) ≤ limits.levels = subst (λ n. n ≤ limits.levels) (sym (end_level (terminals front) p (terminal_of t) form e)) (within_all limits.levels (terminals front) w) in
+      let w_next : IsWithin limits.levels (terminals (front ++ t ∷ [])) = subst (IsWithin limits.levels) (sym (terminals_more front t)) (within_more limits.levels (terminals front) (terminal_of t) w deep) in
+      subst (λ ts. Reads limits ts (read_from (state_at limits (first_begun front) p) (t ∷ us))) (append_assoc front (t ∷ []) us)
+      (subst (Reads limits ((front ++ t ∷ []) ++ us)) (sym (ends_read limits front p t us form other e))
+      (reads_command (record { line = refl; form = spelt }) w_next (later [] command_due refl (within_nothing limits.levels))))
+
+  exact_step : (step : PartStep) (front : List Token) (p : Part) (t : Token) (us : List Token) → run command_due (terminals front) ≡ going p → IsWithin limits.levels (terminals front) → (terminal_of t ≡ terminal.Profile → ⊥) → part_next p (terminal_of t) ≡ step → Behind us → Reads limits (front ++ t ∷ us) (read_from (state_at limits (first_begun front) p) (t ∷ us))
+  exact_step (goes q) front p t us is w other e later = exact_goes front p q t us (nat_lt limits.levels (part_level q)) is w e refl later
+  exact_step (ends form) front p t us is w other e later = exact_ends front p t us form is w e later
+  exact_step refuses front p t us is w other e later =
+      subst (Reads limits (front ++ t ∷ us)) (sym (refused_read limits front p t us other e))
+      (reads_fault {front = front} {code = E02} t us (front_ok front p is w) (other, refused_begins (terminals front) p (terminal_of t) is e))
+
+  exact_token : (front : List Token) (p : Part) (t : Token) (us : List Token) → run command_due (terminals front) ≡ going p → IsWithin limits.levels (terminals front) → ((terminal_of t ≡ terminal.Profile) ⊎ (terminal_of t ≡ terminal.Profile → ⊥)) → Behind us → Reads limits (front ++ t ∷ us) (read_from (state_at limits (first_begun front) p) (t ∷ us))
+  exact_token front p t us is w (inl e) later =
+      subst (Reads limits (front ++ t ∷ us)) (sym (profile_read limits front p t us e))
+      (reads_fault {front = front} {code = E06} t us (front_ok front p is w) e)
+  exact_token front p t us is w (inr other) later = exact_step (part_next p (terminal_of t)) front p t us is w other refl later
+
+  exact_from : (us : List Token) → Behind us
+  exact_from [] [] p is w = reads_nothing
+  exact_from [] (f ∷ front) p is w =
+      subst (λ ts. Reads limits ts (read_from (state_at limits (first_begun (f ∷ front)) p) [])) (sym (append_nil (f ∷ front)))
+      (reads_front (front_ok (f ∷ front) p is w))
+  exact_from (t ∷ us) front p is w = exact_token front p t us is w (profile_or_not (terminal_of t)) (exact_from us)
+
+  -- the parser reads what is there
+  pub exact : (ts : List Token) → Reads limits ts (read_tokens limits ts)
+  exact ts = exact_from ts [] command_due refl (within_nothing limits.levels)
+
+-- A list of tokens has no other reading
+
+stuck_goes : (s : PartStep) (p : Part) (x : Terminal) (xs : List Terminal) (q : Part) → part_next p x ≡ s → run_by s (λ r. run r xs) xs ≡ going q → (r : Part) × (part_next p x ≡ goes r)
+stuck_goes (goes r) p x xs q e is = (r, e)
+stuck_goes (ends form) p x xs q e is = cc
+stuck_goes refuses p x xs q e is = cc
+
+-- the run of a front with one terminal more
+step_run : (front : List Token) (p : Part) (t : Token) (us : List Token) → run command_due (terminals front) ≡ going p → run command_due (terminals (front ++ t ∷ us)) ≡ run_by (part_next p (terminal_of t)) (λ r. run r (terminals us)) (terminals us)
+step_run front p t us is = ap (run command_due) (terminals_append front (t ∷ us)) ∙ run_next command_due p (terminals front) (terminal_of t) (terminals us) is
+
+begins_goes : (s : PartStep) (xs : List Terminal) (p : Part) (x : Terminal) (limit : ℕ) → run command_due xs ≡ going p → level xs ≤ limit → limit < level (xs ++ x ∷ []) → Begins (xs ++ x ∷ []) → part_next p x ≡ s → (q : Part) × (part_next p x ≡ goes q)
+begins_goes (goes q) xs p x limit is w d b e = (q, e)
+begins_goes (ends form) xs p x limit is w d b e =
+    let same = end_level xs p x form e in
+    absurd (omega arith)
+begins_goes refuses xs p x limit is w d b e = absurd (refused_begins xs p x is e b)
+
+refuses_step : (s : PartStep) (xs : List Terminal) (p : Part) (x : Terminal) → run command_due xs ≡ going p → (Begins (xs ++ x ∷ []) → ⊥) → part_next p x ≡ s → part_next p x ≡ refuses
+refuses_step (goes q) xs p x is n e = absurd (n (goes_begins xs p q x is e))
+refuses_step (ends form) xs p x is n e = absurd (n (ends_begins xs p x form is e))
+refuses_step refuses xs p x is n e = e
+
+module _ (limits : Limits) where
+  -- what is behind a front reads on from it
+  abbrev Walks : List Token → Type 0
+  Walks us = (front : List Token) (p q : Part) (rest : List Token) → run command_due (terminals front) ≡ going p → run command_due (terminals (front ++ us)) ≡ going q → IsWithin limits.levels (terminals (front ++ us)) →
+      read_from (state_at limits (first_begun front) p) (us ++ rest) ≡ read_from (state_at limits (first_begun (front ++ us)) q) rest
+
+  walk_goes : (front : List Token) (p r q : Part) (t : Token) (us rest : List Token) → run command_due (terminals front) ≡ going p → part_next p (terminal_of t) ≡ goes r → run command_due (terminals (front ++ t ∷ us)) ≡ going q → IsWithin limits.levels (terminals (front ++ t ∷ us)) → Walks us →
+      read_from (state_at limits (first_begun front) p) (t ∷ (us ++ rest)) ≡ read_from (state_at limits (first_begun (front ++ t ∷ us)) q) rest
+  walk_goes front p r q t us rest is e whole w later =
+      let lists : (front ++ t ∷ []) ++ us ≡ front ++ t ∷ us = append_assoc front (t ∷ []) us in
+      let next : run command_due (terminals (front ++ t ∷ [])) ≡ going r = ap (run command_due) (terminals_more front t) ∙ run_goes command_due p r (terminals front) (terminal_of t) is e in
+      let w_front : IsWithin limits.levels (terminals (front ++ t ∷ [])) = within_front limits.levels (terminals (front ++ t ∷ [])) (terminals us) (subst (IsWithin limits.levels) (terminals_append (front ++ t ∷ []) us) (subst (λ ts. IsWithin limits.levels (terminals ts)) (sym lists) w)) in
+      let deep : level (terminals (front ++ t ∷ [])) ≤ limits.levels = within_all limits.levels (terminals (front ++ t ∷ [])) w_front in
+      let test : nat_lt limits.levels (part_level r) ≡ false = within_test limits.levels (part_level r) (subst (λ n. n ≤ limits.levels) (leveled (terminals (front ++ t ∷ [])) r next) deep) in
+      goes_read limits front p t (us ++ rest) r (not_profile_goes p r (terminal_of t) e) e test
+      ∙ later (front ++ t ∷ []) r q rest next (subst (λ ts. run command_due (terminals ts) ≡ going q) (sym lists) whole) (subst (λ ts. IsWithin limits.levels (terminals ts)) (sym lists) w)
+      ∙ ap (λ ts. read_from (state_at limits (first_begun ts) q) rest) lists
+
+  walk : (us : List Token) → Walks us
+  walk [] front p q rest is whole w =
+      let whole_front : run command_due (terminals front) ≡ going q = subst (λ ts. run command_due (terminals ts) ≡ going q) (append_nil front) whole in
+      let same : p ≡ q = cc in
+      ap (λ p. read_from (state_at limits (first_begun front) p) rest) same
+      ∙ ap (λ ts. read_from (state_at limits (first_begun ts) q) rest) (sym (append_nil front))
+  walk (t ∷ us) front p q rest is whole w =
+      let r = stuck_goes (part_next p (terminal_of t)) p (terminal_of t) (terminals us) q refl (sym (step_run front p t us is) ∙ whole) in
+      walk_goes front p r.0 q t us rest is r.1 whole w (walk us)
+
+  -- a whole command is read as one
+  abbrev Ends : List Token → Type 0
+  Ends us = (front : List Token) (p : Part) (form : WrittenForm) (rest : List Token) → run command_due (terminals front) ≡ going p → run command_due (terminals (front ++ us)) ≡ ended form [] → IsWithin limits.levels (terminals (front ++ us)) →
+      read_from (state_at limits (first_begun front) p) (us ++ rest) ≡ with_command (record { line = first_line (front ++ us); form = form }) (read_tokens limits rest)
+
+  end_goes : (front : List Token) (p r : Part) (form : WrittenForm) (t : Token) (us rest : List Token) → run command_due (terminals front) ≡ going p → part_next p (terminal_of t) ≡ goes r → run command_due (terminals (front ++ t ∷ us)) ≡ ended form [] → IsWithin limits.levels (terminals (front ++ t ∷ us)) → Ends us →
+      read_from (state_at limits (first_begun front) p) (t ∷ (us ++ rest)) ≡ with_command (record { line = first_line (front ++ t ∷ us); form = form }) (read_tokens limits rest)
+  end_goes front p r form t us rest is e whole w later =
+      let lists : (front ++ t ∷ []) ++ us ≡ front ++ t ∷ us = append_assoc front (t ∷ []) us in
+      let next : run command_due (terminals (front ++ t ∷ [])) ≡ going r = ap (run command_due) (terminals_more front t) ∙ run_goes command_due p r (terminals front) (terminal_of t) is e in
+      let w_front : IsWithin limits.levels (terminals (front ++ t ∷ [])) = within_front limits.levels (terminals (front ++ t ∷ [])) (terminals us) (subst (IsWithin limits.levels) (terminals_append (front ++ t ∷ []) us) (subst (λ ts. IsWithin limits.levels (terminals ts)) (sym lists) w)) in
+      let deep : level (terminals (front ++ t ∷ [])) ≤ limits.levels = within_all limits.levels (terminals (front ++ t ∷ [])) w_front in
+      let test : nat_lt limits.levels (part_level r) ≡ false = within_test limits.levels (part_level r) (subst (λ n. n ≤ limits.levels) (leveled (terminals (front ++ t ∷ [])) r next) deep) in
+      goes_read limits front p t (us ++ rest) r (not_profile_goes p r (terminal_of t) e) e test
+      ∙ later (front ++ t ∷ []) r form rest next (subst (λ ts. run command_due (terminals ts) ≡ ended form []) (sym lists) whole) (subst (λ ts. IsWithin limits.levels (terminals ts)) (sym lists) w)
+      ∙ ap (λ ts. with_command (record { line = first_line ts; form = form }) (read_tokens limits rest)) lists
+
+  end_step : (s : PartStep) (front : List Token) (p : Part) (form : WrittenForm) (t : Token) (us rest : List Token) → run command_due (terminals front) ≡ going p → part_next p (terminal_of t) ≡ s → run_by s (λ r. run r (terminals us)) (terminals us) ≡ ended form [] → run command_due (terminals (front ++ t ∷ us)) ≡ ended form [] → IsWithin limits.levels (terminals (front ++ t ∷ us)) → Ends us →
+      read_from (state_at limits (first_begun front) p) (t ∷ (us ++ rest)) ≡ with_command (record { line = first_line (front ++ t ∷ us); form = form }) (read_tokens limits rest)
+  end_step (goes r) front p form t us rest is e left whole w later = end_goes front p r form t us rest is e whole w later
+  end_step (ends f) front p form t [] rest is e left whole w later =
+      let same : f ≡ form = cc in
+      ends_read limits front p t rest f (not_profile_ends p f (terminal_of t) e) e
+      ∙ ap (λ f. with_command (record { line = first_line (front ++ t ∷ []); form = f }) (read_tokens limits rest)) same
+  end_step (ends f) front p form t (u ∷ us) rest is e left whole w later = cc
+  end_step refuses front p form t us rest is e left whole w later = cc
+
+  end_walk : (us : List Token) → Ends us
+  end_walk [] front p form rest is whole w =
+      let whole_front : run command_due (terminals front) ≡ ended form [] = subst (λ ts. run command_due (terminals ts) ≡ ended form []) (append_nil front) whole in
+      cc
+  end_walk (t ∷ us) front p form rest is whole w =
+      end_step (part_next p (terminal_of t)) front p form t us rest is refl (sym (step_run front p t us is) ∙ whole) whole w (end_walk us)
+
+-- the part that a front leads to
+front_part : (limits : Limits) (ts : List Token) → IsFront limits ts → (p : Part) × (run command_due (terminals ts) ≡ going p)
+front_part limits ts f = front_goes command_due (terminals ts) f.begun.0 f.begun.1 f.begun.2 (complete f.begun.3)
+
+fault_read : (code : Code) (limits : Limits) (front : List Token) (p : Part) (t : Token) (rest : List Token) → IsFront limits front → run command_due (terminals front) ≡ going p → IsFault limits (terminals front) (terminal_of t) code →
+    read_from (state_at limits (first_begun front) p) (t ∷ rest) ≡ fault_reading (first_line (front ++ t ∷ [])) code
+fault_read E06 limits front p t rest f is h = profile_read limits front p t rest h
+fault_read E02 limits front p t rest f is h = refused_read limits front p t rest h.0 (refuses_step (part_next p (terminal_of t)) (terminals front) p (terminal_of t) is h.1 refl)
+fault_read E04 limits front p t rest f is h =
+    let q = begins_goes (part_next p (terminal_of t)) (terminals front) p (terminal_of t) limits.levels is (within_all limits.levels (terminals front) f.within) h.1 h.0 refl in
+    let deep : limits.levels < part_level q.0 = subst (λ n. limits.levels < n) (leveled (terminals front ++ terminal_of t ∷ []) q.0 (run_goes command_due p q.0 (terminals front) (terminal_of t) is q.1)) h.1 in
+    too_deep_read limits front p t rest q.0 (not_profile_goes p q.0 (terminal_of t) q.1) q.1 (below_test limits.levels (part_level q.0) deep)
+fault_read code limits front p t rest f is h = absurd h
+
+-- there is one reading
+pub only : {limits : Limits} {ts : List Token} {r : TokenReading} → Reads limits ts r → r ≡ read_tokens limits ts
+only reads_nothing = refl
+only (reads_front {limits} {t} {ts} f) =
+    let p = front_part limits (t ∷ ts) f in
+    sym (ap (read_tokens limits) (sym (append_nil (t ∷ ts))) ∙ walk limits (t ∷ ts) [] command_due p.0 [] refl p.1 f.within)
+only (reads_fault {limits} {front} {code} t rest f h) =
+    let p = front_part limits front f in
+    sym (walk limits front [] command_due p.0 (t ∷ rest) refl p.1 f.within ∙ fault_read code limits front p.0 t rest f p.1 h)
+only (reads_command {limits} {ts} {us} {c} {r} s w h) =
+    sym (end_walk limits ts [] command_due c.form us refl (complete s.form) w
+    ∙ ap (λ line. with_command (record { line = line; form = c.form }) (read_tokens limits us)) (sym s.line)
+    ∙ ap (with_command c) (sym (only h)))
+
+-- More tokens
+
+parsing_append : (s : Parsing) (ts us : List Token) → parsing_from s (ts ++ us) ≡ parsing_from (parsing_from s ts) us
+parsing_append s [] us = refl
+parsing_append s (t ∷ ts) us = parsing_append (turn s t).state ts us
+
+commands_append : (s : Parsing) (ts us : List Token) → commands_from s (ts ++ us) ≡ commands_from s ts ++ commands_from (parsing_from s ts) us
+commands_append s [] us = refl
+commands_append s (t ∷ ts) us =
+    ap (λ cs. answered (turn s t).answer ++ cs) (commands_append (turn s t).state ts us)
+    ∙ sym (append_assoc (answered (turn s t).answer) (commands_from (turn s t).state ts) (commands_from (parsing_from (turn s t).state ts) us))
+
+no_some : IsSome {T = ℕ × Code} None → ⊥
+no_some h = cc
+
+fault_stays : (f : Option Code) (s : Parsing) (cs : List WrittenCommand) (us : List Token) → s.fault ≡ f → IsSome (fault_of s) → reading_at (cs ++ commands_from s us) (parsing_from s us) ≡ reading_at cs s
+fault_stays None s cs us e h =
+    let nothing : fault_of s ≡ None = ap (λ (f : Option Code). option_map (λ code. (unwrap_or s.begun 0, code)) f) e in
+    absurd (no_some (subst (λ (o : Option (ℕ × Code)). IsSome o) nothing h))
+fault_stays (Some code) s cs us e h =
+    ap (λ later. reading_at (cs ++ later) (parsing_from s us)) (faulty_commands s code us e)
+    ∙ ap (λ all. reading_at all (parsing_from s us)) (append_nil cs)
+    ∙ ap (reading_at cs) (faulty_parsing s code us e)
+
+-- the reading of more tokens begins with the reading of fewer
+pub extends : (limits : Limits) (ts us : List Token) → Extends (read_tokens limits ts) (read_tokens limits (ts ++ us))
+extends limits ts us = record {
+  later = commands_from (parsing_from (started limits) ts) us;
+  commands = commands_append (started limits) ts us;
+  stays = λ h.
+      ap (λ cs. reading_at cs (parsing_from (started limits) (ts ++ us))) (commands_append (started limits) ts us)
+      ∙ ap (reading_at (commands_from (started limits) ts ++ commands_from (parsing_from (started limits) ts) us)) (parsing_append (started limits) ts us)
+      ∙ fault_stays (parsing_from (started limits) ts).fault (parsing_from (started limits) ts) (commands_from (started limits) ts) us refl h;
+}
+
+-- a list of tokens spells at most one command
+pub one_command : (ts : List Token) (c d : WrittenCommand) → Spells ts c → Spells ts d → c ≡ d
+one_command ts c d s t =
+    let same : ended c.form [] ≡ ended d.form [] = sym (complete s.form) ∙ complete t.form in
+    let forms : c.form ≡ d.form = cc in
+    let lines : c.line ≡ d.line = s.line ∙ sym t.line in
+    ap (λ line. record { line = line; form = c.form }) lines ∙ ap (λ form. record { line = d.line; form = form }) forms

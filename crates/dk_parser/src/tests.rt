@@ -1,0 +1,170 @@
+use crate::{ParseFault, Parser, RawForm, Step};
+use dk_lexer::{Sign, Token, TokenKind};
+use dk_model::{Code, Limits, Listed, NoMemory, SymSort};
+use std::alloc::Global;
+use std::test::Fail;
+
+// What a text was read as: its commands, the fault, and the line of the command at fault.
+#[derive(Drop)]
+struct Outcome {
+    commands: u32,
+    fault: Option<Code>,
+    begun: Option<u32>,
+}
+
+fn kind_of(word: &str) -> TokenKind {
+    match word {
+        ":" => TokenKind::Sign(Sign::Colon),
+        ":=" => TokenKind::Sign(Sign::Defined),
+        "->" => TokenKind::Sign(Sign::Arrow),
+        "=>" => TokenKind::Sign(Sign::DoubleArrow),
+        "-->" => TokenKind::Sign(Sign::LongArrow),
+        "." => TokenKind::Sign(Sign::Dot),
+        "(" => TokenKind::Sign(Sign::OpenBracket),
+        ")" => TokenKind::Sign(Sign::CloseBracket),
+        "[" => TokenKind::Sign(Sign::OpenSquare),
+        "]" => TokenKind::Sign(Sign::CloseSquare),
+        "Type" => TokenKind::Star,
+        "def" => TokenKind::Def,
+        "thm" => TokenKind::Thm,
+        "_" => TokenKind::Wildcard,
+        "defac" => TokenKind::Profile,
+        "#NAME" => TokenKind::Profile,
+        "{|x|}" => TokenKind::Quoted,
+        "m.n" => TokenKind::Qualified,
+        _ => TokenKind::Plain,
+    }
+}
+
+fn token(alloc: Global, word: &str, line: u32) -> Result<Token, NoMemory> {
+    Ok(Token {
+        kind: kind_of(word),
+        spelling: Listed::from_slice(alloc, word.as_bytes())?,
+        offset: 0,
+        line,
+    })
+}
+
+fn sign(alloc: Global, sign: Sign) -> Token {
+    Token {
+        kind: TokenKind::Sign(sign),
+        spelling: Listed::new(alloc),
+        offset: 0,
+        line: 1,
+    }
+}
+
+// Whether this is a theorem with this name, at this line.
+fn gives_theorem(step: &Result<Step, ParseFault>, text: &[u8], line: u32) -> bool {
+    match step {
+        Ok(Step::Command(raw)) => match &raw.form {
+            RawForm::Declare {
+                sort,
+                name,
+                body,
+                ..
+            } => {
+                raw.line == line
+                    && *sort == SymSort::Theorem
+                    && name.as_slice() == text
+                    && body.is_some()
+            }
+            RawForm::Rules(_) => false,
+        },
+        _ => false,
+    }
+}
+
+// Feeds words that blanks and lines part.
+fn read(alloc: Global, text: &str) -> Result<Outcome, NoMemory> {
+    let mut parser = Parser::new(alloc, Limits::standard())?;
+    let mut commands: u32 = 0;
+    let mut line: u32 = 0;
+    for row in text.lines() {
+        line = line.saturating_add(1);
+        for word in row.split_whitespace() {
+            match parser.feed(alloc, token(alloc, word, line)?) {
+                Ok(Step::More) => {}
+                Ok(Step::Command(_)) => commands = commands.saturating_add(1),
+                Err(ParseFault::Refused(_)) => {}
+                Err(ParseFault::NoMemory) => return Err(NoMemory),
+            }
+        }
+    }
+    Ok(Outcome {
+        commands,
+        fault: parser.finish().err(),
+        begun: parser.begun(),
+    })
+}
+
+#[test]
+fn reads_up_to_the_first_fault(rt: HostRuntime) -> Result<(), Fail> {
+    for (text, commands, fault, begun) in [
+        ("", 0, None, None),
+        ("nat : Type .", 1, None, None),
+        ("{|x|} : ( ( Type ) ) . y : m.n . z : _ .", 3, None, None),
+        ("nat : Type . z : nat . thm t : nat := z .", 3, None, None),
+        ("nat : Type", 0, Some(Code::E03), Some(1)),
+        (".", 0, Some(Code::E02), Some(1)),
+        ("#NAME m .", 0, Some(Code::E06), Some(1)),
+        ("a : Type .\n\nb :\nc defac", 1, Some(Code::E06), Some(3)),
+        ("a : Type .\nb : ) .", 1, Some(Code::E02), Some(2)),
+        ("a : Type . m.n : Type .", 1, Some(Code::E02), Some(1)),
+        ("a : Type . thm t : a .", 1, Some(Code::E02), Some(1)),
+        ("a : Type := a .", 0, Some(Code::E02), Some(1)),
+        ("a : Type .\nb b . c : a .", 1, Some(Code::E02), Some(2)),
+    ] {
+        let outcome = read(rt.alloc(), text)?;
+        assert_eq!(rt; outcome.commands, commands, "at {text}");
+        assert_eq!(rt; outcome.fault, fault, "at {text}");
+        assert_eq!(rt; outcome.begun, begun, "at {text}");
+    }
+    Ok(())
+}
+
+#[test]
+fn gives_the_command_as_written(rt: HostRuntime) -> Result<(), Fail> {
+    let alloc = rt.alloc();
+    let mut parser = Parser::new(alloc, Limits::standard())?;
+    for word in ["thm", "t", ":", "nat", ":=", "z"] {
+        assert!(rt;
+            parser.feed(alloc, token(alloc, word, 7)?).is_ok(),
+            "at {word}"
+        );
+    }
+    let step = parser.feed(alloc, token(alloc, ".", 8)?);
+    assert!(rt; gives_theorem(&step, b"t", 7));
+    Ok(())
+}
+
+#[test]
+fn ends_levels_at_the_limit(rt: HostRuntime) -> Result<(), Fail> {
+    let alloc = rt.alloc();
+    for (depth, code) in [(1_000, None), (1_001, Some(Code::E04))] {
+        let mut parser = Parser::new(alloc, Limits::standard())?;
+        assert!(rt; parser.feed(alloc, token(alloc, "x", 1)?).is_ok());
+        assert!(rt; parser.feed(alloc, token(alloc, ":", 1)?).is_ok());
+        for _ in 1..depth {
+            assert!(rt; parser.feed(alloc, sign(alloc, Sign::OpenBracket)).is_ok());
+        }
+        let last = parser.feed(alloc, sign(alloc, Sign::OpenBracket));
+        match code {
+            Some(code) => {
+                assert_eq!(rt; last.err(), Some(ParseFault::Refused(code)));
+                assert_eq!(rt; parser.finish(), Err(code));
+            }
+            None => {
+                assert!(rt; last.is_ok());
+                assert!(rt; parser.feed(alloc, token(alloc, "Type", 1)?).is_ok());
+                for _ in 0..depth {
+                    assert!(rt; parser.feed(alloc, sign(alloc, Sign::CloseBracket)).is_ok());
+                }
+                let end = parser.feed(alloc, sign(alloc, Sign::Dot));
+                assert!(rt; matches!(end, Ok(Step::Command(_))));
+                assert_eq!(rt; parser.finish(), Ok(()));
+            }
+        }
+    }
+    Ok(())
+}

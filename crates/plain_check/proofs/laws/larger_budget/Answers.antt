@@ -1,0 +1,5 @@
+use Rattle.dk_model.proofs.LargerTyping.{larger_budget}
+use Rattle.plain_check.proofs.laws.larger_budget.Goals as goal
+
+pub returns : goal.returns
+returns c = larger_budget

@@ -1,0 +1,55 @@
+-- What a call gives, by the cases of its result. Want of memory says nothing.
+use Rattle.std.specs.Prelude.{ℕ, ◌≡◌, Some, None, Bool, Result, Ok, Err}
+use Rattle.dk_model.specs.Trees.{Tree, tree}
+use Rattle.dk_model.specs.Units.{Units}
+use Rattle.dk_model.specs.Typing.{Judged, answer, refused, ended}
+use Rattle.dk_model.specs.declared.term.Term.{Term}
+use Rattle.dk_model.specs.declared.code.Verdict.{Verdict}
+use Rattle.dk_model.specs.declared.code.Verdict.TheVariants.{Refused as RefusedBy, Ended as OutOfUnits, Memory as OutOfMemory}
+use Rattle.plain_check.specs.declared.fault.Stop.{Stop}
+use Rattle.plain_check.specs.declared.fault.Stop.TheVariants.{Ended as Over, NoMemory as NoRoom}
+use Rattle.plain_check.specs.declared.fault.TypeFault.{TypeFault}
+use Rattle.plain_check.specs.declared.expect.Product.{Product}
+use Rattle.plain_check.specs.declared.fault.TypeFault.TheVariants.{Refused, Ended, NoMemory}
+
+-- a term, with the units left
+abbrev pub GivesTerm : Units Tree → Result Term Stop → ℕ → Type 0
+GivesTerm due (Ok t) left = due ≡ Some (tree t, left)
+GivesTerm due (Err Over) left = due ≡ None
+GivesTerm due (Err NoRoom) left = Unit {0}
+
+-- yes or no, with the units left
+abbrev pub GivesBool : Units Bool → Result Bool Stop → ℕ → Type 0
+GivesBool due (Ok b) left = due ≡ Some (b, left)
+GivesBool due (Err Over) left = due ≡ None
+GivesBool due (Err NoRoom) left = Unit {0}
+
+-- the fault of a typing, or the end of its units
+abbrev pub Fails : {A : Type 0} → TypeFault → Judged A → Type 0
+Fails (Refused c) due = due ≡ refused c
+Fails Ended due = due ≡ ended
+Fails NoMemory due = Unit {0}
+
+-- a type, with the units left
+abbrev pub GivesType : Judged Tree → Result Term TypeFault → ℕ → Type 0
+GivesType due (Ok t) left = due ≡ answer (tree t) left
+GivesType due (Err fault) left = Fails fault due
+
+-- the two parts of a product, with the units left
+abbrev pub GivesProduct : Judged (Tree × Tree) → Result Product TypeFault → ℕ → Type 0
+GivesProduct due (Ok p) left = due ≡ answer (tree p.domain, tree p.codomain) left
+GivesProduct due (Err fault) left = Fails fault due
+
+-- that a test is met, with the units left
+abbrev pub GivesFit : Judged (Unit {0}) → Result Unit TypeFault → ℕ → Type 0
+GivesFit due (Ok u) left = due ≡ answer tt left
+GivesFit due (Err fault) left = Fails fault due
+
+abbrev pub fault_of : Stop → TypeFault
+fault_of Over = Ended
+fault_of NoRoom = NoMemory
+
+abbrev pub fault_verdict : TypeFault → Verdict
+fault_verdict (Refused c) = RefusedBy c
+fault_verdict Ended = OutOfUnits
+fault_verdict NoMemory = OutOfMemory

@@ -1,0 +1,240 @@
+//! Small files, as the commands that scoping makes of them.
+ghost use Rattle.dk_model.specs.Signatures.{plain_signature};
+ghost use Rattle.dk_model.specs.Verdicts.{HasNoRules};
+
+use crate::{add_entry, enter_plain};
+use dk_model::{
+    Code, Listed, NoMemory, Scoped, Signature, SymSort, Term, Verdict, make_annotated, make_app,
+    make_bare, make_product,
+};
+use std::alloc::Global;
+use std::test::Fail;
+
+fn symbol(typ: Term) -> Scoped {
+    Scoped::Declare {
+        sort: SymSort::Static,
+        typ: Some(typ),
+        body: None,
+    }
+}
+
+fn theorem(typ: Term, body: Term) -> Scoped {
+    Scoped::Declare {
+        sort: SymSort::Theorem,
+        typ: Some(typ),
+        body: Some(body),
+    }
+}
+
+fn definition(typ: Option<Term>, body: Option<Term>) -> Scoped {
+    Scoped::Declare {
+        sort: SymSort::Definable,
+        typ,
+        body,
+    }
+}
+
+/// `a : Type. x : a.` or `nat : Type. z : nat.`
+fn two(alloc: Global) -> Result<Vec<Scoped>, NoMemory> {
+    let mut commands = Vec::new(alloc);
+    commands.push(symbol(Term::Star))?;
+    commands.push(symbol(Term::Sym(0)))?;
+    Ok(commands)
+}
+
+/// The number of the first command that isn't accepted, and its verdict; or how many there are.
+fn outcome(alloc: Global, commands: &[Scoped], budget: u64) -> Result<(usize, Verdict), NoMemory> {
+    let mut signature = Signature {
+        entries: Listed::new(alloc),
+    };
+    for (i, command) in commands.iter().enumerate() {
+        match enter_plain(alloc, &signature, command, budget) {
+            Ok(entry) => add_entry(&mut signature, entry)?,
+            Err(verdict) => return Ok((i + 1, verdict)),
+        }
+    }
+    Ok((commands.len(), Verdict::Accepted))
+}
+
+fn after_two(alloc: Global, command: Scoped, budget: u64) -> Result<(usize, Verdict), NoMemory> {
+    let mut commands = two(alloc)?;
+    commands.push(command)?;
+    outcome(alloc, commands.as_slice(), budget)
+}
+
+/// `nat : Type. z : nat.` and a command that is refused, or isn't.
+fn third(alloc: Global, row: usize) -> Result<Scoped, NoMemory> {
+    let nat = Term::Sym(0);
+    let z = Term::Sym(1);
+    let x = Term::Var(0);
+    match row {
+        0 => Ok(theorem(nat, make_app(alloc, Term::Sym(1), z)?)),
+        1 => Ok(symbol(z)),
+        2 => Ok(symbol(make_product(alloc, z, nat)?)),
+        3 => Ok(symbol(make_product(alloc, nat, z)?)),
+        4 => Ok(definition(None, Some(make_bare(alloc, x)?))),
+        5 => Ok(theorem(nat, make_bare(alloc, x)?)),
+        6 => Ok(definition(None, Some(make_annotated(alloc, nat, Term::Star)?))),
+        7 => {
+            let constant = make_annotated(alloc, Term::Sym(0), Term::Star)?;
+            Ok(theorem(nat, make_app(alloc, constant, z)?))
+        }
+        8 => Ok(theorem(Term::Star, Term::Star)),
+        9 => {
+            let typ = make_product(alloc, Term::Sym(0), Term::Sym(0))?;
+            Ok(definition(Some(typ), Some(make_annotated(alloc, nat, x)?)))
+        }
+        10 => {
+            let typ = make_product(alloc, Term::Sym(0), Term::Sym(0))?;
+            Ok(definition(Some(typ), Some(make_annotated(alloc, z, x)?)))
+        }
+        _ => Ok(definition(None, Some(z))),
+    }
+}
+
+#[test]
+fn each_code_comes_where_it_is_due(rt: HostRuntime) -> Result<(), Fail> {
+    let alloc = rt.alloc();
+    for (row, verdict) in [
+        (0, Verdict::Refused(Code::E20)),
+        (1, Verdict::Refused(Code::E22)),
+        (2, Verdict::Refused(Code::E22)),
+        (3, Verdict::Refused(Code::E22)),
+        (4, Verdict::Refused(Code::E23)),
+        (5, Verdict::Refused(Code::E24)),
+        (6, Verdict::Refused(Code::E25)),
+        (7, Verdict::Refused(Code::E25)),
+        (8, Verdict::Refused(Code::E21)),
+        (9, Verdict::Accepted),
+        (10, Verdict::Refused(Code::E22)),
+        (11, Verdict::Accepted),
+    ] {
+        let command = third(alloc, row)?;
+        assert_eq!(rt; after_two(alloc, command, 1000)?, (3, verdict), "at {row}");
+    }
+    Ok(())
+}
+
+/// `nat : Type. z : nat. thm t : nat := z.`
+#[test]
+fn a_theorem_takes_two_units(rt: HostRuntime) -> Result<(), Fail> {
+    let alloc = rt.alloc();
+    for (budget, verdict) in [(1, Verdict::Ended), (2, Verdict::Accepted)] {
+        let command = theorem(Term::Sym(0), Term::Sym(1));
+        assert_eq!(rt;
+            after_two(alloc, command, budget)?,
+            (3, verdict),
+            "at {budget}"
+        );
+    }
+    Ok(())
+}
+
+/// `a : Type. b : Type := a. x : a. thm t : b := x.`, with `def` or `thm` before `b`.
+fn unfolding(alloc: Global, sort: SymSort) -> Result<Vec<Scoped>, NoMemory> {
+    let mut commands = Vec::new(alloc);
+    commands.push(symbol(Term::Star))?;
+    commands.push(Scoped::Declare {
+        sort,
+        typ: Some(Term::Star),
+        body: Some(Term::Sym(0)),
+    })?;
+    commands.push(symbol(Term::Sym(0)))?;
+    commands.push(theorem(Term::Sym(1), Term::Sym(2)))?;
+    Ok(commands)
+}
+
+#[test]
+fn a_definition_unfolds_and_a_theorem_never_does(rt: HostRuntime) -> Result<(), Fail> {
+    let alloc = rt.alloc();
+    for (sort, budget, verdict) in [
+        (SymSort::Definable, 5, Verdict::Accepted),
+        (SymSort::Definable, 4, Verdict::Ended),
+        (SymSort::Theorem, 1000, Verdict::Refused(Code::E21)),
+    ] {
+        let commands = unfolding(alloc, sort)?;
+        assert_eq!(rt;
+            outcome(alloc, commands.as_slice(), budget)?,
+            (4, verdict),
+            "at {budget}"
+        );
+    }
+    Ok(())
+}
+
+/// `a : Type. x : a. p : (a -> a) -> Type. c : p (y => y). thm u : p (y => x) := c.` is refused,
+/// though it would be accepted if bodies weren't compared.
+#[test]
+fn bodies_of_abstractions_are_compared(rt: HostRuntime) -> Result<(), Fail> {
+    let alloc = rt.alloc();
+    let mut commands = two(alloc)?;
+    let arrow = make_product(alloc, Term::Sym(0), Term::Sym(0))?;
+    commands.push(symbol(make_product(alloc, arrow, Term::Star)?))?;
+    let same = make_bare(alloc, Term::Var(0))?;
+    commands.push(symbol(make_app(alloc, Term::Sym(2), same)?))?;
+    let constant = make_bare(alloc, Term::Sym(1))?;
+    let typ = make_app(alloc, Term::Sym(2), constant)?;
+    commands.push(theorem(typ, Term::Sym(3)))?;
+    let refused = Verdict::Refused(Code::E21);
+    assert_eq!(rt; outcome(alloc, commands.as_slice(), 1000)?, (5, refused));
+    Ok(())
+}
+
+/// `f (f (.. x))` over `a : Type. x : a. f : a -> a.`
+fn nested(alloc: Global, depth: usize) -> Result<Vec<Scoped>, NoMemory> {
+    let mut commands = two(alloc)?;
+    commands.push(symbol(make_product(alloc, Term::Sym(0), Term::Sym(0))?))?;
+    let mut term = Term::Sym(1);
+    for _ in 0..depth {
+        term = make_app(alloc, Term::Sym(2), term)?;
+    }
+    commands.push(theorem(Term::Sym(0), term))?;
+    Ok(commands)
+}
+
+/// `f x .. x` over `a : Type. x : a. f : a -> .. -> a.`
+fn wide(alloc: Global, width: usize) -> Result<Vec<Scoped>, NoMemory> {
+    let mut commands = two(alloc)?;
+    let mut typ = Term::Sym(0);
+    let mut term = Term::Sym(2);
+    for _ in 0..width {
+        typ = make_product(alloc, Term::Sym(0), typ)?;
+        term = make_app(alloc, term, Term::Sym(1))?;
+    }
+    commands.push(symbol(typ))?;
+    commands.push(theorem(Term::Sym(0), term))?;
+    Ok(commands)
+}
+
+/// `y => .. => x` against `a -> .. -> a` over `a : Type. x : a. z : a.`
+fn binders(alloc: Global, depth: usize) -> Result<Vec<Scoped>, NoMemory> {
+    let mut commands = two(alloc)?;
+    commands.push(symbol(Term::Sym(0)))?;
+    let mut typ = Term::Sym(0);
+    let mut term = Term::Sym(1);
+    for _ in 0..depth {
+        typ = make_product(alloc, Term::Sym(0), typ)?;
+        term = make_bare(alloc, term)?;
+    }
+    commands.push(theorem(typ, term))?;
+    Ok(commands)
+}
+
+#[test]
+fn terms_at_the_limits_are_checked(rt: HostRuntime) -> Result<(), Fail> {
+    let alloc = rt.alloc();
+    let accepted = (4, Verdict::Accepted);
+    assert_eq!(rt;
+        outcome(alloc, nested(alloc, 1000)?.as_slice(), 1_000_000)?,
+        accepted
+    );
+    assert_eq!(rt;
+        outcome(alloc, wide(alloc, 1000)?.as_slice(), 1_000_000)?,
+        accepted
+    );
+    assert_eq!(rt;
+        outcome(alloc, binders(alloc, 1000)?.as_slice(), 1_000_000)?,
+        accepted
+    );
+    Ok(())
+}

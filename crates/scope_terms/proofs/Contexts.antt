@@ -1,0 +1,49 @@
+-- The context of a rule, entry by entry.
+use Rattle.std.proofs.Common.{◌≡◌, ◌∙◌, ap, sym, subst, ℕ, ◌+◌, ◌<◌, Bool, false, List, [], ◌∷◌, ◌++◌, length, map, drop, get_or, is_some, if◌then◌else◌, refl, arith}
+use Rattle.std.specs.Prelude.{Option}
+use Rattle.std.proofs.lemmas.List.{at_drop_more, map-append}
+use Rattle.dk_model.specs.Trees.{Tree}
+use Rattle.dk_model.specs.Signatures.{maybe_tree}
+use Rattle.dk_model.specs.declared.term.Term.{Term}
+use Rattle.dk_model.specs.declared.code.Code.TheVariants.{E13}
+use Rattle.dk_model.specs.Scoping.{PlainLeft, PlainScopedRule}
+use Rattle.dk_parser.specs.Written.{WrittenNote, WrittenRule, written_note}
+use Rattle.dk_parser.specs.declared.raw.RawNote.{RawNote}
+use Rattle.scope_terms.specs.Scopes.{Numbered, no_names, term_of, left_of, rule_of, Scoping, scoped, refused, both, number_of, with_name, maybe_term_of, notes_of, variables_of}
+use Rattle.scope_terms.proofs.Stages.{behind, behind_more, both_scoped}
+
+module _ (names before after : Numbered) (context : List RawNote) (i : ℕ) (e : RawNote) (lt : i < length context) (is : e ≡ get_or context i e) (added : after ≡ with_name before e.name) where
+  -- one more rule variable
+  pub variables_step : (whole : Numbered) → whole ≡ variables_of before (map written_note (drop i context)) → whole ≡ variables_of after (map written_note (drop (i + 1) context))
+  variables_step whole at =
+      at ∙ at_drop_more (λ ns. variables_of before (map written_note ns)) context i e lt
+      ∙ ap (λ (x : RawNote). variables_of (with_name before x.name) (map written_note (drop (i + 1) context))) (sym is)
+      ∙ ap (λ v. variables_of v (map written_note (drop (i + 1) context))) (sym added)
+
+  -- one more annotation
+  pub notes_step : (whole : Scoping (List (Option Tree))) (done pushed : List (Option Term)) (n : Option Term) → whole ≡ behind (map maybe_tree done) (notes_of names before (map written_note (drop i context))) → is_some (number_of before e.name) ≡ false → maybe_term_of names before [] (written_note e).note ≡ scoped (maybe_tree n) → pushed ≡ done ++ n ∷ [] → whole ≡ behind (map maybe_tree pushed) (notes_of names after (map written_note (drop (i + 1) context)))
+  notes_step whole done pushed n at new note push =
+      let first = map maybe_tree done in
+      let rest : Numbered → Scoping (List (Option Tree)) = λ v. notes_of names v (map written_note (drop (i + 1) context)) in
+      let step : Bool → Scoping (Option Tree) → Scoping (List (Option Tree)) = λ found s. if found then refused E13 else (both (λ x xs. x ∷ xs) s (rest (with_name before e.name))) in
+      at ∙ at_drop_more (λ ns. behind first (notes_of names before (map written_note ns))) context i e lt
+      ∙ ap (λ (x : RawNote). behind first (notes_of names before (written_note x ∷ map written_note (drop (i + 1) context)))) (sym is)
+      ∙ ap (λ found. behind first (step found (maybe_term_of names before [] (written_note e).note))) new
+      ∙ ap (λ s. behind first (step false s)) note
+      ∙ behind_more first (maybe_tree n) (rest (with_name before e.name))
+      ∙ ap (λ v. behind (first ++ maybe_tree n ∷ []) (rest v)) (sym added)
+      ∙ ap (λ xs. behind xs (rest after)) (sym (ap (λ ts. map maybe_tree ts) push ∙ map-append maybe_tree done (n ∷ [])))
+
+-- each entry takes one number
+pub count_variables : (before : Numbered) (es : List WrittenNote) → (variables_of before es).count ≡ before.count + length es
+count_variables before [] = omega arith
+count_variables before (e ∷ es) = count_variables (with_name before e.name) es ∙ omega arith
+
+-- a rule from its parts
+pub rule_scoped : (names variables : Numbered) (r : WrittenRule) (count : ℕ) (notes : List (Option Tree)) (left : PlainLeft) (right : Tree) → variables ≡ variables_of no_names r.context → count ≡ variables.count → notes_of names no_names r.context ≡ scoped notes → left_of names variables [] r.left ≡ scoped left → term_of names variables [] r.right ≡ scoped right → rule_of names r ≡ scoped (record { vars = count; notes = notes; left = left; right = right })
+rule_scoped names variables r count notes left right are counted ns l t =
+    let vars : count ≡ length r.context = counted ∙ ap (λ (v : Numbered). v.count) are ∙ count_variables no_names r.context ∙ omega arith in
+    let made : ℕ → PlainScopedRule = λ n. record { vars = n; notes = notes; left = left; right = right } in
+    both_scoped _ _ _ notes (left, right) (made count) ns
+    (both_scoped _ _ _ left right (left, right) (subst (λ (v : Numbered). left_of names v [] r.left ≡ scoped left) are l) (subst (λ (v : Numbered). term_of names v [] r.right ≡ scoped right) are t) refl)
+    (ap made vars)

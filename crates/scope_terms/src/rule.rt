@@ -1,0 +1,84 @@
+//! The rules that a rule command stands for.
+ghost use Rattle.std.specs.Prelude.{◌≡◌, IfOk, IfErr};
+ghost use Rattle.dk_model.specs.Scoping.{plain_scoped_rule};
+ghost use Rattle.scope_terms.specs.Scopes.{scoped};
+ghost use Rattle.scope_terms.specs.Answers.{IsFaultOf};
+ghost use Rattle.scope_terms.specs.Places.{noted, plain_rules, notes_sense, declared, rule_sense, rules_sense};
+
+use crate::Names;
+use crate::left::left_at;
+use crate::place::{Binders, Scope};
+use crate::term::{maybe_term_at, term_at};
+use dk_model::{Code, Fault, Listed, ScopedRule, Term};
+use dk_parser::{RawNote, RawRule};
+use std::alloc::Global;
+
+/// A scoped context: its rule variables by number and their annotations.
+#[derive(Drop)]
+struct Context {
+    variables: Names,
+    notes: Listed<Option<Term>>,
+}
+
+/// The context, or its first code.
+fn context_at(alloc: Global, context: &[RawNote], names: &Names) -> Result<Context, Fault>
+    ensures ok { IfOk result (λ c. notes_sense names.now context.now ≡ scoped (noted c)) }
+    ensures variables { IfOk result (λ c. c.variables ≡ declared context.now) }
+    ensures refused { IfErr result (IsFaultOf (notes_sense names.now context.now)) }
+{
+    let mut variables = Names::new(alloc)?;
+    let mut notes = Listed::new(alloc);
+    for entry in context {
+        if variables.has(&entry.name) {
+            return Err(Fault::Refused(Code::E13));
+        }
+        let scope = Scope {
+            names,
+            variables: &variables,
+        };
+        let note = maybe_term_at(alloc, &scope, &entry.note, &Binders::Outermost)?;
+        notes.push(note)?;
+        if variables.count() == u32::MAX {
+            return Err(Fault::NoMemory);
+        }
+        variables.add(alloc, &entry.name)?;
+    }
+    Ok(Context { variables, notes })
+}
+
+/// The rule, or its first code.
+fn rule_at(alloc: Global, rule: &RawRule, names: &Names) -> Result<ScopedRule, Fault>
+    ensures ok { IfOk result (λ r. rule_sense names.now rule.now ≡ scoped (plain_scoped_rule r)) }
+    ensures refused { IfErr result (IsFaultOf (rule_sense names.now rule.now)) }
+{
+    let Context { variables, notes } = context_at(alloc, rule.context.as_slice(), names)?;
+    let scope = Scope {
+        names,
+        variables: &variables,
+    };
+    let left = left_at(alloc, &scope, &rule.left, &Binders::Outermost)?;
+    let right = term_at(alloc, &scope, &rule.right, &Binders::Outermost)?;
+    Ok(ScopedRule {
+        vars: variables.count(),
+        notes,
+        left,
+        right,
+    })
+}
+
+/// The rules in order, or their first code.
+pub(crate) fn rules_at(
+    alloc: Global,
+    rules: &[RawRule],
+    names: &Names,
+) -> Result<Listed<ScopedRule>, Fault>
+    ensures ok { IfOk result (λ rs. rules_sense names.now rules.now ≡ scoped (plain_rules rs)) }
+    ensures refused { IfErr result (IsFaultOf (rules_sense names.now rules.now)) }
+{
+    let mut scoped = Listed::new(alloc);
+    for rule in rules {
+        let rule = rule_at(alloc, rule, names)?;
+        scoped.push(rule)?;
+    }
+    Ok(scoped)
+}

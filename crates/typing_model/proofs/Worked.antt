@@ -1,0 +1,48 @@
+-- Worked cases: what has no type, what a condition asks for, and a theorem by a rule with a repeated variable.
+use Rattle.std.proofs.Common.{List, [], ◌∷◌, Some, None, refl, arith}
+use Rattle.dk_model.specs.Trees.{Tree, star, kind, symbol, variable, rule_variable, apply, bare, product}
+use Rattle.dk_model.specs.Signatures.{rule_variable_pattern, PlainRule, symbol_entry, rules_entry, PlainSignature}
+use Rattle.dk_model.specs.Scoping.{PlainCommand, declare}
+use Rattle.dk_model.specs.declared.signature.SymSort.TheVariants.{Static, Definable, Theorem}
+use Rattle.typing_model.specs.Steps.{at_rule_variable, no_arguments, one_argument, Step, beta, by_rule, no_step, one_step, AreMet, no_condition, one_condition}
+use Rattle.typing_model.specs.Derivations.{HasType, HasDerivation}
+use Rattle.typing_model.specs.Laws.{IsNumbered}
+use Rattle.typing_model.proofs.Rules.{whnf_reduces, comparison_joins}
+use Rattle.typing_model.proofs.Commands.{accepted_derives}
+
+module _ (S : PlainSignature) (types : List Tree) where
+  pub kind_has_no_type : (context : List Tree) (T : Tree) → HasType S types context kind T → ⊥
+  kind_has_no_type context T h = elim h [ ]
+
+  pub bare_has_no_type : (context : List Tree) (b T : Tree) → HasType S types context (bare b) T → ⊥
+  bare_has_no_type context b T h = elim h [ ]
+
+pub condition_needs_height : (S : PlainSignature) (t u : Tree) (rest : List (Tree × Tree)) → AreMet S 0 ((t, u) ∷ rest) → ⊥
+condition_needs_height S t u rest (one_condition lt s r m) = absurd (omega arith)
+
+-- nat : Type. z : nat. def same : nat -> nat -> nat. [x] same x x --> x. P : nat -> Type. p : P z.
+abbrev same_rule : PlainRule
+same_rule = record { head = 2; vars = 1; pats = rule_variable_pattern 0 [] ∷ rule_variable_pattern 0 [] ∷ []; notes = None ∷ []; right = rule_variable 0 }
+
+abbrev repeated : PlainSignature
+repeated = symbol_entry Static star None ∷ symbol_entry Static (symbol 0) None ∷ symbol_entry Definable (product (symbol 0) (product (symbol 0) (symbol 0))) None
+    ∷ rules_entry (same_rule ∷ []) ∷ symbol_entry Static (product (symbol 0) star) None ∷ symbol_entry Static (apply (symbol 4) (symbol 1)) None ∷ []
+
+abbrev same : Tree → Tree → Tree
+same a b = apply (apply (symbol 2) a) b
+
+-- the two occurrences may differ, where they are joinable at a height below
+pub same_steps : Step repeated 1 (same (apply (bare (variable 0)) (symbol 1)) (symbol 1)) (apply (bare (variable 0)) (symbol 1))
+same_steps = by_rule 2 same_rule (apply (bare (variable 0)) (symbol 1) ∷ symbol 1 ∷ []) _ (0, omega arith, refl)
+    (one_argument (at_rule_variable refl) (one_argument (at_rule_variable refl) no_arguments))
+    (one_condition {below = 0} (omega arith) (one_step beta no_step) no_step no_condition)
+
+numbered : IsNumbered repeated
+numbered = (((omega arith, (omega arith, tt)), tt), tt)
+
+-- thm t : P (same z z) := p.
+abbrev theorem : PlainCommand
+theorem = declare Theorem (Some (apply (symbol 4) (same (symbol 1) (symbol 1)))) (Some (symbol 5))
+
+pub theorem_derives : HasDerivation repeated theorem
+theorem_derives = accepted_derives repeated (whnf_reduces repeated numbered) (comparison_joins repeated numbered) theorem 100 refl
