@@ -110,15 +110,15 @@ fn both_answer<R: Abort>(rt: &R, book: &mut Book<u32>)
     answer(book, 1, 1, Verdict::Refused(Code::E21));
 }
 
-// A third job is refused: job 1 has a verdict other than `Accepted`.
-fn third_refused<R: Abort>(rt: &R, alloc: Global, book: &mut Book<u32>)
+// A further job is refused: this number has this verdict.
+fn refused<R: Abort>(rt: &R, alloc: Global, book: &mut Book<u32>, want: (u32, Verdict))
     requires few { length book.old.jobs < 4294967294 }
     requires unsealed { list_any is_seal book.old.events ≡ false }
     ensures kept { book.new ≡ book.old }
     ensures fault { list_any is_fault book.old.events ≡ true }
 {
-    let third = Arc::new(alloc, 30).expect(rt, "memory for a job");
-    match book.put(third, false) {
+    let further = Arc::new(alloc, 40).expect(rt, "memory for a job");
+    match book.put(further, false) {
         Err(
             PutRefused::Stopped {
                 number,
@@ -126,13 +126,22 @@ fn third_refused<R: Abort>(rt: &R, alloc: Global, book: &mut Book<u32>)
                 job,
             },
         ) => {
-            assert_eq!(rt;
-                (number, verdict, *job),
-                (1, Verdict::Refused(Code::E21), 30)
-            );
+            assert_eq!(rt; ((number, verdict), *job), (want, 40));
         }
-        _ => panic!(rt; "the third job was put"),
+        _ => panic!(rt; "a further job was put"),
     }
+}
+
+// Worker 1 accepts job 1, claims job 3 and refuses it, while worker 2 has job 2.
+fn last_is_refused<R: Abort>(rt: &R, book: &mut Book<u32>)
+    requires { Holds 1 1 book.old.events × Holds 2 2 book.old.events }
+    ensures holds { Holds 2 2 book.new.events }
+    ensures jobs { book.new.jobs ≡ book.old.jobs }
+    ensures sealed { list_any is_seal book.new.events ≡ list_any is_seal book.old.events }
+{
+    answer(book, 1, 1, Verdict::Accepted);
+    must_claim(rt, book, 1, 3, 30);
+    answer(book, 1, 3, Verdict::Refused(Code::E20));
 }
 
 // What was done, as the events say it and as the book is read.
@@ -162,14 +171,32 @@ fn keeps_two_workers_apart_and_stops_at_a_fault(rt: HostRuntime) {
     let mut book = two_jobs(&rt, alloc);
     both_claim(&rt, &mut book);
     both_answer(&rt, &mut book);
-    third_refused(&rt, alloc, &mut book);
+    let fault = (1, Verdict::Refused(Code::E21));
+    refused(&rt, alloc, &mut book, fault);
     let over = claim(&mut book, 1);
     assert_eq!(rt; over, (None, true));
-    third_refused(&rt, alloc, &mut book);
+    refused(&rt, alloc, &mut book, fault);
     book.seal(End::Stopped);
     check(&rt, &book);
     let replayed = book.replay().expect(&rt, "memory for a replay");
     check(&rt, &replayed);
+}
+
+#[test]
+fn names_the_least_fault_and_not_the_first_in_time(rt: HostRuntime) {
+    let alloc = rt.alloc();
+    let mut book = two_jobs(&rt, alloc);
+    put(&rt, alloc, &mut book, 30, false);
+    both_claim(&rt, &mut book);
+    last_is_refused(&rt, &mut book);
+    refused(&rt, alloc, &mut book, (3, Verdict::Refused(Code::E20)));
+    answer(&mut book, 2, 2, Verdict::Refused(Code::E21));
+    refused(&rt, alloc, &mut book, (2, Verdict::Refused(Code::E21)));
+    book.seal(End::Stopped);
+    assert_eq!(rt; book.fault(), Some((2, Verdict::Refused(Code::E21))));
+    let replayed = book.replay().expect(&rt, "memory for a replay");
+    assert_eq!(rt; replayed.history(), book.history());
+    assert_eq!(rt; replayed.fault(), book.fault());
 }
 
 // Puts 100,000 jobs, every third as settled.
