@@ -14,7 +14,7 @@ use Rattle.dk_parser.specs.Reading.{AddsCommand, AddsFault, Extends, Tail, Token
 use Rattle.dk_parser.specs.Reading as reading
 use Rattle.dk_parser.specs.Views.{parsing}
 use Rattle.dk_parser.specs.Written.{WrittenCommand, WrittenForm}
-use Rattle.dk_parser.proofs.Exact.{extends}
+use Rattle.dk_parser.proofs.Exact.{read_extends}
 use Rattle.verdict_book.specs.declared.outcome.Outcome.{Outcome}
 use Rattle.verdict_book.specs.declared.outcome.Outcome.TheVariants.{Stopped}
 use Rattle.dk_check_run.specs.declared.reader.Reader.{Reader}
@@ -92,7 +92,7 @@ pub command_settles : {limits : Limits} {budget : ℕ} {done : List WrittenComma
     → LeadsTo limits budget done c → (read_tokens limits (taken ++ t ∷ [])).commands ≡ done ++ w ∷ [] → verdict_at limits budget c.theory (length c.shown) w.form ≡ v → v ≢ verdict.Accepted
     → TokensSettle limits budget all (record { names = c.shown; outcome = Stopped (length c.shown + 1) w.line v })
 command_settles {limits = limits} {budget = budget} {done = done} {c = c} all taken coming t w v all_is leads commands is other us lexed ending =
-    let ext = extends limits (taken ++ t ∷ []) (coming ++ us) in
+    let ext = read_extends limits (taken ++ t ∷ []) (coming ++ us) in
     let new = read_tokens limits ((taken ++ t ∷ []) ++ (coming ++ us)) in
     report_by limits budget _ _ lexed ending (behind_taken limits all taken coming us t all_is)
     ∙ ap (λ l. report_from limits budget no_theory 0 l (reading_of new lexed ending).tail) (ext.commands ∙ ap (λ l. l ++ ext.later) commands)
@@ -104,7 +104,7 @@ pub fault_settles : {limits : Limits} {budget : ℕ} {c : Checked} (all taken co
     → (read_tokens limits (taken ++ t ∷ [])).fault ≡ Some (line, code)
     → TokensSettle limits budget all (record { names = c.shown; outcome = Stopped (length c.shown + 1) line (verdict.Refused code) })
 fault_settles {limits = limits} {budget = budget} {c = c} all taken coming t code line all_is leads adds fault us lexed ending =
-    let ext = extends limits (taken ++ t ∷ []) (coming ++ us) in
+    let ext = read_extends limits (taken ++ t ∷ []) (coming ++ us) in
     let here = read_tokens limits (taken ++ t ∷ []) in
     report_by limits budget _ _ lexed ending (behind_taken limits all taken coming us t all_is ∙ ext.stays (some_fault here.fault (line, code) fault))
     ∙ ap (λ f. report_from limits budget no_theory 0 here.commands (tail_by_tokens f lexed ending here.begun)) fault
