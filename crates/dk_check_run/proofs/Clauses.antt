@@ -97,8 +97,8 @@ decided request old new before after result (checked r opened is opens same c) q
     let status = is_status c.writes not5 in
     subst (λ (x : Request). ReportsFile x bytes before.taken after.taken result) same_q
     (reports r bytes c.names c.outcome before after result
-      (settled r bytes new.left c.names c.outcome (ends_for r bytes request old opened new before after result asks_r opens c) (not_of status not3) (not_of status not4))
-      c.writes not5)
+    (settled r bytes new.left c.names c.outcome (ends_for r bytes request old opened new before after result asks_r opens c) (not_of status not3) (not_of status not4))
+    c.writes not5)
 
 three_five : {n : ℕ} → n ≡ 3 → n ≢ 5
 three_five a b = absurd (omega (arith, a, b))
@@ -235,11 +235,10 @@ memory request old new before after result (memory_ended same writes) q bytes as
 memory request old new before after result (not_opened r e rose writes) q bytes asks is = let f : result ≡ 3 = is_status writes (four_five is) in absurd (omega (arith, is, f))
 memory request old new before after result (checked r opened e opens same c) q bytes asks is =
     let same_q : r ≡ q = same_request e asks.asked in
-    let asks_r : AsksFor request old.books r bytes = subst (λ (x : Request). AsksFor request old.books x bytes) (sym same_q) asks in
-    (
+    let asks_r : AsksFor request old.books r bytes = subst (λ (x : Request). AsksFor request old.books x bytes) (sym same_q) asks in (
       report_of c.names c.outcome r.budget r.quiet,
       subst (λ (x : Request). MemoryText x bytes (report_of c.names c.outcome r.budget r.quiet)) same_q
-        (memory_text r bytes new.left c.names c.outcome (ends_for r bytes request old opened new before after result asks_r opens c) (sym (is_status c.writes (four_five is)) ∙ is)),
+          (memory_text r bytes new.left c.names c.outcome (ends_for r bytes request old opened new before after result asks_r opens c) (sym (is_status c.writes (four_five is)) ∙ is)),
       c.writes.whole (four_five is),
     )
 
@@ -286,12 +285,11 @@ cut request old new before after result (not_opened r e rose writes) q bytes ask
     (unopened r.file, writes.front is, inr (inr (inr (subst (λ (x : Request). Rose (old.missed x.file) (new.missed x.file)) same_q rose, ap (λ (x : Request). unopened x.file) same_q))))
 cut request old new before after result (checked r opened e opens same c) q bytes asks is =
     let same_q : r ≡ q = same_request e asks.asked in
-    let asks_r : AsksFor request old.books r bytes = subst (λ (x : Request). AsksFor request old.books x bytes) (sym same_q) asks in
-    (
+    let asks_r : AsksFor request old.books r bytes = subst (λ (x : Request). AsksFor request old.books x bytes) (sym same_q) asks in (
       report_of c.names c.outcome r.budget r.quiet,
       c.writes.front is,
       subst (λ (x : Request). IsDueText x bytes new.left (Rose (old.missed x.file) (new.missed x.file)) (report_of c.names c.outcome r.budget r.quiet)) same_q
-        (due_text r bytes new.left _ c.names c.outcome (ends_for r bytes request old opened new before after result asks_r opens c)),
+          (due_text r bytes new.left _ c.names c.outcome (ends_for r bytes request old opened new before after result asks_r opens c)),
     )
 
 pub usage_cut : (request : Option Request) (old new : ShelfState) (before after : SinkState) (result : ℕ) → Answers request old new before after result

@@ -68,9 +68,9 @@ module _ (limits : Limits) (budget : ℕ) (bytes : List ℕ) (ending : Ending) w
         parser = ap (λ (r : Reader). parsing r.parser) judges.same ∙ parser;
         no_fault = adds.after;
         leads =
-          subst (λ (l : List WrittenCommand). LeadsTo limits budget l (checked_of new.theory)) (sym adds.commands)
-          (subst (λ (c : Checked). LeadsTo limits budget ((read_tokens limits taken).commands ++ w ∷ []) c) (ap (λ b. checked_after before b w.form) (sym budget_is) ∙ sym judged.1)
-          (leads_more w leads (verdict_is verdict.Accepted judged.0)));
+            subst (λ (l : List WrittenCommand). LeadsTo limits budget l (checked_of new.theory)) (sym adds.commands)
+            (subst (λ (c : Checked). LeadsTo limits budget ((read_tokens limits taken).commands ++ w ∷ []) c) (ap (λ b. checked_after before b w.form) (sym budget_is) ∙ sym judged.1)
+            (leads_more w leads (verdict_is verdict.Accepted judged.0)));
       })
       by_verdict (verdict.Refused code) judged stop = stands_stopped _ new _ stop (settles (verdict.Refused code) judged.0 (λ e. cc) judged.1)
       by_verdict verdict.Ended judged stop = stands_stopped _ new _ stop (settles verdict.Ended judged.0 (λ e. cc) judged.1)

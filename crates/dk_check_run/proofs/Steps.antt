@@ -35,12 +35,12 @@ with_names_more xs x r = ap (λ ns. let f : FileReport = record { names = ns; ou
 pub leads_more : {limits : Limits} {budget : ℕ} {done : List WrittenCommand} {c : Checked} (w : WrittenCommand) → LeadsTo limits budget done c → verdict_at limits budget c.theory (length c.shown) w.form ≡ verdict.Accepted → LeadsTo limits budget (done ++ w ∷ []) (checked_after c budget w.form)
 leads_more {limits = limits} {budget = budget} {done = done} {c = c} w leads accepted = record {
   report = λ cs tail.
-    let rest : ℕ → FileReport = λ n. report_from limits budget (theory_after c.theory budget w.form) n cs tail in
-    ap (λ l. report_from limits budget no_theory 0 l tail) (append_assoc done (w ∷ []) cs)
-    ∙ leads.report (w ∷ cs) tail
-    ∙ ap (λ v. with_names c.shown (by_verdict v (length c.shown) w (rest (length c.shown + 1)))) accepted
-    ∙ with_names_more c.shown (shown_name w.form) (rest (length c.shown + 1))
-    ∙ ap (λ n. with_names (c.shown ++ shown_name w.form ∷ []) (rest n)) (sym (length-append c.shown (shown_name w.form ∷ [])));
+      let rest : ℕ → FileReport = λ n. report_from limits budget (theory_after c.theory budget w.form) n cs tail in
+      ap (λ l. report_from limits budget no_theory 0 l tail) (append_assoc done (w ∷ []) cs)
+      ∙ leads.report (w ∷ cs) tail
+      ∙ ap (λ v. with_names c.shown (by_verdict v (length c.shown) w (rest (length c.shown + 1)))) accepted
+      ∙ with_names_more c.shown (shown_name w.form) (rest (length c.shown + 1))
+      ∙ ap (λ n. with_names (c.shown ++ shown_name w.form ∷ []) (rest n)) (sym (length-append c.shown (shown_name w.form ∷ [])));
 }
 
 pub stopped_names : (xs : List (List ℕ)) (o : Outcome) → with_names xs (let r : FileReport = record { names = []; outcome = o } in r) ≡ (let r : FileReport = record { names = xs; outcome = o } in r)
@@ -79,9 +79,9 @@ leads_fault {c = c} line code leads = leads_end leads (reading.fault line code) 
 behind_taken : (limits : Limits) (all taken coming us : List Token) (t : Token) → all ≡ taken ++ t ∷ coming → read_tokens limits (all ++ us) ≡ read_tokens limits ((taken ++ t ∷ []) ++ (coming ++ us))
 behind_taken limits all taken coming us t is =
     ap (read_tokens limits) (
-      ap (λ l. l ++ us) is
-      ∙ append_assoc taken (t ∷ coming) us
-      ∙ sym (append_assoc taken (t ∷ []) (coming ++ us))
+    ap (λ l. l ++ us) is
+    ∙ append_assoc taken (t ∷ coming) us
+    ∙ sym (append_assoc taken (t ∷ []) (coming ++ us))
     )
 
 report_by : (limits : Limits) (budget : ℕ) (r s : TokenReading) (lexed : Lexed) (ending : Ending) → r ≡ s → report_of_reading limits budget (reading_of r lexed ending) ≡ report_of_reading limits budget (reading_of s lexed ending)

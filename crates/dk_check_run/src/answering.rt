@@ -93,12 +93,7 @@ fn put_outcome<K: Sink>(
 }
 
 /// All that the program does.
-pub fn answer<H: Shelf, K: Sink>(
-    alloc: Global,
-    words: &[String],
-    shelf: &mut H,
-    sink: &mut K,
-) -> u8
+pub fn answer<H: Shelf, K: Sink>(alloc: Global, words: &[String], shelf: &mut H, sink: &mut K) -> u8
     ensures { Answers (request_of (map string_bytes words.now))
         (record { books = H.books shelf.old; left = H.left shelf.old; faults = H.faults shelf.old; missed = H.missed shelf.old })
         (record { books = H.books shelf.new; left = H.left shelf.new; faults = H.faults shelf.new; missed = H.missed shelf.new })

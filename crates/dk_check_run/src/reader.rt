@@ -130,7 +130,7 @@ impl Reader {
         requires ready { self.old.stop ≡ None → IsReady self.old }
         ensures stands { (limits : Limits) (budget : ℕ) (bytes : List ℕ) (ending : Ending) (taken : List Token) →
             (tokens limits bytes ending).tokens
-                ≡ taken ++ with_token first (with_token second (with_token third (with_token fourth []))) →
+            ≡ taken ++ with_token first (with_token second (with_token third (with_token fourth []))) →
             StandsAtTokens limits budget bytes ending taken self.old →
             StandsAtTokens limits budget bytes ending (tokens limits bytes ending).tokens self.new }
         ensures stop { IsStop self.new.stop }

@@ -46,15 +46,27 @@ const FILES: [(&str, u8, &str); 30] = [
         1,
         "ok 1 a\nok 2 b\nok 3 x\nrefused 4 line 1 E21\n",
     ),
-    ("a : Type.\n(; b\n ;) x :\n ).", 1, "ok 1 a\nrefused 2 line 3 E02\n"),
+    (
+        "a : Type.\n(; b\n ;) x :\n ).",
+        1,
+        "ok 1 a\nrefused 2 line 3 E02\n",
+    ),
     ("a : Type.\n\n (; b", 1, "ok 1 a\nrefused 2 line 3 E03\n"),
     ("a : Type.\n\n $", 1, "ok 1 a\nrefused 2 line 3 E01\n"),
     ("a : Type.\r\nb : a.\r\n", 0, "ok 1 a\nok 2 b\naccepted 2\n"),
     ("x : ((Type)).", 0, "ok 1 x\naccepted 1\n"),
     ("x : (Type.", 1, "refused 1 line 1 E02\n"),
     ("thm t : Type.", 1, "refused 1 line 1 E02\n"),
-    ("a : Type. thm t : Type := a.", 0, "ok 1 a\nok 2 t\naccepted 2\n"),
-    ("a : Type. thm t : Type := a. x : t.", 0, "ok 1 a\nok 2 t\nok 3 x\naccepted 3\n"),
+    (
+        "a : Type. thm t : Type := a.",
+        0,
+        "ok 1 a\nok 2 t\naccepted 2\n",
+    ),
+    (
+        "a : Type. thm t : Type := a. x : t.",
+        0,
+        "ok 1 a\nok 2 t\nok 3 x\naccepted 3\n",
+    ),
     (
         "a : Type. thm t : Type := a. x : a. thm u : t := x.",
         1,
@@ -62,12 +74,7 @@ const FILES: [(&str, u8, &str); 30] = [
     ),
 ];
 
-fn shelf_of(
-    alloc: Global,
-    text: &str,
-    piece: usize,
-    failing: &[u64],
-) -> Result<MemShelf, Fail>
+fn shelf_of(alloc: Global, text: &str, piece: usize, failing: &[u64]) -> Result<MemShelf, Fail>
     requires { 0 < piece }
 {
     let book = Book {
@@ -76,12 +83,7 @@ fn shelf_of(
     };
     let mut books = Vec::new(alloc);
     books.push(book)?;
-    Ok(MemShelf::new(
-        alloc,
-        books,
-        piece,
-        Vec::from_slice(alloc, failing)?,
-    )?)
+    Ok(MemShelf::new(alloc, books, piece, Vec::from_slice(alloc, failing)?)?)
 }
 
 fn words_of(alloc: Global, words: &[&str]) -> Result<Vec<String>, Fail> {

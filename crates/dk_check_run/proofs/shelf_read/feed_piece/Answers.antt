@@ -13,10 +13,10 @@ loop-byte-init c = record {
 pub loop-byte-preserved : goal.loop-byte-preserved
 loop-byte-preserved c = record {
   stands = λ limits budget given stands.
-    subst (λ l. StandsAt limits budget l c.feed.new.self)
-    (append_assoc given (take c.loop-byte.byte-index c.args.bytes.now) (get_or c.args.bytes.now c.loop-byte.byte-index 0 ∷ [])
+      subst (λ l. StandsAt limits budget l c.feed.new.self)
+      (append_assoc given (take c.loop-byte.byte-index c.args.bytes.now) (get_or c.args.bytes.now c.loop-byte.byte-index 0 ∷ [])
       ∙ ap (λ l. given ++ l) (sym (take_more c.args.bytes.now c.loop-byte.byte-index 0 c.loop-byte-test.true)))
-    (c.feed.ensures.stands limits budget (given ++ take c.loop-byte.byte-index c.args.bytes.now) (c.loop-byte.invariant.stands limits budget given stands));
+      (c.feed.ensures.stands limits budget (given ++ take c.loop-byte.byte-index c.args.bytes.now) (c.loop-byte.invariant.stands limits budget given stands));
   stop = c.feed.ensures.stop;
   ready = c.feed.ensures.ready;
 }

@@ -5,7 +5,6 @@ use Rattle.dk_check_run.proofs.Ends.{faults_held, itself_fault, missed_held, sto
 use Rattle.dk_check_run.proofs.Pieces.{given_all, given_ended, given_memory, given_more, given_none, given_stopped, given_unread}
 use Rattle.dk_check_run.proofs.shelf_read.read_book.Goals as goal
 
-
 pub returns-in-Err-clause-ends : goal.returns-in-Err-clause-ends
 returns-in-Err-clause-ends g c = λ limits budget bytes stands left.
     given_unread limits budget bytes _ _ c.pieces.reader _ (c.pieces.invariant.read limits budget bytes stands left) c.in-Err.ensures.kept c.pieces.invariant.going c.unread.ensures
@@ -13,7 +12,7 @@ returns-in-Err-clause-ends g c = λ limits budget bytes stands left.
 pub returns-then-count-eq0-clause-ends : goal.returns-then-count-eq0-clause-ends
 returns-then-count-eq0-clause-ends g c = λ limits budget bytes stands left.
     given_ended limits budget bytes _ _ _ (c.finish.ensures.ends limits budget bytes
-      (given_all limits budget bytes c.read.new.buf _ (g.H.Shelf.left c.read.new.self) c.pieces.reader (c.pieces.invariant.read limits budget bytes stands left) (rw c.if-count-eq0.true at c.in-Ok.ensures.bytes)))
+    (given_all limits budget bytes c.read.new.buf _ (g.H.Shelf.left c.read.new.self) c.pieces.reader (c.pieces.invariant.read limits budget bytes stands left) (rw c.if-count-eq0.true at c.in-Ok.ensures.bytes)))
 
 pub returns-then-count-eq0-clause-fault : goal.returns-then-count-eq0-clause-fault
 returns-then-count-eq0-clause-fault g c = itself_fault _ c.finish.ensures.itself
@@ -28,7 +27,7 @@ pub returns-in-Some-clause-ends : goal.returns-in-Some-clause-ends
 returns-in-Some-clause-ends g c = λ limits budget bytes stands left.
     given_stopped limits budget bytes _ c.feed_piece.new.reader c.in-Some.outcome
     (given_more limits budget bytes c.read.new.buf _ (g.H.Shelf.left c.read.new.self) c.in-Ok.count c.pieces.reader c.feed_piece.new.reader
-      (c.pieces.invariant.read limits budget bytes stands left) c.in-Ok.ensures.bytes (λ given s. subst (λ l. StandsAt limits budget (given ++ l) c.feed_piece.new.reader) c.split_at.ensures.front (c.feed_piece.ensures.stands limits budget given s)))
+    (c.pieces.invariant.read limits budget bytes stands left) c.in-Ok.ensures.bytes (λ given s. subst (λ l. StandsAt limits budget (given ++ l) c.feed_piece.new.reader) c.split_at.ensures.front (c.feed_piece.ensures.stands limits budget given s)))
     c.in-Some.is
 
 pub returns-in-Some-clause-fault : goal.returns-in-Some-clause-fault
@@ -46,7 +45,7 @@ pieces-preserved g c = record {
   ready = c.feed_piece.ensures.ready c.in_default.is;
   going = c.in_default.is;
   read = λ limits budget bytes stands left.
-    given_more limits budget bytes c.read.new.buf _ (g.H.Shelf.left c.read.new.self) c.in-Ok.count c.pieces.reader c.feed_piece.new.reader
+      given_more limits budget bytes c.read.new.buf _ (g.H.Shelf.left c.read.new.self) c.in-Ok.count c.pieces.reader c.feed_piece.new.reader
       (c.pieces.invariant.read limits budget bytes stands left) c.in-Ok.ensures.bytes (λ given s. subst (λ l. StandsAt limits budget (given ++ l) c.feed_piece.new.reader) c.split_at.ensures.front (c.feed_piece.ensures.stands limits budget given s));
   books = c.in-Ok.ensures.books ∙ c.pieces.invariant.books;
   faults = c.in-Ok.ensures.cause.stands ∙ c.pieces.invariant.faults;

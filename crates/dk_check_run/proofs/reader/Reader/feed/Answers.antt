@@ -24,7 +24,7 @@ returns-in-Ok-clause-stands c = λ limits budget bytes stands.
     let lexer = c.in-Ok.ensures.after limits bytes goes.lexer in
     byte_stands limits budget (bytes ++ c.args.byte ∷ []) c.take.new.self (c.take.ensures.lexer ∙ lexer)
     (c.take.ensures.stands limits budget (bytes ++ c.args.byte ∷ []) broken (tokens limits bytes broken)
-      (c.in-Ok.ensures.fed limits bytes goes.lexer) (λ _. c.line-place.ensures.begun limits (bytes ++ c.args.byte ∷ []) lexer) (behind_lexer _ goes.behind))
+    (c.in-Ok.ensures.fed limits bytes goes.lexer) (λ _. c.line-place.ensures.begun limits (bytes ++ c.args.byte ∷ []) lexer) (behind_lexer _ goes.behind))
 
 pub returns-in-Err-clause-stands : goal.returns-in-Err-clause-stands
 returns-in-Err-clause-stands c = λ limits budget bytes stands.

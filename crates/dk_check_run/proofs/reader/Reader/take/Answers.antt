@@ -32,9 +32,9 @@ returns-in-Some-clause-stands c = λ limits budget bytes ending before adds plac
     (c.tokens.ensures.stands limits budget bytes ending before.tokens adds.tokens (subst (λ (o : Option Outcome). stands_at_tokens limits budget bytes ending before.tokens c.args.self.now o) (sym c.requires.going) goes))
     (adds.fault ∙ c.in-Some.is)
     (λ behind.
-      c.unwrap_or-line.ensures
-      ∙ ap (λ o. unwrap_or o c.args.place) (c.begun.ensures limits (tokens limits bytes ending).tokens behind.parser)
-      ∙ ap (unwrap_or (read_tokens limits (tokens limits bytes ending).tokens).begun) (place (some_code _ _ c.in-Some.is)))
+    c.unwrap_or-line.ensures
+    ∙ ap (λ o. unwrap_or o c.args.place) (c.begun.ensures limits (tokens limits bytes ending).tokens behind.parser)
+    ∙ ap (unwrap_or (read_tokens limits (tokens limits bytes ending).tokens).begun) (place (some_code _ _ c.in-Some.is)))
     c.stop_at.ensures
 
 pub returns-in_default-clause-stands : goal.returns-in_default-clause-stands
