@@ -108,3 +108,52 @@ fn reports_each_file(rt: HostRuntime) -> Result<(), Fail> {
     }
     Ok(())
 }
+
+// What fails under the words: the bytes of a read, the shelf's call that fails, the bytes of a write, the sink's call that
+// fails (0: none), the status and the bytes taken. The shelf's first call is the opening.
+struct Failure {
+    words: [&'static str; 3],
+    piece: usize,
+    shelf_call: u64,
+    sink_piece: usize,
+    sink_call: u64,
+    status: u8,
+    taken: &'static str,
+}
+
+// All over the text "a : Type.\nb : Type.\n".
+const FAILURES: [Failure; 14] = [
+    Failure { words: ["check", "--quiet", "f.dk"], piece: 7, shelf_call: 0, sink_piece: 9, sink_call: 0, status: 0, taken: "accepted 2\n" },
+    Failure { words: ["check", "--budget=1", "f.dk"], piece: 1, shelf_call: 0, sink_piece: 1, sink_call: 0, status: 0, taken: "ok 1 a\nok 2 b\naccepted 2\n" },
+    Failure { words: ["check", "--budget=0", "f.dk"], piece: 1, shelf_call: 0, sink_piece: 99, sink_call: 0, status: 2, taken: "usage: dk_check check [--budget B] [--quiet] FILE\n" },
+    Failure { words: ["check", "--quiet", "--help"], piece: 1, shelf_call: 0, sink_piece: 99, sink_call: 0, status: 2, taken: "usage: dk_check check [--budget B] [--quiet] FILE\n" },
+    Failure { words: ["check", "--quiet", "--quiet"], piece: 1, shelf_call: 0, sink_piece: 99, sink_call: 1, status: 5, taken: "" },
+    Failure { words: ["check", "--budget=9", "g.dk"], piece: 1, shelf_call: 0, sink_piece: 3, sink_call: 0, status: 3, taken: "unopened g.dk\n" },
+    Failure { words: ["check", "--budget=9", "g.dk"], piece: 1, shelf_call: 0, sink_piece: 3, sink_call: 2, status: 5, taken: "uno" },
+    Failure { words: ["check", "--budget=9", "f.dk"], piece: 1, shelf_call: 1, sink_piece: 99, sink_call: 0, status: 3, taken: "unopened f.dk\n" },
+    Failure { words: ["check", "--budget=9", "f.dk"], piece: 1, shelf_call: 11, sink_piece: 99, sink_call: 0, status: 3, taken: "unread 1\n" },
+    Failure { words: ["check", "--budget=9", "f.dk"], piece: 1, shelf_call: 12, sink_piece: 99, sink_call: 0, status: 3, taken: "ok 1 a\nunread 2\n" },
+    Failure { words: ["check", "--budget=9", "f.dk"], piece: 1, shelf_call: 22, sink_piece: 99, sink_call: 0, status: 3, taken: "ok 1 a\nok 2 b\nunread 3\n" },
+    Failure { words: ["check", "--budget=9", "f.dk"], piece: 1, shelf_call: 23, sink_piece: 99, sink_call: 0, status: 0, taken: "ok 1 a\nok 2 b\naccepted 2\n" },
+    Failure { words: ["check", "--budget=9", "f.dk"], piece: 4096, shelf_call: 3, sink_piece: 99, sink_call: 0, status: 3, taken: "ok 1 a\nok 2 b\nunread 3\n" },
+    Failure { words: ["check", "--budget=9", "f.dk"], piece: 4096, shelf_call: 0, sink_piece: 1, sink_call: 6, status: 5, taken: "ok 1 " },
+];
+
+#[test]
+fn answers_each_failure(rt: HostRuntime) -> Result<(), Fail> {
+    let alloc = rt.alloc();
+    for row in &FAILURES {
+        if row.piece == 0 || row.sink_piece == 0 {
+            return Ok(());
+        }
+        let words = words_of(alloc, &row.words)?;
+        let mut shelf = shelf_of(alloc, "a : Type.\nb : Type.\n", row.piece, &[row.shelf_call])?;
+        let mut failing = Vec::new(alloc);
+        failing.push(row.sink_call)?;
+        let mut sink = MemSink::new(alloc, 1000, row.sink_piece, failing)?;
+        let status = run(alloc, words.as_slice(), &mut shelf, &mut sink);
+        assert_eq!(rt; sink.bytes(), row.taken.as_bytes());
+        assert_eq!(rt; status, row.status);
+    }
+    Ok(())
+}
