@@ -109,8 +109,8 @@ impl Parser {
         ensures { CameTo (turn_by_step (parsing self.old) line (plain_step step)) result (parsing self.new) }
     {
         match step {
-            PartStep::Goes(part) => {
-                if part.level() > self.limits.levels as u64 {
+            PartStep::Goes(made, part) => {
+                if made > self.limits.levels as u64 {
                     self.refuse(line, Code::E04)
                 } else {
                     self.go_on(line, part)

@@ -1,0 +1,243 @@
+//! What stands around the part of a term that is being read.
+ghost use Rattle.std.specs.Prelude.{◌≡◌, ◌+◌, IfOk, option_map};
+ghost use Rattle.dk_parser.specs.Parsing.{atoms, binder_term, depth, in_frames, pushed, slot_binder, slot_more, slot_term, takes_atom, unwound, unwound_all};
+ghost use Rattle.dk_parser.specs.Views.{plain_frame, plain_frames, plain_slot, plain_term};
+ghost use Rattle.dk_parser.specs.Written.{maybe_written, written, written_annotated, written_apply, written_arrow, written_product};
+
+use crate::RawTerm;
+use crate::term_part::TermPart;
+use dk_model::{Listed, NoMemory};
+use std::alloc::Global;
+
+/// Where an application stands.
+#[derive(Drop)]
+pub enum Place {
+    /// At the front of a term.
+    Front,
+    /// As the domain of a binder. None is the wildcard.
+    Domain(Option<Listed<u8>>),
+}
+
+/// What has been read of an application and before it.
+#[derive(Drop)]
+pub enum Slot {
+    /// Nothing: an application is due.
+    Due(Place),
+    /// A name or a wildcard at the front of a term: a binder or the first atom.
+    Bindable(Option<Listed<u8>>),
+    /// An application of so many atoms.
+    Applied(Place, RawTerm, u64),
+    /// A binder and its domain in brackets: an arrow is due.
+    Bracketed(Option<Listed<u8>>, RawTerm),
+}
+
+/// What waits for a term.
+#[derive(Drop)]
+pub enum Frame {
+    /// An open bracket, and what stood before it.
+    Bracket(Slot),
+    /// `A ->`.
+    Arrow(RawTerm),
+    /// `x : A ->`.
+    Product(Option<Listed<u8>>, RawTerm),
+    /// `x : A =>`.
+    Annotated(Option<Listed<u8>>, RawTerm),
+}
+
+/// The frames, the innermost first, each with the number of frames from it on.
+#[derive(Drop)]
+pub enum Frames {
+    Bottom,
+    On(u64, Frame, Box<Frames>),
+}
+
+/// A binder read as a term.
+pub fn binder_term(binder: Option<Listed<u8>>) -> RawTerm
+    ensures { written result ≡ binder_term binder }
+{
+    match binder {
+        Some(name) => RawTerm::Name(name),
+        None => RawTerm::Wild,
+    }
+}
+
+fn apply(alloc: Global, f: RawTerm, a: RawTerm) -> Result<RawTerm, NoMemory>
+    ensures { IfOk result (λ t. written t ≡ written_apply (written f) (written a)) }
+{
+    let f = Box::new(alloc, f)?;
+    let a = Box::new(alloc, a)?;
+    Ok(RawTerm::App(f, a))
+}
+
+fn arrow(alloc: Global, a: RawTerm, b: RawTerm) -> Result<RawTerm, NoMemory>
+    ensures { IfOk result (λ t. written t ≡ written_arrow (written a) (written b)) }
+{
+    let a = Box::new(alloc, a)?;
+    let b = Box::new(alloc, b)?;
+    Ok(RawTerm::Arrow(a, b))
+}
+
+fn product(
+    alloc: Global,
+    binder: Option<Listed<u8>>,
+    a: RawTerm,
+    b: RawTerm,
+) -> Result<RawTerm, NoMemory>
+    ensures { IfOk result (λ t. written t ≡ written_product binder (written a) (written b)) }
+{
+    let a = Box::new(alloc, a)?;
+    let b = Box::new(alloc, b)?;
+    Ok(RawTerm::Prod(binder, a, b))
+}
+
+fn annotated(
+    alloc: Global,
+    binder: Option<Listed<u8>>,
+    a: RawTerm,
+    b: RawTerm,
+) -> Result<RawTerm, NoMemory>
+    ensures { IfOk result (λ t. written t ≡ written_annotated binder (written a) (written b)) }
+{
+    let a = Box::new(alloc, a)?;
+    let b = Box::new(alloc, b)?;
+    Ok(RawTerm::Abs(binder, Some(a), b))
+}
+
+fn next(n: u64) -> Result<u64, NoMemory>
+    ensures { IfOk result (λ next. next ≡ n + 1) }
+{
+    match n.checked_add(1) {
+        Some(next) => Ok(next),
+        None => Err(NoMemory),
+    }
+}
+
+impl Slot {
+    /// The atoms of the application.
+    pub fn atoms(&self) -> u64
+        ensures { result ≡ atoms (plain_slot self.now) }
+    {
+        match self {
+            Slot::Due(_) => 0,
+            Slot::Bindable(_) => 1,
+            Slot::Applied(_, _, n) => *n,
+            Slot::Bracketed(_, _) => 1,
+        }
+    }
+
+    /// Whether an atom may stand here.
+    pub fn takes_atom(&self) -> bool
+        ensures { result ≡ takes_atom (plain_slot self.now) }
+    {
+        match self {
+            Slot::Bracketed(_, _) => false,
+            _ => true,
+        }
+    }
+
+    /// Adds an atom, where one may stand.
+    pub fn more(self, alloc: Global, a: RawTerm) -> Result<Option<Slot>, NoMemory>
+        ensures { IfOk result (λ slot. option_map plain_slot slot ≡ slot_more (plain_slot self) (written a)) }
+    {
+        match self {
+            Slot::Due(place) => Ok(Some(Slot::Applied(place, a, 1))),
+            Slot::Bindable(binder) => {
+                let f = apply(alloc, binder_term(binder), a)?;
+                Ok(Some(Slot::Applied(Place::Front, f, 2)))
+            }
+            Slot::Applied(place, f, n) => {
+                let f = apply(alloc, f, a)?;
+                Ok(Some(Slot::Applied(place, f, next(n)?)))
+            }
+            Slot::Bracketed(_, _) => Ok(None),
+        }
+    }
+
+    /// Adds a name or a wildcard.
+    pub fn binder(self, alloc: Global, binder: Option<Listed<u8>>) -> Result<Option<Slot>, NoMemory>
+        ensures { IfOk result (λ slot. option_map plain_slot slot ≡ slot_binder (plain_slot self) binder) }
+    {
+        match self {
+            Slot::Due(Place::Front) => Ok(Some(Slot::Bindable(binder))),
+            slot => slot.more(alloc, binder_term(binder)),
+        }
+    }
+
+    /// The application, where a term may end behind it.
+    pub fn term(self) -> Option<RawTerm>
+        ensures { maybe_written result ≡ slot_term (plain_slot self) }
+    {
+        match self {
+            Slot::Bindable(binder) => Some(binder_term(binder)),
+            Slot::Applied(Place::Front, a, _) => Some(a),
+            _ => None,
+        }
+    }
+}
+
+impl Frames {
+    /// How many there are.
+    pub fn depth(&self) -> u64
+        ensures { result ≡ depth (plain_frames self.now) }
+    {
+        match self {
+            Frames::Bottom => 0,
+            Frames::On(depth, _, _) => *depth,
+        }
+    }
+
+    /// Puts a frame on.
+    pub fn push(self, alloc: Global, frame: Frame) -> Result<Frames, NoMemory>
+        ensures { IfOk result (λ frames. plain_frames frames ≡ pushed (plain_frame frame) (plain_frames self)) }
+    {
+        let depth = next(self.depth())?;
+        let rest = Box::new(alloc, self)?;
+        Ok(Frames::On(depth, frame, rest))
+    }
+
+    /// Closes the innermost bracket behind a term. Recurses once for each arrow in it.
+    pub fn unwind(self, alloc: Global, a: RawTerm) -> Result<Option<TermPart>, NoMemory>
+        ensures { IfOk result (λ part. option_map plain_term part ≡ unwound (plain_frames self) (written a)) }
+    {
+        match self {
+            Frames::Bottom => Ok(None),
+            Frames::On(_, frame, rest) => {
+                let rest = Box::into_inner(rest);
+                match frame {
+                    Frame::Bracket(slot) => Ok(in_frames(rest, slot.more(alloc, a)?)),
+                    Frame::Arrow(b) => rest.unwind(alloc, arrow(alloc, b, a)?),
+                    Frame::Product(v, b) => rest.unwind(alloc, product(alloc, v, b, a)?),
+                    Frame::Annotated(v, b) => rest.unwind(alloc, annotated(alloc, v, b, a)?),
+                }
+            }
+        }
+    }
+
+    /// The whole term behind its last part, where no bracket is open.
+    pub fn unwind_all(self, alloc: Global, a: RawTerm) -> Result<Option<RawTerm>, NoMemory>
+        ensures { IfOk result (λ term. maybe_written term ≡ unwound_all (plain_frames self) (written a)) }
+    {
+        match self {
+            Frames::Bottom => Ok(Some(a)),
+            Frames::On(_, frame, rest) => {
+                let rest = Box::into_inner(rest);
+                match frame {
+                    Frame::Bracket(_) => Ok(None),
+                    Frame::Arrow(b) => rest.unwind_all(alloc, arrow(alloc, b, a)?),
+                    Frame::Product(v, b) => rest.unwind_all(alloc, product(alloc, v, b, a)?),
+                    Frame::Annotated(v, b) => rest.unwind_all(alloc, annotated(alloc, v, b, a)?),
+                }
+            }
+        }
+    }
+}
+
+/// A term with this slot in these frames.
+pub fn in_frames(frames: Frames, slot: Option<Slot>) -> Option<TermPart>
+    ensures { option_map plain_term result ≡ in_frames (plain_frames frames) (option_map plain_slot slot) }
+{
+    match slot {
+        Some(slot) => Some(TermPart { frames, slot }),
+        None => None,
+    }
+}
