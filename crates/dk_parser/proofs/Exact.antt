@@ -401,8 +401,8 @@ fault_stays (Some code) s cs us e h =
     ∙ ap (reading_at cs) (faulty_parsing s code us e)
 
 -- the reading of more tokens begins with the reading of fewer
-pub extends : (limits : Limits) (ts us : List Token) → Extends (read_tokens limits ts) (read_tokens limits (ts ++ us))
-extends limits ts us = record {
+pub read_extends : (limits : Limits) (ts us : List Token) → Extends (read_tokens limits ts) (read_tokens limits (ts ++ us))
+read_extends limits ts us = record {
   later = commands_from (parsing_from (started limits) ts) us;
   commands = commands_append (started limits) ts us;
   stays = λ h.

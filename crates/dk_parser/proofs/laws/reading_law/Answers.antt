@@ -1,4 +1,4 @@
-use Rattle.dk_parser.proofs.Exact.{exact, extends, only}
+use Rattle.dk_parser.proofs.Exact.{exact, only, read_extends}
 use Rattle.dk_parser.proofs.laws.reading_law.Goals as goal
 
 pub returns-clause-exact : goal.returns-clause-exact
@@ -8,4 +8,4 @@ pub returns-clause-only : goal.returns-clause-only
 returns-clause-only c = λ limits ts r h. only h
 
 pub returns-clause-extends : goal.returns-clause-extends
-returns-clause-extends c = extends
+returns-clause-extends c = read_extends
