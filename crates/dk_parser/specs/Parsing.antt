@@ -90,21 +90,34 @@ abbrev pub in_frames : Frames → Option Slot → Option TermPart
 in_frames fs None = None
 in_frames fs (Some slot) = Some (record { frames = fs; slot = slot })
 
+-- a term in its frame: a longer term, or the last one in a bracket that stands behind this slot
+pub data Around : Type 0 where
+  around_term : Written → Around
+  around_bracket : Slot → Written → Around
+
+abbrev pub around : Frame → Written → Around
+around (bracket_frame slot) a = around_bracket slot a
+around (arrow_frame b) a = around_term (written_arrow b a)
+around (product_frame v b) a = around_term (written_product v b a)
+around (annotated_frame v b) a = around_term (written_annotated v b a)
+
+abbrev pub unwound_by : Around → (Written → Option TermPart) → Frames → Option TermPart
+unwound_by (around_term t) more fs = more t
+unwound_by (around_bracket slot a) more fs = in_frames fs (slot_more slot a)
+
 -- the bracket closes behind this term
 abbrev pub unwound : Frames → Written → Option TermPart
 unwound bottom a = None
-unwound (on d (bracket_frame slot) fs) a = in_frames fs (slot_more slot a)
-unwound (on d (arrow_frame b) fs) a = unwound fs (written_arrow b a)
-unwound (on d (product_frame v b) fs) a = unwound fs (written_product v b a)
-unwound (on d (annotated_frame v b) fs) a = unwound fs (written_annotated v b a)
+unwound (on d f fs) a = unwound_by (around f a) (λ t. unwound fs t) fs
+
+abbrev pub unwound_all_by : Around → (Written → Option Written) → Option Written
+unwound_all_by (around_term t) more = more t
+unwound_all_by (around_bracket slot a) more = None
 
 -- the whole term ends behind this one
 abbrev pub unwound_all : Frames → Written → Option Written
 unwound_all bottom a = Some a
-unwound_all (on d (bracket_frame slot) fs) a = None
-unwound_all (on d (arrow_frame b) fs) a = unwound_all fs (written_arrow b a)
-unwound_all (on d (product_frame v b) fs) a = unwound_all fs (written_product v b a)
-unwound_all (on d (annotated_frame v b) fs) a = unwound_all fs (written_annotated v b a)
+unwound_all (on d f fs) a = unwound_all_by (around f a) (λ t. unwound_all fs t)
 
 abbrev pub next_open : Bool → Frames → Slot → Option TermPart
 next_open true fs slot = Some (record { frames = pushed (bracket_frame slot) fs; slot = due at_front })

@@ -8,6 +8,8 @@ use Rattle.dk_parser.specs.declared.frames.Slot.{Slot}
 use Rattle.dk_parser.specs.declared.frames.Slot.TheVariants as slot
 use Rattle.dk_parser.specs.declared.frames.Frame.{Frame}
 use Rattle.dk_parser.specs.declared.frames.Frame.TheVariants as frame
+use Rattle.dk_parser.specs.declared.frames.Around.{Around}
+use Rattle.dk_parser.specs.declared.frames.Around.TheVariants as around
 use Rattle.dk_parser.specs.declared.frames.Frames.{Frames, On'}
 use Rattle.dk_parser.specs.declared.frames.Frames.TheVariants.{Bottom}
 use Rattle.dk_parser.specs.declared.term_part.TermPart.{TermPart}
@@ -36,6 +38,10 @@ plain_frame (frame.Bracket s) = plain.bracket_frame (plain_slot s)
 plain_frame (frame.Arrow a) = plain.arrow_frame (written a)
 plain_frame (frame.Product v a) = plain.product_frame v (written a)
 plain_frame (frame.Annotated v a) = plain.annotated_frame v (written a)
+
+abbrev pub plain_around : Around → plain.Around
+plain_around (around.Term a) = plain.around_term (written a)
+plain_around (around.Bracket s a) = plain.around_bracket (plain_slot s) (written a)
 
 abbrev pub plain_frames : Frames → plain.Frames
 plain_frames Bottom = plain.bottom

@@ -1,7 +1,7 @@
 //! What stands around the part of a term that is being read.
 ghost use Rattle.std.specs.Prelude.{◌≡◌, ◌+◌, IfOk, option_map};
-ghost use Rattle.dk_parser.specs.Parsing.{atoms, binder_term, depth, in_frames, pushed, slot_binder, slot_more, slot_term, takes_atom, unwound, unwound_all};
-ghost use Rattle.dk_parser.specs.Views.{plain_frame, plain_frames, plain_slot, plain_term};
+ghost use Rattle.dk_parser.specs.Parsing.{around, atoms, binder_term, depth, in_frames, pushed, slot_binder, slot_more, slot_term, takes_atom, unwound, unwound_all};
+ghost use Rattle.dk_parser.specs.Views.{plain_around, plain_frame, plain_frames, plain_slot, plain_term};
 ghost use Rattle.dk_parser.specs.Written.{maybe_written, written, written_annotated, written_apply, written_arrow, written_product};
 
 use crate::RawTerm;
@@ -42,6 +42,15 @@ pub enum Frame {
     Product(Option<Listed<u8>>, RawTerm),
     /// `x : A =>`.
     Annotated(Option<Listed<u8>>, RawTerm),
+}
+
+/// A term in its frame.
+#[derive(Drop)]
+pub enum Around {
+    /// A longer term.
+    Term(RawTerm),
+    /// A bracket, and the last term in it.
+    Bracket(Slot, RawTerm),
 }
 
 /// The frames, the innermost first, each with the number of frames from it on.
@@ -146,8 +155,9 @@ impl Slot {
                 Ok(Some(Slot::Applied(Place::Front, f, 2)))
             }
             Slot::Applied(place, f, n) => {
+                let n = next(n)?;
                 let f = apply(alloc, f, a)?;
-                Ok(Some(Slot::Applied(place, f, next(n)?)))
+                Ok(Some(Slot::Applied(place, f, n)))
             }
             Slot::Bracketed(_, _) => Ok(None),
         }
@@ -201,33 +211,50 @@ impl Frames {
     {
         match self {
             Frames::Bottom => Ok(None),
-            Frames::On(_, frame, rest) => {
-                let rest = Box::into_inner(rest);
-                match frame {
-                    Frame::Bracket(slot) => Ok(in_frames(rest, slot.more(alloc, a)?)),
-                    Frame::Arrow(b) => rest.unwind(alloc, arrow(alloc, b, a)?),
-                    Frame::Product(v, b) => rest.unwind(alloc, product(alloc, v, b, a)?),
-                    Frame::Annotated(v, b) => rest.unwind(alloc, annotated(alloc, v, b, a)?),
-                }
-            }
+            Frames::On(_, frame, rest) => match frame.around(alloc, a)? {
+                Around::Term(term) => Box::into_inner(rest).unwind(alloc, term),
+                Around::Bracket(slot, a) => close_bracket(alloc, Box::into_inner(rest), slot, a),
+            },
         }
     }
 
-    /// The whole term behind its last part, where no bracket is open.
+    /// The whole term behind its last part, where no bracket is open. Recurses once for each arrow.
     pub fn unwind_all(self, alloc: Global, a: RawTerm) -> Result<Option<RawTerm>, NoMemory>
         ensures { IfOk result (λ term. maybe_written term ≡ unwound_all (plain_frames self) (written a)) }
     {
         match self {
             Frames::Bottom => Ok(Some(a)),
-            Frames::On(_, frame, rest) => {
-                let rest = Box::into_inner(rest);
-                match frame {
-                    Frame::Bracket(_) => Ok(None),
-                    Frame::Arrow(b) => rest.unwind_all(alloc, arrow(alloc, b, a)?),
-                    Frame::Product(v, b) => rest.unwind_all(alloc, product(alloc, v, b, a)?),
-                    Frame::Annotated(v, b) => rest.unwind_all(alloc, annotated(alloc, v, b, a)?),
-                }
-            }
+            Frames::On(_, frame, rest) => match frame.around(alloc, a)? {
+                Around::Term(term) => Box::into_inner(rest).unwind_all(alloc, term),
+                Around::Bracket(_, _) => Ok(None),
+            },
+        }
+    }
+}
+
+fn close_bracket(
+    alloc: Global,
+    frames: Frames,
+    slot: Slot,
+    a: RawTerm,
+) -> Result<Option<TermPart>, NoMemory>
+    ensures { IfOk result (λ part. option_map plain_term part
+        ≡ in_frames (plain_frames frames) (slot_more (plain_slot slot) (written a))) }
+{
+    let slot = slot.more(alloc, a)?;
+    Ok(in_frames(frames, slot))
+}
+
+impl Frame {
+    // A term in this frame.
+    fn around(self, alloc: Global, a: RawTerm) -> Result<Around, NoMemory>
+        ensures { IfOk result (λ around_it. plain_around around_it ≡ around (plain_frame self) (written a)) }
+    {
+        match self {
+            Frame::Bracket(slot) => Ok(Around::Bracket(slot, a)),
+            Frame::Arrow(b) => Ok(Around::Term(arrow(alloc, b, a)?)),
+            Frame::Product(v, b) => Ok(Around::Term(product(alloc, v, b, a)?)),
+            Frame::Annotated(v, b) => Ok(Around::Term(annotated(alloc, v, b, a)?)),
         }
     }
 }

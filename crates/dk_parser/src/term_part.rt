@@ -103,11 +103,12 @@ fn close(alloc: Global, frames: Frames, slot: Slot) -> Result<Option<TermPart>, 
         ≡ next_close (plain_frames frames) (plain_slot slot)) }
 {
     match slot {
-        Slot::Applied(Place::Domain(binder), a, _) => Ok(close_domain(frames, binder, a)),
-        slot => match slot.term() {
-            Some(a) => frames.unwind(alloc, a),
-            None => Ok(None),
+        Slot::Applied(place, a, _) => match place {
+            Place::Domain(binder) => Ok(close_domain(frames, binder, a)),
+            Place::Front => frames.unwind(alloc, a),
         },
+        Slot::Bindable(binder) => frames.unwind(alloc, binder_term(binder)),
+        _ => Ok(None),
     }
 }
 
@@ -142,8 +143,10 @@ fn arrow(alloc: Global, frames: Frames, slot: Slot) -> Result<Option<TermPart>, 
 {
     match slot {
         Slot::Bindable(binder) => framed(alloc, Frame::Arrow(binder_term(binder)), frames),
-        Slot::Applied(Place::Front, a, _) => framed(alloc, Frame::Arrow(a), frames),
-        Slot::Applied(Place::Domain(binder), a, _) => framed(alloc, Frame::Product(binder, a), frames),
+        Slot::Applied(place, a, _) => match place {
+            Place::Front => framed(alloc, Frame::Arrow(a), frames),
+            Place::Domain(binder) => framed(alloc, Frame::Product(binder, a), frames),
+        },
         Slot::Bracketed(binder, a) => framed(alloc, Frame::Product(binder, a), frames),
         Slot::Due(_) => Ok(None),
     }
@@ -154,7 +157,10 @@ fn double_arrow(alloc: Global, frames: Frames, slot: Slot) -> Result<Option<Term
         ≡ next_double_arrow (plain_frames frames) (plain_slot slot)) }
 {
     match slot {
-        Slot::Applied(Place::Domain(binder), a, _) => framed(alloc, Frame::Annotated(binder, a), frames),
+        Slot::Applied(place, a, _) => match place {
+            Place::Domain(binder) => framed(alloc, Frame::Annotated(binder, a), frames),
+            Place::Front => Ok(None),
+        },
         _ => Ok(None),
     }
 }
