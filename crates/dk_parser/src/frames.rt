@@ -1,7 +1,8 @@
 //! What stands around the part of a term that is being read.
-ghost use Rattle.std.specs.Prelude.{◌≡◌, ◌+◌, IfOk, option_map};
+ghost use Rattle.std.specs.Prelude.{◌≡◌, ◌+◌, IfOk, Some, option_map};
 ghost use Rattle.dk_parser.specs.Parsing.{around, atoms, binder_term, depth, in_frames, pushed, slot_binder, slot_more, slot_term, takes_atom, unwound, unwound_all};
-ghost use Rattle.dk_parser.specs.Views.{plain_around, plain_frame, plain_frames, plain_slot, plain_term};
+ghost use Rattle.dk_parser.specs.Parsing as plain;
+ghost use Rattle.dk_parser.specs.Views.{plain_place, plain_around, plain_frame, plain_frames, plain_slot, plain_term};
 ghost use Rattle.dk_parser.specs.Written.{maybe_written, written, written_annotated, written_apply, written_arrow, written_product};
 
 use crate::RawTerm;
@@ -154,12 +155,13 @@ impl Slot {
                 let f = apply(alloc, binder_term(binder), a)?;
                 Ok(Some(Slot::Applied(Place::Front, f, 2)))
             }
-            Slot::Applied(place, f, n) => {
-                let n = next(n)?;
-                let f = apply(alloc, f, a)?;
-                Ok(Some(Slot::Applied(place, f, n)))
+            Slot::Applied(place, f, n) => applied(alloc, place, f, n, a),
+            Slot::Bracketed(binder, b) => {
+                drop(binder);
+                drop(b);
+                drop(a);
+                Ok(None)
             }
-            Slot::Bracketed(_, _) => Ok(None),
         }
     }
 
@@ -179,8 +181,18 @@ impl Slot {
     {
         match self {
             Slot::Bindable(binder) => Some(binder_term(binder)),
-            Slot::Applied(Place::Front, a, _) => Some(a),
-            _ => None,
+            Slot::Applied(place, a, _) => match place {
+                Place::Front => Some(a),
+                Place::Domain(binder) => {
+                    drop(binder);
+                    drop(a);
+                    None
+                }
+            },
+            slot => {
+                drop(slot);
+                None
+            }
         }
     }
 }
@@ -210,10 +222,17 @@ impl Frames {
         ensures { IfOk result (λ part. option_map plain_term part ≡ unwound (plain_frames self) (written a)) }
     {
         match self {
-            Frames::Bottom => Ok(None),
-            Frames::On(_, frame, rest) => match frame.around(alloc, a)? {
-                Around::Term(term) => Box::into_inner(rest).unwind(alloc, term),
-                Around::Bracket(slot, a) => close_bracket(alloc, Box::into_inner(rest), slot, a),
+            Frames::Bottom => {
+                drop(a);
+                Ok(None)
+            }
+            Frames::On(_, frame, rest) => match frame.around(alloc, a) {
+                Ok(Around::Term(term)) => Box::into_inner(rest).unwind(alloc, term),
+                Ok(Around::Bracket(slot, a)) => atom_more(alloc, Box::into_inner(rest), slot, a),
+                Err(e) => {
+                    drop(rest);
+                    Err(e)
+                }
             },
         }
     }
@@ -224,15 +243,25 @@ impl Frames {
     {
         match self {
             Frames::Bottom => Ok(Some(a)),
-            Frames::On(_, frame, rest) => match frame.around(alloc, a)? {
-                Around::Term(term) => Box::into_inner(rest).unwind_all(alloc, term),
-                Around::Bracket(_, _) => Ok(None),
+            Frames::On(_, frame, rest) => match frame.around(alloc, a) {
+                Ok(Around::Term(term)) => Box::into_inner(rest).unwind_all(alloc, term),
+                Ok(Around::Bracket(slot, a)) => {
+                    drop(slot);
+                    drop(a);
+                    drop(rest);
+                    Ok(None)
+                }
+                Err(e) => {
+                    drop(rest);
+                    Err(e)
+                }
             },
         }
     }
 }
 
-fn close_bracket(
+/// An atom more in these frames.
+pub fn atom_more(
     alloc: Global,
     frames: Frames,
     slot: Slot,
@@ -241,8 +270,60 @@ fn close_bracket(
     ensures { IfOk result (λ part. option_map plain_term part
         ≡ in_frames (plain_frames frames) (slot_more (plain_slot slot) (written a))) }
 {
-    let slot = slot.more(alloc, a)?;
-    Ok(in_frames(frames, slot))
+    match slot.more(alloc, a) {
+        Ok(slot) => Ok(in_frames(frames, slot)),
+        Err(e) => {
+            drop(frames);
+            Err(e)
+        }
+    }
+}
+
+/// A name or a wildcard more in these frames.
+pub fn binder_more(
+    alloc: Global,
+    frames: Frames,
+    slot: Slot,
+    binder: Option<Listed<u8>>,
+) -> Result<Option<TermPart>, NoMemory>
+    ensures { IfOk result (λ part. option_map plain_term part
+        ≡ in_frames (plain_frames frames) (slot_binder (plain_slot slot) binder)) }
+{
+    match slot.binder(alloc, binder) {
+        Ok(slot) => Ok(in_frames(frames, slot)),
+        Err(e) => {
+            drop(frames);
+            Err(e)
+        }
+    }
+}
+
+// An application with one argument more.
+fn applied(
+    alloc: Global,
+    place: Place,
+    f: RawTerm,
+    n: u64,
+    a: RawTerm,
+) -> Result<Option<Slot>, NoMemory>
+    ensures { IfOk result (λ slot. option_map plain_slot slot
+        ≡ Some (plain.applied (plain_place place) (written_apply (written f) (written a)) (n + 1))) }
+{
+    match n.checked_add(1) {
+        Some(n) => match apply(alloc, f, a) {
+            Ok(f) => Ok(Some(Slot::Applied(place, f, n))),
+            Err(e) => {
+                drop(place);
+                Err(e)
+            }
+        },
+        None => {
+            drop(place);
+            drop(f);
+            drop(a);
+            Err(NoMemory)
+        }
+    }
 }
 
 impl Frame {
@@ -265,6 +346,9 @@ pub fn in_frames(frames: Frames, slot: Option<Slot>) -> Option<TermPart>
 {
     match slot {
         Some(slot) => Some(TermPart { frames, slot }),
-        None => None,
+        None => {
+            drop(frames);
+            None
+        }
     }
 }

@@ -55,7 +55,11 @@ impl Part {
             }
             (Part::InType(sort, name, part), x) => type_next(alloc, sort, name, part, x),
             (Part::InBody(name, typ, part), x) => body_next(alloc, name, typ, part, x),
-            _ => Ok(PartStep::Refuses),
+            (part, x) => {
+                drop(part);
+                drop(x);
+                Ok(PartStep::Refuses)
+            }
         }
     }
 }
@@ -101,24 +105,38 @@ fn body_next(
     ensures { IfOk result (λ step. plain_step step ≡ body_next name (written typ) (plain_term part) x) }
 {
     match x {
-        Terminal::Sign(Sign::Dot) => match part.done(alloc)? {
-            Some(body) => Ok(PartStep::Ends(declared(
+        Terminal::Sign(Sign::Dot) => match part.done(alloc) {
+            Ok(Some(body)) => Ok(PartStep::Ends(declared(
                 alloc,
                 SymSort::Theorem,
                 name,
                 typ,
                 Some(body),
             ))),
-            None => Ok(PartStep::Refuses),
+            Ok(None) => {
+                drop(typ);
+                Ok(PartStep::Refuses)
+            }
+            Err(e) => {
+                drop(typ);
+                Err(e)
+            }
         },
         x => {
             let argument = part.argument(&x);
-            match part.next(alloc, x)? {
-                Some(part) => Ok(PartStep::Goes(
+            match part.next(alloc, x) {
+                Ok(Some(part)) => Ok(PartStep::Goes(
                     part.frames.depth().max(argument),
                     Part::InBody(name, typ, part),
                 )),
-                None => Ok(PartStep::Refuses),
+                Ok(None) => {
+                    drop(typ);
+                    Ok(PartStep::Refuses)
+                }
+                Err(e) => {
+                    drop(typ);
+                    Err(e)
+                }
             }
         }
     }

@@ -5,7 +5,7 @@ ghost use Rattle.dk_parser.specs.Views.{plain_frame, plain_frames, plain_slot, p
 ghost use Rattle.dk_parser.specs.Written.{maybe_written, written};
 
 use crate::RawTerm;
-use crate::frames::{Frame, Frames, Place, Slot, binder_term, in_frames};
+use crate::frames::{Frame, Frames, Place, Slot, atom_more, binder_more, binder_term};
 use crate::terminal::Terminal;
 use dk_lexer::Sign;
 use dk_model::{Listed, NoMemory};
@@ -49,19 +49,23 @@ impl TermPart {
     {
         let TermPart { frames, slot } = self;
         match x {
-            Terminal::Name(n) => Ok(in_frames(frames, slot.binder(alloc, Some(n))?)),
-            Terminal::Wildcard => Ok(in_frames(frames, slot.binder(alloc, None)?)),
-            Terminal::Qualified(m, n) => Ok(in_frames(
-                frames,
-                slot.more(alloc, RawTerm::Qualified(m, n))?,
-            )),
-            Terminal::Star => Ok(in_frames(frames, slot.more(alloc, RawTerm::Star)?)),
+            Terminal::Name(n) => binder_more(alloc, frames, slot, Some(n)),
+            Terminal::Wildcard => binder_more(alloc, frames, slot, None),
+            Terminal::Qualified(m, n) => {
+                atom_more(alloc, frames, slot, RawTerm::Qualified(m, n))
+            }
+            Terminal::Star => atom_more(alloc, frames, slot, RawTerm::Star),
             Terminal::Sign(Sign::OpenBracket) => open(alloc, frames, slot),
             Terminal::Sign(Sign::CloseBracket) => close(alloc, frames, slot),
             Terminal::Sign(Sign::Colon) => Ok(colon(frames, slot)),
             Terminal::Sign(Sign::Arrow) => arrow(alloc, frames, slot),
             Terminal::Sign(Sign::DoubleArrow) => double_arrow(alloc, frames, slot),
-            _ => Ok(None),
+            x => {
+                drop(x);
+                drop(slot);
+                drop(frames);
+                Ok(None)
+            }
         }
     }
 
@@ -72,7 +76,10 @@ impl TermPart {
         let TermPart { frames, slot } = self;
         match slot.term() {
             Some(a) => frames.unwind_all(alloc, a),
-            None => Ok(None),
+            None => {
+                drop(frames);
+                Ok(None)
+            }
         }
     }
 }
@@ -94,6 +101,8 @@ fn open(alloc: Global, frames: Frames, slot: Slot) -> Result<Option<TermPart>, N
     if slot.takes_atom() {
         framed(alloc, Frame::Bracket(slot), frames)
     } else {
+        drop(slot);
+        drop(frames);
         Ok(None)
     }
 }
@@ -108,7 +117,11 @@ fn close(alloc: Global, frames: Frames, slot: Slot) -> Result<Option<TermPart>, 
             Place::Front => frames.unwind(alloc, a),
         },
         Slot::Bindable(binder) => frames.unwind(alloc, binder_term(binder)),
-        _ => Ok(None),
+        slot => {
+            drop(slot);
+            drop(frames);
+            Ok(None)
+        }
     }
 }
 
@@ -121,7 +134,12 @@ fn close_domain(frames: Frames, binder: Option<Listed<u8>>, a: RawTerm) -> Optio
             frames: Box::into_inner(rest),
             slot: Slot::Bracketed(binder, a),
         }),
-        _ => None,
+        frames => {
+            drop(frames);
+            drop(binder);
+            drop(a);
+            None
+        }
     }
 }
 
@@ -133,7 +151,11 @@ fn colon(frames: Frames, slot: Slot) -> Option<TermPart>
             frames,
             slot: Slot::Due(Place::Domain(binder)),
         }),
-        _ => None,
+        slot => {
+            drop(slot);
+            drop(frames);
+            None
+        }
     }
 }
 
@@ -148,7 +170,11 @@ fn arrow(alloc: Global, frames: Frames, slot: Slot) -> Result<Option<TermPart>, 
             Place::Domain(binder) => framed(alloc, Frame::Product(binder, a), frames),
         },
         Slot::Bracketed(binder, a) => framed(alloc, Frame::Product(binder, a), frames),
-        Slot::Due(_) => Ok(None),
+        Slot::Due(place) => {
+            drop(place);
+            drop(frames);
+            Ok(None)
+        }
     }
 }
 
@@ -159,8 +185,16 @@ fn double_arrow(alloc: Global, frames: Frames, slot: Slot) -> Result<Option<Term
     match slot {
         Slot::Applied(place, a, _) => match place {
             Place::Domain(binder) => framed(alloc, Frame::Annotated(binder, a), frames),
-            Place::Front => Ok(None),
+            Place::Front => {
+                drop(a);
+                drop(frames);
+                Ok(None)
+            }
         },
-        _ => Ok(None),
+        slot => {
+            drop(slot);
+            drop(frames);
+            Ok(None)
+        }
     }
 }
