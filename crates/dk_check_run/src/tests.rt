@@ -149,6 +149,7 @@ fn reports_each_file(rt: HostRuntime) -> Result<(), Fail> {
 // What fails under the words: the bytes of a read, the shelf's call that fails, the bytes of a write, the sink's call that
 // fails (0: none), the status and the bytes taken. The shelf's first call is the opening.
 struct Failure {
+    text: &'static str,
     words: [&'static str; 3],
     piece: usize,
     shelf_call: u64,
@@ -158,9 +159,13 @@ struct Failure {
     taken: &'static str,
 }
 
-// All over the text "a : Type.\nb : Type.\n".
-const FAILURES: [Failure; 14] = [
+const TWO: &str = "a : Type.\nb : Type.\n";
+
+const WRONG: &str = "a : Type. b : Type. x : a. thm t : b := x.\n";
+
+const FAILURES: [Failure; 15] = [
     Failure {
+        text: TWO,
         words: ["check", "--quiet", "f.dk"],
         piece: 7,
         shelf_call: 0,
@@ -170,6 +175,7 @@ const FAILURES: [Failure; 14] = [
         taken: "accepted 2\n",
     },
     Failure {
+        text: TWO,
         words: ["check", "--budget=1", "f.dk"],
         piece: 1,
         shelf_call: 0,
@@ -179,6 +185,7 @@ const FAILURES: [Failure; 14] = [
         taken: "ok 1 a\nok 2 b\naccepted 2\n",
     },
     Failure {
+        text: TWO,
         words: ["check", "--budget=0", "f.dk"],
         piece: 1,
         shelf_call: 0,
@@ -188,6 +195,7 @@ const FAILURES: [Failure; 14] = [
         taken: "usage: dk_check check [--budget B] [--quiet] FILE\n",
     },
     Failure {
+        text: TWO,
         words: ["check", "--quiet", "--help"],
         piece: 1,
         shelf_call: 0,
@@ -197,6 +205,7 @@ const FAILURES: [Failure; 14] = [
         taken: "usage: dk_check check [--budget B] [--quiet] FILE\n",
     },
     Failure {
+        text: TWO,
         words: ["check", "--quiet", "--quiet"],
         piece: 1,
         shelf_call: 0,
@@ -206,6 +215,7 @@ const FAILURES: [Failure; 14] = [
         taken: "",
     },
     Failure {
+        text: TWO,
         words: ["check", "--budget=9", "g.dk"],
         piece: 1,
         shelf_call: 0,
@@ -215,6 +225,7 @@ const FAILURES: [Failure; 14] = [
         taken: "unopened g.dk\n",
     },
     Failure {
+        text: TWO,
         words: ["check", "--budget=9", "g.dk"],
         piece: 1,
         shelf_call: 0,
@@ -224,6 +235,7 @@ const FAILURES: [Failure; 14] = [
         taken: "uno",
     },
     Failure {
+        text: TWO,
         words: ["check", "--budget=9", "f.dk"],
         piece: 1,
         shelf_call: 1,
@@ -233,6 +245,7 @@ const FAILURES: [Failure; 14] = [
         taken: "unopened f.dk\n",
     },
     Failure {
+        text: TWO,
         words: ["check", "--budget=9", "f.dk"],
         piece: 1,
         shelf_call: 11,
@@ -242,6 +255,7 @@ const FAILURES: [Failure; 14] = [
         taken: "unread 1\n",
     },
     Failure {
+        text: TWO,
         words: ["check", "--budget=9", "f.dk"],
         piece: 1,
         shelf_call: 12,
@@ -251,6 +265,7 @@ const FAILURES: [Failure; 14] = [
         taken: "ok 1 a\nunread 2\n",
     },
     Failure {
+        text: TWO,
         words: ["check", "--budget=9", "f.dk"],
         piece: 1,
         shelf_call: 22,
@@ -260,6 +275,7 @@ const FAILURES: [Failure; 14] = [
         taken: "ok 1 a\nok 2 b\nunread 3\n",
     },
     Failure {
+        text: TWO,
         words: ["check", "--budget=9", "f.dk"],
         piece: 1,
         shelf_call: 23,
@@ -269,6 +285,7 @@ const FAILURES: [Failure; 14] = [
         taken: "ok 1 a\nok 2 b\naccepted 2\n",
     },
     Failure {
+        text: TWO,
         words: ["check", "--budget=9", "f.dk"],
         piece: 4096,
         shelf_call: 3,
@@ -278,6 +295,7 @@ const FAILURES: [Failure; 14] = [
         taken: "ok 1 a\nok 2 b\nunread 3\n",
     },
     Failure {
+        text: TWO,
         words: ["check", "--budget=9", "f.dk"],
         piece: 4096,
         shelf_call: 0,
@@ -285,6 +303,16 @@ const FAILURES: [Failure; 14] = [
         sink_call: 6,
         status: 5,
         taken: "ok 1 ",
+    },
+    Failure {
+        text: WRONG,
+        words: ["check", "--budget=9", "f.dk"],
+        piece: 4096,
+        shelf_call: 3,
+        sink_piece: 99,
+        sink_call: 0,
+        status: 1,
+        taken: "ok 1 a\nok 2 b\nok 3 x\nrefused 4 line 1 E21\n",
     },
 ];
 
@@ -296,12 +324,7 @@ fn answers_each_failure(rt: HostRuntime) -> Result<(), Fail> {
             return Ok(());
         }
         let words = words_of(alloc, &row.words)?;
-        let mut shelf = shelf_of(
-            alloc,
-            "a : Type.\nb : Type.\n",
-            row.piece,
-            &[row.shelf_call],
-        )?;
+        let mut shelf = shelf_of(alloc, row.text, row.piece, &[row.shelf_call])?;
         let mut failing = Vec::new(alloc);
         failing.push(row.sink_call)?;
         let mut sink = MemSink::new(alloc, 1000, row.sink_piece, failing)?;

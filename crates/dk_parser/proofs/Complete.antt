@@ -159,7 +159,7 @@ module _ (wrap : TermPart → Part) (steps : Steps wrap) where
             ∙ ap (run (wrap (at (pushed (bracket_frame s) fs) (due at_front)))) (append_assoc xs (close_bracket ∷ []) rest)
             ∙ inside.runs
             ∙ stepped (at inside.frames inside.slot) (at fs t.0) close_bracket rest
-                (close_term inside.frames inside.slot inside.last inside.ends_in ∙ inside.closes ∙ ap (in_frames fs) t.1);
+            (close_term inside.frames inside.slot inside.last inside.ends_in ∙ inside.closes ∙ ap (in_frames fs) t.1);
         kind = inl t.1;
       }
 
@@ -205,11 +205,13 @@ module _ (wrap : TermPart → Part) (steps : Steps wrap) where
       (n : ℕ) × (run (wrap (at fs (due at_front))) (x ∷ colon ∷ (xs ++ rest)) ≡ run (wrap (at fs (applied (domain v) a n))) rest)
   domain_runs x v xs a b h fs rest =
       let r = h fs (domain v) rest in
-      let d = behind_domain v a r.slot r.kind in
-      (d.0, stepped (at fs (due at_front)) (at fs (bindable v)) x (colon ∷ (xs ++ rest)) (binder_next fs x v b)
-          ∙ stepped (at fs (bindable v)) (at fs (due (domain v))) colon (xs ++ rest) refl
-          ∙ r.runs
-          ∙ ap (λ s. run (wrap (at fs s)) rest) d.1)
+      let d = behind_domain v a r.slot r.kind in (
+        d.0,
+        stepped (at fs (due at_front)) (at fs (bindable v)) x (colon ∷ (xs ++ rest)) (binder_next fs x v b)
+            ∙ stepped (at fs (bindable v)) (at fs (due (domain v))) colon (xs ++ rest) refl
+            ∙ r.runs
+            ∙ ap (λ s. run (wrap (at fs s)) rest) d.1,
+      )
 
   product_runs : (x : Terminal) (v : Option (List ℕ)) (xs ys : List Terminal) (a b : Written) → SpellsBinder x v → ApplicationRuns xs a → TermRuns ys b → TermRuns (x ∷ colon ∷ (xs ++ arrow ∷ ys)) (written_product v a b)
   product_runs x v xs ys a b s h k fs rest =

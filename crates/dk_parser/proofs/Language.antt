@@ -133,8 +133,8 @@ bracketed_frames : (x : Terminal) (v : Option (List ℕ)) (ws us : List Terminal
 bracketed_frames x v ws us a e h k zs b t =
     subst (λ ts. SpellsTerm ((ts ++ arrow ∷ []) ++ zs) (written_product v a b)) (sym e)
     (subst (λ ts. SpellsTerm (open_bracket ∷ x ∷ colon ∷ ts) (written_product v a b))
-        (sym (append_assoc (us ++ close_bracket ∷ []) (arrow ∷ []) zs ∙ append_assoc us (close_bracket ∷ []) (arrow ∷ zs)))
-        (spells_bracketed_product h k t))
+    (sym (append_assoc (us ++ close_bracket ∷ []) (arrow ∷ []) zs ∙ append_assoc us (close_bracket ∷ []) (arrow ∷ zs)))
+    (spells_bracketed_product h k t))
 
 -- a bracket closes behind a term
 bracket_spelt : (us ws zs xs : List Terminal) → xs ≡ (us ++ (ws ++ open_bracket ∷ [])) ++ zs → xs ++ close_bracket ∷ [] ≡ us ++ (ws ++ (open_bracket ∷ (zs ++ close_bracket ∷ [])))

@@ -145,14 +145,14 @@ begun_by (reached_theorem_type {n} {ys} {p} h) =
     let t = term_begun ys p h in
     due_more (terminal.Thm ∷ terminal.Name n ∷ colon ∷ ys) (t.0 ++ defined ∷ terminal.Star ∷ []) dot _
     (subst (λ zs. SpellsForm (terminal.Thm ∷ terminal.Name n ∷ colon ∷ zs) (written_declare Theorem n [] (Some t.1) (Some written_star)))
-        (append_assoc ys t.0 (defined ∷ terminal.Star ∷ dot ∷ []) ∙ ap (λ zs. ys ++ zs) (sym (append_assoc t.0 (defined ∷ terminal.Star ∷ []) (dot ∷ []))))
-        (spells_theorem t.2 a_term))
+    (append_assoc ys t.0 (defined ∷ terminal.Star ∷ dot ∷ []) ∙ ap (λ zs. ys ++ zs) (sym (append_assoc t.0 (defined ∷ terminal.Star ∷ []) (dot ∷ []))))
+    (spells_theorem t.2 a_term))
 begun_by (reached_body {n} {ts} {ys} {a} {p} k h) =
     let t = term_begun ys p h in
     due_more (terminal.Thm ∷ terminal.Name n ∷ colon ∷ (ts ++ defined ∷ ys)) t.0 dot _
     (subst (λ zs. SpellsForm (terminal.Thm ∷ terminal.Name n ∷ colon ∷ zs) (written_declare Theorem n [] (Some a) (Some t.1)))
-        (ap (λ zs. ts ++ defined ∷ zs) (append_assoc ys t.0 (dot ∷ [])) ∙ sym (append_assoc ts (defined ∷ ys) (t.0 ++ dot ∷ [])))
-        (spells_theorem k t.2))
+    (ap (λ zs. ts ++ defined ∷ zs) (append_assoc ys t.0 (dot ∷ [])) ∙ sym (append_assoc ts (defined ∷ ys) (t.0 ++ dot ∷ [])))
+    (spells_theorem k t.2))
 
 -- terminals that lead to a part begin a command
 pub begins : (xs : List Terminal) (p : Part) → run command_due xs ≡ going p → IsBegun xs
