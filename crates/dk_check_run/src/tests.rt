@@ -4,7 +4,7 @@ use std::alloc::Global;
 use std::test::Fail;
 
 // A file's text, the status and the report, under the words `check f.dk`.
-const FILES: [(&str, u8, &str); 30] = [
+const FILES: [(&str, u8, &str); 39] = [
     ("", 0, "accepted 0\n"),
     ("nat : Type.", 0, "ok 1 nat\naccepted 1\n"),
     (
@@ -72,6 +72,43 @@ const FILES: [(&str, u8, &str); 30] = [
         1,
         "ok 1 a\nok 2 t\nok 3 x\nrefused 4 line 1 E21\n",
     ),
+    (
+        "nat : Type. z : nat. s : nat -> nat. thm t : nat := s (s z).",
+        0,
+        "ok 1 nat\nok 2 z\nok 3 s\nok 4 t\naccepted 4\n",
+    ),
+    (
+        "a : Type. f : x : a -> a. g : (x : a) -> a. x : a. thm t : a := f (g x).",
+        0,
+        "ok 1 a\nok 2 f\nok 3 g\nok 4 x\nok 5 t\naccepted 5\n",
+    ),
+    (
+        "a : Type. x : a. thm t : a := (y : a => y) x.",
+        0,
+        "ok 1 a\nok 2 x\nok 3 t\naccepted 3\n",
+    ),
+    (
+        "nat : Type. z : nat. thm t : nat := z z.",
+        1,
+        "ok 1 nat\nok 2 z\nrefused 3 line 1 E20\n",
+    ),
+    (
+        "a : Type. P : a -> Type. x : a. y : a. p : P x. thm t : P y := p.",
+        1,
+        "ok 1 a\nok 2 P\nok 3 x\nok 4 y\nok 5 p\nrefused 6 line 1 E21\n",
+    ),
+    (
+        "nat : Type. thm t : nat := x : nat => x.",
+        1,
+        "ok 1 nat\nrefused 2 line 1 E24\n",
+    ),
+    (
+        "nat : Type. z : nat. thm t : nat := (x : nat => Type) z.",
+        1,
+        "ok 1 nat\nok 2 z\nrefused 3 line 1 E25\n",
+    ),
+    ("x : Type Type.", 1, "refused 1 line 1 E20\n"),
+    ("x : Type -> Type.", 1, "refused 1 line 1 E22\n"),
 ];
 
 fn shelf_of(alloc: Global, text: &str, piece: usize, failing: &[u64]) -> Result<MemShelf, Fail>
@@ -105,6 +142,195 @@ fn reports_each_file(rt: HostRuntime) -> Result<(), Fail> {
         let got = run(alloc, words.as_slice(), &mut shelf, &mut sink);
         assert_eq!(rt; sink.bytes(), report.as_bytes());
         assert_eq!(rt; got, *status);
+    }
+    Ok(())
+}
+
+// What fails under the words: the bytes of a read, the shelf's call that fails, the bytes of a write, the sink's call that
+// fails (0: none), the status and the bytes taken. The shelf's first call is the opening.
+struct Failure {
+    text: &'static str,
+    words: [&'static str; 3],
+    piece: usize,
+    shelf_call: u64,
+    sink_piece: usize,
+    sink_call: u64,
+    status: u8,
+    taken: &'static str,
+}
+
+const TWO: &str = "a : Type.\nb : Type.\n";
+
+const WRONG: &str = "a : Type. b : Type. x : a. thm t : b := x.\n";
+
+const FAILURES: [Failure; 15] = [
+    Failure {
+        text: TWO,
+        words: ["check", "--quiet", "f.dk"],
+        piece: 7,
+        shelf_call: 0,
+        sink_piece: 9,
+        sink_call: 0,
+        status: 0,
+        taken: "accepted 2\n",
+    },
+    Failure {
+        text: TWO,
+        words: ["check", "--budget=1", "f.dk"],
+        piece: 1,
+        shelf_call: 0,
+        sink_piece: 1,
+        sink_call: 0,
+        status: 0,
+        taken: "ok 1 a\nok 2 b\naccepted 2\n",
+    },
+    Failure {
+        text: TWO,
+        words: ["check", "--budget=0", "f.dk"],
+        piece: 1,
+        shelf_call: 0,
+        sink_piece: 99,
+        sink_call: 0,
+        status: 2,
+        taken: "usage: dk_check check [--budget B] [--quiet] FILE\n",
+    },
+    Failure {
+        text: TWO,
+        words: ["check", "--quiet", "--help"],
+        piece: 1,
+        shelf_call: 0,
+        sink_piece: 99,
+        sink_call: 0,
+        status: 2,
+        taken: "usage: dk_check check [--budget B] [--quiet] FILE\n",
+    },
+    Failure {
+        text: TWO,
+        words: ["check", "--quiet", "--quiet"],
+        piece: 1,
+        shelf_call: 0,
+        sink_piece: 99,
+        sink_call: 1,
+        status: 5,
+        taken: "",
+    },
+    Failure {
+        text: TWO,
+        words: ["check", "--budget=9", "g.dk"],
+        piece: 1,
+        shelf_call: 0,
+        sink_piece: 3,
+        sink_call: 0,
+        status: 3,
+        taken: "unopened g.dk\n",
+    },
+    Failure {
+        text: TWO,
+        words: ["check", "--budget=9", "g.dk"],
+        piece: 1,
+        shelf_call: 0,
+        sink_piece: 3,
+        sink_call: 2,
+        status: 5,
+        taken: "uno",
+    },
+    Failure {
+        text: TWO,
+        words: ["check", "--budget=9", "f.dk"],
+        piece: 1,
+        shelf_call: 1,
+        sink_piece: 99,
+        sink_call: 0,
+        status: 3,
+        taken: "unopened f.dk\n",
+    },
+    Failure {
+        text: TWO,
+        words: ["check", "--budget=9", "f.dk"],
+        piece: 1,
+        shelf_call: 11,
+        sink_piece: 99,
+        sink_call: 0,
+        status: 3,
+        taken: "unread 1\n",
+    },
+    Failure {
+        text: TWO,
+        words: ["check", "--budget=9", "f.dk"],
+        piece: 1,
+        shelf_call: 12,
+        sink_piece: 99,
+        sink_call: 0,
+        status: 3,
+        taken: "ok 1 a\nunread 2\n",
+    },
+    Failure {
+        text: TWO,
+        words: ["check", "--budget=9", "f.dk"],
+        piece: 1,
+        shelf_call: 22,
+        sink_piece: 99,
+        sink_call: 0,
+        status: 3,
+        taken: "ok 1 a\nok 2 b\nunread 3\n",
+    },
+    Failure {
+        text: TWO,
+        words: ["check", "--budget=9", "f.dk"],
+        piece: 1,
+        shelf_call: 23,
+        sink_piece: 99,
+        sink_call: 0,
+        status: 0,
+        taken: "ok 1 a\nok 2 b\naccepted 2\n",
+    },
+    Failure {
+        text: TWO,
+        words: ["check", "--budget=9", "f.dk"],
+        piece: 4096,
+        shelf_call: 3,
+        sink_piece: 99,
+        sink_call: 0,
+        status: 3,
+        taken: "ok 1 a\nok 2 b\nunread 3\n",
+    },
+    Failure {
+        text: TWO,
+        words: ["check", "--budget=9", "f.dk"],
+        piece: 4096,
+        shelf_call: 0,
+        sink_piece: 1,
+        sink_call: 6,
+        status: 5,
+        taken: "ok 1 ",
+    },
+    Failure {
+        text: WRONG,
+        words: ["check", "--budget=9", "f.dk"],
+        piece: 4096,
+        shelf_call: 3,
+        sink_piece: 99,
+        sink_call: 0,
+        status: 1,
+        taken: "ok 1 a\nok 2 b\nok 3 x\nrefused 4 line 1 E21\n",
+    },
+];
+
+#[test]
+fn answers_each_failure(rt: HostRuntime) -> Result<(), Fail> {
+    let alloc = rt.alloc();
+    for row in &FAILURES {
+        if row.piece == 0 || row.sink_piece == 0 {
+            return Ok(());
+        }
+        let words = words_of(alloc, &row.words)?;
+        let mut shelf = shelf_of(alloc, row.text, row.piece, &[row.shelf_call])?;
+        let mut failing = Vec::new(alloc);
+        failing.push(row.sink_call)?;
+        let mut sink = MemSink::new(alloc, 1000, row.sink_piece, failing)?;
+        let status = run(alloc, words.as_slice(), &mut shelf, &mut sink);
+        assert_eq!(rt; sink.bytes(), row.taken.as_bytes());
+        assert_eq!(rt; status, row.status);
     }
     Ok(())
 }

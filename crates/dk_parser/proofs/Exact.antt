@@ -11,13 +11,13 @@ use Rattle.dk_parser.specs.declared.terminal.Terminal.TheVariants as terminal
 use Rattle.dk_parser.specs.Terminals.{terminal_of}
 use Rattle.dk_parser.specs.Written.{WrittenForm, WrittenCommand}
 use Rattle.dk_parser.specs.Grammar.{SpellsForm, terminals, first_line, Spells, Begins}
-use Rattle.dk_parser.specs.Levels.{level, IsWithin}
-use Rattle.dk_parser.specs.Parsing.{Part, command_due, PartStep, goes, ends, refuses, part_next, part_level, Parsing, started, more, refused, Turn, turn, turn_refused, turn_by_step, turn_by_terminal, turn_by_fault, parsing_from, answered, commands_from}
+use Rattle.dk_parser.specs.Levels.{load, IsWithin}
+use Rattle.dk_parser.specs.Parsing.{Part, command_due, PartStep, goes, ends, refuses, part_next, Parsing, started, more, refused, Turn, turn, turn_refused, turn_by_step, turn_by_terminal, turn_by_fault, parsing_from, answered, commands_from}
 use Rattle.dk_parser.specs.Reading.{IsFault, IsFront, TokenReading, with_command, Reads, reads_nothing, reads_front, reads_fault, reads_command, fault_of, read_tokens, Extends}
 use Rattle.dk_parser.proofs.Machine.{going, ended, stuck, run_by, run, run_next, run_goes, front_goes}
-use Rattle.dk_parser.proofs.Language.{complete}
+use Rattle.dk_parser.proofs.Complete.{complete}
 use Rattle.dk_parser.proofs.Reached.{sound, begins}
-use Rattle.dk_parser.proofs.Leveled.{leveled, end_level, profile_refused}
+use Rattle.dk_parser.proofs.Leveled.{loaded, end_load, profile_refused}
 use Rattle.dk_parser.proofs.Turns.{reading_at}
 
 -- Lists
@@ -34,34 +34,37 @@ none_left : (ts : List Token) → terminals ts ≡ [] → ts ≡ []
 none_left [] e = refl
 none_left (t ∷ ts) e = cc
 
-no_more : (front rest : List Terminal) (f : Terminal) → f ∷ (front ++ rest) ≡ [] → ⊥
-no_more front rest f e = cc
+no_append : (xs ys : List Terminal) (y : Terminal) → xs ++ y ∷ ys ≡ [] → ⊥
+no_append [] ys y e = cc
+no_append (x ∷ xs) ys y e = cc
 
--- a front of a list with one terminal more is the whole list, or a front of the list without it
-front_of : (xs front rest : List Terminal) (x : Terminal) → xs ++ x ∷ [] ≡ front ++ rest → (front ≡ xs ++ x ∷ []) ⊎ ((zs : List Terminal) × (xs ≡ front ++ zs))
-front_of [] [] rest x e = inr ([], refl)
-front_of [] (f ∷ []) rest x e = inl cc
-front_of [] (f ∷ g ∷ front) rest x e =
-    let tail : g ∷ (front ++ rest) ≡ [] = cc in
-    absurd (no_more front rest g tail)
-front_of (y ∷ xs) [] rest x e = inr (y ∷ xs, refl)
-front_of (y ∷ xs) (f ∷ front) rest x e =
-    let head : f ≡ y = cc in
-    let tail : xs ++ x ∷ [] ≡ front ++ rest = cc in
-    elim (front_of xs front rest x tail) [ inl h ↦ inl cc | inr h ↦ inr (h.0, cc (h.1)) ]
+-- a terminal of a list with one terminal more is the last one, or one of the list without it
+last_split : (xs front rest : List Terminal) (x y : Terminal) → xs ++ x ∷ [] ≡ front ++ y ∷ rest → ((front ≡ xs) × (y ≡ x)) ⊎ ((zs : List Terminal) × (xs ≡ front ++ y ∷ zs))
+last_split [] [] rest x y e =
+    let same : y ≡ x = cc in
+    inl (refl, same)
+last_split [] (f ∷ front) rest x y e =
+    let tail : front ++ y ∷ rest ≡ [] = cc in
+    absurd (no_append front rest y tail)
+last_split (z ∷ xs) [] rest x y e =
+    let head : z ≡ y = cc in
+    inr (xs, ap (λ w. w ∷ xs) head)
+last_split (z ∷ xs) (f ∷ front) rest x y e =
+    let head : z ≡ f = cc in
+    let tail : xs ++ x ∷ [] ≡ front ++ y ∷ rest = cc in
+    elim (last_split xs front rest x y tail) [ inl h ↦ inl (cc (head, h.0), h.1) | inr h ↦ inr (h.0, cc (head, h.1)) ]
 
-within_more : (limit : ℕ) (xs : List Terminal) (x : Terminal) → IsWithin limit xs → level (xs ++ x ∷ []) ≤ limit → IsWithin limit (xs ++ x ∷ [])
-within_more limit xs x h k front rest e = elim (front_of xs front rest x e) [ inl f ↦ subst (λ ys. level ys ≤ limit) (sym f) k | inr f ↦ h front f.0 f.1 ]
+within_last : (limit : ℕ) (xs front : List Terminal) (x y : Terminal) → front ≡ xs → y ≡ x → load xs x ≤ limit → load front y ≤ limit
+within_last limit xs front x y e f h = subst (λ zs. load zs y ≤ limit) (sym e) (subst (λ z. load xs z ≤ limit) (sym f) h)
+
+within_more : (limit : ℕ) (xs : List Terminal) (x : Terminal) → IsWithin limit xs → load xs x ≤ limit → IsWithin limit (xs ++ x ∷ [])
+within_more limit xs x h k front rest y e = elim (last_split xs front rest x y e) [ inl f ↦ within_last limit xs front x y f.0 f.1 k | inr f ↦ h front f.0 y f.1 ]
 
 within_front : (limit : ℕ) (xs ys : List Terminal) → IsWithin limit (xs ++ ys) → IsWithin limit xs
-within_front limit xs ys h front rest e = h front (rest ++ ys) (ap (λ zs. zs ++ ys) e ∙ append_assoc front rest ys)
-
-within_all : (limit : ℕ) (xs : List Terminal) → IsWithin limit xs → level xs ≤ limit
-within_all limit xs h = h xs [] (sym (append_nil xs))
+within_front limit xs ys h front rest x e = h front (rest ++ ys) x (ap (λ zs. zs ++ ys) e ∙ append_assoc front (x ∷ rest) ys)
 
 within_nothing : (limit : ℕ) → IsWithin limit []
-within_nothing limit [] rest e = grind (arith)
-within_nothing limit (f ∷ front) rest e = absurd (no_more front rest f (sym e))
+within_nothing limit front rest x e = absurd (no_append front rest x (sym e))
 
 -- Turns
 
@@ -144,17 +147,17 @@ module _ (limits : Limits) where
   abbrev turn_on : Parsing → ℕ → Part → Bool → Turn
   turn_on s line q b = if b then turn_refused s line E04 else record { state = record s { begun = Some line; part = q }; answer = more }
 
-  too_deep_read : (front : List Token) (p : Part) (t : Token) (ts : List Token) (q : Part) → (terminal_of t ≡ terminal.Profile → ⊥) → part_next p (terminal_of t) ≡ goes q → nat_lt limits.levels (part_level q) ≡ true →
+  too_deep_read : (front : List Token) (p : Part) (t : Token) (ts : List Token) (made : ℕ) (q : Part) → (terminal_of t ≡ terminal.Profile → ⊥) → part_next p (terminal_of t) ≡ goes made q → nat_lt limits.levels made ≡ true →
       read_from (state_at limits (first_begun front) p) (t ∷ ts) ≡ fault_reading (first_line (front ++ t ∷ [])) E04
-  too_deep_read front p t ts q h e b =
+  too_deep_read front p t ts made q h e b =
       read_refused (state_at limits (first_begun front) p) t ts (first_line (front ++ t ∷ [])) E04
-      (turn_at front p t (goes q) h e ∙ ap (turn_on (state_at limits (first_begun front) p) (first_line (front ++ t ∷ [])) q) b)
+      (turn_at front p t (goes made q) h e ∙ ap (turn_on (state_at limits (first_begun front) p) (first_line (front ++ t ∷ [])) q) b)
 
-  goes_read : (front : List Token) (p : Part) (t : Token) (ts : List Token) (q : Part) → (terminal_of t ≡ terminal.Profile → ⊥) → part_next p (terminal_of t) ≡ goes q → nat_lt limits.levels (part_level q) ≡ false →
+  goes_read : (front : List Token) (p : Part) (t : Token) (ts : List Token) (made : ℕ) (q : Part) → (terminal_of t ≡ terminal.Profile → ⊥) → part_next p (terminal_of t) ≡ goes made q → nat_lt limits.levels made ≡ false →
       read_from (state_at limits (first_begun front) p) (t ∷ ts) ≡ read_from (state_at limits (first_begun (front ++ t ∷ [])) q) ts
-  goes_read front p t ts q h e b =
+  goes_read front p t ts made q h e b =
       read_by (state_at limits (first_begun front) p) t ts (turn_on (state_at limits (first_begun front) p) (first_line (front ++ t ∷ [])) q false)
-      (turn_at front p t (goes q) h e ∙ ap (turn_on (state_at limits (first_begun front) p) (first_line (front ++ t ∷ [])) q) b)
+      (turn_at front p t (goes made q) h e ∙ ap (turn_on (state_at limits (first_begun front) p) (first_line (front ++ t ∷ [])) q) b)
       ∙ ap (λ (begun : Option ℕ). read_from (state_at limits begun q) ts) (ap (λ line. Some line) (sym (line_of front t)) ∙ sym (begun_more front t []))
 
   ends_read : (front : List Token) (p : Part) (t : Token) (ts : List Token) (form : WrittenForm) → (terminal_of t ≡ terminal.Profile → ⊥) → part_next p (terminal_of t) ≡ ends form →
@@ -162,8 +165,8 @@ module _ (limits : Limits) where
   ends_read front p t ts form h e =
       read_by (state_at limits (first_begun front) p) t ts (turn_by_step (state_at limits (first_begun front) p) (first_line (front ++ t ∷ [])) (ends form)) (turn_at front p t (ends form) h e)
 
-not_profile_goes : (p q : Part) (x : Terminal) → part_next p x ≡ goes q → x ≡ terminal.Profile → ⊥
-not_profile_goes p q x e is =
+not_profile_goes : (p q : Part) (made : ℕ) (x : Terminal) → part_next p x ≡ goes made q → x ≡ terminal.Profile → ⊥
+not_profile_goes p q made x e is =
     let r : part_next p x ≡ refuses = ap (part_next p) is ∙ profile_refused p in
     cc
 
@@ -177,6 +180,12 @@ below limit n e = grind (arith, nat_tests)
 
 within : (limit n : ℕ) → nat_lt limit n ≡ false → n ≤ limit
 within limit n e = grind (arith, nat_tests)
+
+nothing_within : (limit : ℕ) → 0 ≤ limit
+nothing_within limit = omega arith
+
+none_below : (limit : ℕ) → limit < 0 → ⊥
+none_below limit h = omega arith
 
 within_test : (limit n : ℕ) → n ≤ limit → nat_lt limit n ≡ false
 within_test limit n h = grind (arith, nat_tests)
@@ -192,9 +201,9 @@ refused_begins xs p x is e (rest, form, h) =
     cc
 
 -- what a part takes begins one
-goes_begins : (xs : List Terminal) (p q : Part) (x : Terminal) → run command_due xs ≡ going p → part_next p x ≡ goes q → Begins (xs ++ x ∷ [])
-goes_begins xs p q x is e =
-    let b = begins (xs ++ x ∷ []) q (run_goes command_due p q xs x is e) in
+goes_begins : (xs : List Terminal) (p q : Part) (made : ℕ) (x : Terminal) → run command_due xs ≡ going p → part_next p x ≡ goes made q → Begins (xs ++ x ∷ [])
+goes_begins xs p q made x is e =
+    let b = begins (xs ++ x ∷ []) q (run_goes command_due p q made xs x is e) in
     (b.0 ∷ b.1, b.2, b.3)
 
 ends_begins : (xs : List Terminal) (p : Part) (x : Terminal) (form : WrittenForm) → run command_due xs ≡ going p → part_next p x ≡ ends form → Begins (xs ++ x ∷ [])
@@ -208,40 +217,36 @@ module _ (limits : Limits) where
   front_ok : (front : List Token) (p : Part) → run command_due (terminals front) ≡ going p → IsWithin limits.levels (terminals front) → IsFront limits front
   front_ok front p is w = record { begun = begins (terminals front) p is; within = w }
 
-  -- the level of a token behind a front
-  level_at : (front : List Token) (p q : Part) (t : Token) → run command_due (terminals front) ≡ going p → part_next p (terminal_of t) ≡ goes q → level (terminals front ++ terminal_of t ∷ []) ≡ part_level q
-  level_at front p q t is e = leveled (terminals front ++ terminal_of t ∷ []) q (run_goes command_due p q (terminals front) (terminal_of t) is e)
-
   -- the readings of what is behind a front, for every front
   abbrev Behind : List Token → Type 0
   Behind us = (front : List Token) (p : Part) → run command_due (terminals front) ≡ going p → IsWithin limits.levels (terminals front) → Reads limits (front ++ us) (read_from (state_at limits (first_begun front) p) us)
 
-  exact_goes : (front : List Token) (p q : Part) (t : Token) (us : List Token) (b : Bool) → run command_due (terminals front) ≡ going p → IsWithin limits.levels (terminals front) → part_next p (terminal_of t) ≡ goes q → nat_lt limits.levels (part_level q) ≡ b → Behind us → Reads limits (front ++ t ∷ us) (read_from (state_at limits (first_begun front) p) (t ∷ us))
-  exact_goes front p q t us true is w e b later =
-      let other = not_profile_goes p q (terminal_of t) e in
-      let deep : limits.levels < level (terminals front ++ terminal_of t ∷ []) = subst (λ n. limits.levels < n) (sym (level_at front p q t is e)) (below limits.levels (part_level q) b) in
-      subst (Reads limits (front ++ t ∷ us)) (sym (too_deep_read limits front p t us q other e b))
-      (reads_fault {front = front} {code = E04} t us (front_ok front p is w) (goes_begins (terminals front) p q (terminal_of t) is e, deep))
-  exact_goes front p q t us false is w e b later =
-      let other = not_profile_goes p q (terminal_of t) e in
-      let next : run command_due (terminals (front ++ t ∷ [])) ≡ going q = ap (run command_due) (terminals_more front t) ∙ run_goes command_due p q (terminals front) (terminal_of t) is e in
-      let deep : level (terminals front ++ terminal_of t ∷ []) ≤ limits.levels = subst (λ n. n ≤ limits.levels) (sym (level_at front p q t is e)) (within limits.levels (part_level q) b) in
+  exact_goes : (front : List Token) (p q : Part) (made : ℕ) (t : Token) (us : List Token) (b : Bool) → run command_due (terminals front) ≡ going p → IsWithin limits.levels (terminals front) → part_next p (terminal_of t) ≡ goes made q → nat_lt limits.levels made ≡ b → Behind us → Reads limits (front ++ t ∷ us) (read_from (state_at limits (first_begun front) p) (t ∷ us))
+  exact_goes front p q made t us true is w e b later =
+      let other = not_profile_goes p q made (terminal_of t) e in
+      let deep : limits.levels < load (terminals front) (terminal_of t) = subst (λ n. limits.levels < n) (sym (loaded (terminals front) p q made (terminal_of t) is e)) (below limits.levels made b) in
+      subst (Reads limits (front ++ t ∷ us)) (sym (too_deep_read limits front p t us made q other e b))
+      (reads_fault {front = front} {code = E04} t us (front_ok front p is w) (goes_begins (terminals front) p q made (terminal_of t) is e, deep))
+  exact_goes front p q made t us false is w e b later =
+      let other = not_profile_goes p q made (terminal_of t) e in
+      let next : run command_due (terminals (front ++ t ∷ [])) ≡ going q = ap (run command_due) (terminals_more front t) ∙ run_goes command_due p q made (terminals front) (terminal_of t) is e in
+      let deep : load (terminals front) (terminal_of t) ≤ limits.levels = subst (λ n. n ≤ limits.levels) (sym (loaded (terminals front) p q made (terminal_of t) is e)) (within limits.levels made b) in
       let w_next : IsWithin limits.levels (terminals (front ++ t ∷ [])) = subst (IsWithin limits.levels) (sym (terminals_more front t)) (within_more limits.levels (terminals front) (terminal_of t) w deep) in
       subst (λ ts. Reads limits ts (read_from (state_at limits (first_begun front) p) (t ∷ us))) (append_assoc front (t ∷ []) us)
-      (subst (Reads limits ((front ++ t ∷ []) ++ us)) (sym (goes_read limits front p t us q other e b)) (later (front ++ t ∷ []) q next w_next))
+      (subst (Reads limits ((front ++ t ∷ []) ++ us)) (sym (goes_read limits front p t us made q other e b)) (later (front ++ t ∷ []) q next w_next))
 
   exact_ends : (front : List Token) (p : Part) (t : Token) (us : List Token) (form : WrittenForm) → run command_due (terminals front) ≡ going p → IsWithin limits.levels (terminals front) → part_next p (terminal_of t) ≡ ends form → Behind us → Reads limits (front ++ t ∷ us) (read_from (state_at limits (first_begun front) p) (t ∷ us))
   exact_ends front p t us form is w e later =
       let other = not_profile_ends p form (terminal_of t) e in
       let spelt : SpellsForm (terminals (front ++ t ∷ [])) form = subst (λ xs. SpellsForm xs form) (sym (terminals_more front t)) (sound (terminals front) p (terminal_of t) form is e) in
-      let deep : level (terminals front ++ terminal_of t ∷ []) ≤ limits.levels = subst (λ n. n ≤ limits.levels) (sym (end_level (terminals front) p (terminal_of t) form e)) (within_all limits.levels (terminals front) w) in
+      let deep : load (terminals front) (terminal_of t) ≤ limits.levels = subst (λ n. n ≤ limits.levels) (sym (end_load (terminals front) p (terminal_of t) form e)) (nothing_within limits.levels) in
       let w_next : IsWithin limits.levels (terminals (front ++ t ∷ [])) = subst (IsWithin limits.levels) (sym (terminals_more front t)) (within_more limits.levels (terminals front) (terminal_of t) w deep) in
       subst (λ ts. Reads limits ts (read_from (state_at limits (first_begun front) p) (t ∷ us))) (append_assoc front (t ∷ []) us)
       (subst (Reads limits ((front ++ t ∷ []) ++ us)) (sym (ends_read limits front p t us form other e))
       (reads_command (record { line = refl; form = spelt }) w_next (later [] command_due refl (within_nothing limits.levels))))
 
   exact_step : (step : PartStep) (front : List Token) (p : Part) (t : Token) (us : List Token) → run command_due (terminals front) ≡ going p → IsWithin limits.levels (terminals front) → (terminal_of t ≡ terminal.Profile → ⊥) → part_next p (terminal_of t) ≡ step → Behind us → Reads limits (front ++ t ∷ us) (read_from (state_at limits (first_begun front) p) (t ∷ us))
-  exact_step (goes q) front p t us is w other e later = exact_goes front p q t us (nat_lt limits.levels (part_level q)) is w e refl later
+  exact_step (goes made q) front p t us is w other e later = exact_goes front p q made t us (nat_lt limits.levels made) is w e refl later
   exact_step (ends form) front p t us is w other e later = exact_ends front p t us form is w e later
   exact_step refuses front p t us is w other e later =
       subst (Reads limits (front ++ t ∷ us)) (sym (refused_read limits front p t us other e))
@@ -266,8 +271,8 @@ module _ (limits : Limits) where
 
 -- A list of tokens has no other reading
 
-stuck_goes : (s : PartStep) (p : Part) (x : Terminal) (xs : List Terminal) (q : Part) → part_next p x ≡ s → run_by s (λ r. run r xs) xs ≡ going q → (r : Part) × (part_next p x ≡ goes r)
-stuck_goes (goes r) p x xs q e is = (r, e)
+stuck_goes : (s : PartStep) (p : Part) (x : Terminal) (xs : List Terminal) (q : Part) → part_next p x ≡ s → run_by s (λ r. run r xs) xs ≡ going q → (made : ℕ) × (r : Part) × (part_next p x ≡ goes made r)
+stuck_goes (goes made r) p x xs q e is = (made, r, e)
 stuck_goes (ends form) p x xs q e is = cc
 stuck_goes refuses p x xs q e is = cc
 
@@ -275,15 +280,13 @@ stuck_goes refuses p x xs q e is = cc
 step_run : (front : List Token) (p : Part) (t : Token) (us : List Token) → run command_due (terminals front) ≡ going p → run command_due (terminals (front ++ t ∷ us)) ≡ run_by (part_next p (terminal_of t)) (λ r. run r (terminals us)) (terminals us)
 step_run front p t us is = ap (run command_due) (terminals_append front (t ∷ us)) ∙ run_next command_due p (terminals front) (terminal_of t) (terminals us) is
 
-begins_goes : (s : PartStep) (xs : List Terminal) (p : Part) (x : Terminal) (limit : ℕ) → run command_due xs ≡ going p → level xs ≤ limit → limit < level (xs ++ x ∷ []) → Begins (xs ++ x ∷ []) → part_next p x ≡ s → (q : Part) × (part_next p x ≡ goes q)
-begins_goes (goes q) xs p x limit is w d b e = (q, e)
-begins_goes (ends form) xs p x limit is w d b e =
-    let same = end_level xs p x form e in
-    absurd (omega arith)
-begins_goes refuses xs p x limit is w d b e = absurd (refused_begins xs p x is e b)
+begins_goes : (s : PartStep) (xs : List Terminal) (p : Part) (x : Terminal) (limit : ℕ) → run command_due xs ≡ going p → limit < load xs x → Begins (xs ++ x ∷ []) → part_next p x ≡ s → (made : ℕ) × (q : Part) × (part_next p x ≡ goes made q)
+begins_goes (goes made q) xs p x limit is d b e = (made, q, e)
+begins_goes (ends form) xs p x limit is d b e = absurd (none_below limit (subst (λ n. limit < n) (end_load xs p x form e) d))
+begins_goes refuses xs p x limit is d b e = absurd (refused_begins xs p x is e b)
 
 refuses_step : (s : PartStep) (xs : List Terminal) (p : Part) (x : Terminal) → run command_due xs ≡ going p → (Begins (xs ++ x ∷ []) → ⊥) → part_next p x ≡ s → part_next p x ≡ refuses
-refuses_step (goes q) xs p x is n e = absurd (n (goes_begins xs p q x is e))
+refuses_step (goes made q) xs p x is n e = absurd (n (goes_begins xs p q made x is e))
 refuses_step (ends form) xs p x is n e = absurd (n (ends_begins xs p x form is e))
 refuses_step refuses xs p x is n e = e
 
@@ -293,15 +296,13 @@ module _ (limits : Limits) where
   Walks us = (front : List Token) (p q : Part) (rest : List Token) → run command_due (terminals front) ≡ going p → run command_due (terminals (front ++ us)) ≡ going q → IsWithin limits.levels (terminals (front ++ us)) →
       read_from (state_at limits (first_begun front) p) (us ++ rest) ≡ read_from (state_at limits (first_begun (front ++ us)) q) rest
 
-  walk_goes : (front : List Token) (p r q : Part) (t : Token) (us rest : List Token) → run command_due (terminals front) ≡ going p → part_next p (terminal_of t) ≡ goes r → run command_due (terminals (front ++ t ∷ us)) ≡ going q → IsWithin limits.levels (terminals (front ++ t ∷ us)) → Walks us →
+  walk_goes : (front : List Token) (p r q : Part) (made : ℕ) (t : Token) (us rest : List Token) → run command_due (terminals front) ≡ going p → part_next p (terminal_of t) ≡ goes made r → run command_due (terminals (front ++ t ∷ us)) ≡ going q → IsWithin limits.levels (terminals (front ++ t ∷ us)) → Walks us →
       read_from (state_at limits (first_begun front) p) (t ∷ (us ++ rest)) ≡ read_from (state_at limits (first_begun (front ++ t ∷ us)) q) rest
-  walk_goes front p r q t us rest is e whole w later =
+  walk_goes front p r q made t us rest is e whole w later =
       let lists : (front ++ t ∷ []) ++ us ≡ front ++ t ∷ us = append_assoc front (t ∷ []) us in
-      let next : run command_due (terminals (front ++ t ∷ [])) ≡ going r = ap (run command_due) (terminals_more front t) ∙ run_goes command_due p r (terminals front) (terminal_of t) is e in
-      let w_front : IsWithin limits.levels (terminals (front ++ t ∷ [])) = within_front limits.levels (terminals (front ++ t ∷ [])) (terminals us) (subst (IsWithin limits.levels) (terminals_append (front ++ t ∷ []) us) (subst (λ ts. IsWithin limits.levels (terminals ts)) (sym lists) w)) in
-      let deep : level (terminals (front ++ t ∷ [])) ≤ limits.levels = within_all limits.levels (terminals (front ++ t ∷ [])) w_front in
-      let test : nat_lt limits.levels (part_level r) ≡ false = within_test limits.levels (part_level r) (subst (λ n. n ≤ limits.levels) (leveled (terminals (front ++ t ∷ [])) r next) deep) in
-      goes_read limits front p t (us ++ rest) r (not_profile_goes p r (terminal_of t) e) e test
+      let next : run command_due (terminals (front ++ t ∷ [])) ≡ going r = ap (run command_due) (terminals_more front t) ∙ run_goes command_due p r made (terminals front) (terminal_of t) is e in
+      let test : nat_lt limits.levels made ≡ false = within_test limits.levels made (subst (λ n. n ≤ limits.levels) (loaded (terminals front) p r made (terminal_of t) is e) (w (terminals front) (terminals us) (terminal_of t) (terminals_append front (t ∷ us)))) in
+      goes_read limits front p t (us ++ rest) made r (not_profile_goes p r made (terminal_of t) e) e test
       ∙ later (front ++ t ∷ []) r q rest next (subst (λ ts. run command_due (terminals ts) ≡ going q) (sym lists) whole) (subst (λ ts. IsWithin limits.levels (terminals ts)) (sym lists) w)
       ∙ ap (λ ts. read_from (state_at limits (first_begun ts) q) rest) lists
 
@@ -313,28 +314,26 @@ module _ (limits : Limits) where
       ∙ ap (λ ts. read_from (state_at limits (first_begun ts) q) rest) (sym (append_nil front))
   walk (t ∷ us) front p q rest is whole w =
       let r = stuck_goes (part_next p (terminal_of t)) p (terminal_of t) (terminals us) q refl (sym (step_run front p t us is) ∙ whole) in
-      walk_goes front p r.0 q t us rest is r.1 whole w (walk us)
+      walk_goes front p r.1 q r.0 t us rest is r.2 whole w (walk us)
 
   -- a whole command is read as one
   abbrev Ends : List Token → Type 0
   Ends us = (front : List Token) (p : Part) (form : WrittenForm) (rest : List Token) → run command_due (terminals front) ≡ going p → run command_due (terminals (front ++ us)) ≡ ended form [] → IsWithin limits.levels (terminals (front ++ us)) →
       read_from (state_at limits (first_begun front) p) (us ++ rest) ≡ with_command (record { line = first_line (front ++ us); form = form }) (read_tokens limits rest)
 
-  end_goes : (front : List Token) (p r : Part) (form : WrittenForm) (t : Token) (us rest : List Token) → run command_due (terminals front) ≡ going p → part_next p (terminal_of t) ≡ goes r → run command_due (terminals (front ++ t ∷ us)) ≡ ended form [] → IsWithin limits.levels (terminals (front ++ t ∷ us)) → Ends us →
+  end_goes : (front : List Token) (p r : Part) (made : ℕ) (form : WrittenForm) (t : Token) (us rest : List Token) → run command_due (terminals front) ≡ going p → part_next p (terminal_of t) ≡ goes made r → run command_due (terminals (front ++ t ∷ us)) ≡ ended form [] → IsWithin limits.levels (terminals (front ++ t ∷ us)) → Ends us →
       read_from (state_at limits (first_begun front) p) (t ∷ (us ++ rest)) ≡ with_command (record { line = first_line (front ++ t ∷ us); form = form }) (read_tokens limits rest)
-  end_goes front p r form t us rest is e whole w later =
+  end_goes front p r made form t us rest is e whole w later =
       let lists : (front ++ t ∷ []) ++ us ≡ front ++ t ∷ us = append_assoc front (t ∷ []) us in
-      let next : run command_due (terminals (front ++ t ∷ [])) ≡ going r = ap (run command_due) (terminals_more front t) ∙ run_goes command_due p r (terminals front) (terminal_of t) is e in
-      let w_front : IsWithin limits.levels (terminals (front ++ t ∷ [])) = within_front limits.levels (terminals (front ++ t ∷ [])) (terminals us) (subst (IsWithin limits.levels) (terminals_append (front ++ t ∷ []) us) (subst (λ ts. IsWithin limits.levels (terminals ts)) (sym lists) w)) in
-      let deep : level (terminals (front ++ t ∷ [])) ≤ limits.levels = within_all limits.levels (terminals (front ++ t ∷ [])) w_front in
-      let test : nat_lt limits.levels (part_level r) ≡ false = within_test limits.levels (part_level r) (subst (λ n. n ≤ limits.levels) (leveled (terminals (front ++ t ∷ [])) r next) deep) in
-      goes_read limits front p t (us ++ rest) r (not_profile_goes p r (terminal_of t) e) e test
+      let next : run command_due (terminals (front ++ t ∷ [])) ≡ going r = ap (run command_due) (terminals_more front t) ∙ run_goes command_due p r made (terminals front) (terminal_of t) is e in
+      let test : nat_lt limits.levels made ≡ false = within_test limits.levels made (subst (λ n. n ≤ limits.levels) (loaded (terminals front) p r made (terminal_of t) is e) (w (terminals front) (terminals us) (terminal_of t) (terminals_append front (t ∷ us)))) in
+      goes_read limits front p t (us ++ rest) made r (not_profile_goes p r made (terminal_of t) e) e test
       ∙ later (front ++ t ∷ []) r form rest next (subst (λ ts. run command_due (terminals ts) ≡ ended form []) (sym lists) whole) (subst (λ ts. IsWithin limits.levels (terminals ts)) (sym lists) w)
       ∙ ap (λ ts. with_command (record { line = first_line ts; form = form }) (read_tokens limits rest)) lists
 
   end_step : (s : PartStep) (front : List Token) (p : Part) (form : WrittenForm) (t : Token) (us rest : List Token) → run command_due (terminals front) ≡ going p → part_next p (terminal_of t) ≡ s → run_by s (λ r. run r (terminals us)) (terminals us) ≡ ended form [] → run command_due (terminals (front ++ t ∷ us)) ≡ ended form [] → IsWithin limits.levels (terminals (front ++ t ∷ us)) → Ends us →
       read_from (state_at limits (first_begun front) p) (t ∷ (us ++ rest)) ≡ with_command (record { line = first_line (front ++ t ∷ us); form = form }) (read_tokens limits rest)
-  end_step (goes r) front p form t us rest is e left whole w later = end_goes front p r form t us rest is e whole w later
+  end_step (goes made r) front p form t us rest is e left whole w later = end_goes front p r made form t us rest is e whole w later
   end_step (ends f) front p form t [] rest is e left whole w later =
       let same : f ≡ form = cc in
       ends_read limits front p t rest f (not_profile_ends p f (terminal_of t) e) e
@@ -358,9 +357,9 @@ fault_read : (code : Code) (limits : Limits) (front : List Token) (p : Part) (t 
 fault_read E06 limits front p t rest f is h = profile_read limits front p t rest h
 fault_read E02 limits front p t rest f is h = refused_read limits front p t rest h.0 (refuses_step (part_next p (terminal_of t)) (terminals front) p (terminal_of t) is h.1 refl)
 fault_read E04 limits front p t rest f is h =
-    let q = begins_goes (part_next p (terminal_of t)) (terminals front) p (terminal_of t) limits.levels is (within_all limits.levels (terminals front) f.within) h.1 h.0 refl in
-    let deep : limits.levels < part_level q.0 = subst (λ n. limits.levels < n) (leveled (terminals front ++ terminal_of t ∷ []) q.0 (run_goes command_due p q.0 (terminals front) (terminal_of t) is q.1)) h.1 in
-    too_deep_read limits front p t rest q.0 (not_profile_goes p q.0 (terminal_of t) q.1) q.1 (below_test limits.levels (part_level q.0) deep)
+    let q = begins_goes (part_next p (terminal_of t)) (terminals front) p (terminal_of t) limits.levels is h.1 h.0 refl in
+    let deep : limits.levels < q.0 = subst (λ n. limits.levels < n) (loaded (terminals front) p q.1 q.0 (terminal_of t) is q.2) h.1 in
+    too_deep_read limits front p t rest q.0 q.1 (not_profile_goes p q.1 q.0 (terminal_of t) q.2) q.2 (below_test limits.levels q.0 deep)
 fault_read code limits front p t rest f is h = absurd h
 
 -- there is one reading

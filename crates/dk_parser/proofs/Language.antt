@@ -1,135 +1,324 @@
--- What the parts of a command make of its terminals is what the grammar says.
-use Rattle.std.proofs.Common.{◌≡◌, ℕ, zero, suc, ◌+◌, List, [], ◌∷◌, ◌++◌, refl, sym, ap, ◌∙◌, subst, append_assoc, add-one, arith}
-use Rattle.std.specs.Prelude.{Some}
-use Rattle.std.proofs.lemmas.Bool.Decides.{nat_tests}
-use Rattle.dk_model.specs.declared.signature.SymSort.{SymSort}
-use Rattle.dk_model.specs.declared.signature.SymSort.TheVariants.{Static, Theorem}
+-- The terminals that lead to a part of a term.
+use Rattle.std.proofs.Common.{◌≡◌, ℕ, ◌+◌, Bool, true, false, List, [], ◌∷◌, ◌++◌, refl, sym, ap, ◌∙◌, subst, append_assoc, inl, inr}
+use Rattle.std.specs.Prelude.{Option, Some, None, ◌⊎◌}
 use Rattle.dk_lexer.specs.declared.token.Sign.TheVariants as sign
 use Rattle.dk_parser.specs.declared.terminal.Terminal.{Terminal}
 use Rattle.dk_parser.specs.declared.terminal.Terminal.TheVariants as terminal
-use Rattle.dk_parser.specs.Written.{Written, written_star, WrittenForm}
-use Rattle.dk_parser.specs.Grammar.{defined, dot, open_bracket, close_bracket, SpellsTerm, spells_name, spells_qualified, spells_star, spells_wildcard, spells_brackets, SpellsForm, spells_declaration, spells_theorem}
-use Rattle.dk_parser.specs.Parsing.{TermPart, term_due, term_read, term_closed, term_next, term_done, Part, command_due, in_type, in_body, PartStep, goes, type_goes, body_goes, part_next}
-use Rattle.dk_parser.proofs.Machine.{ended, run_by, run}
-
--- a part of a command that a term goes on in
-abbrev Steps : (TermPart → Part) → Type 0
-Steps wrap = (p q : TermPart) (x : Terminal) → term_next p x ≡ Some q → part_next (wrap p) x ≡ goes (wrap q)
-
-type_steps : (s : SymSort) (n : List ℕ) → Steps (in_type s n)
-type_steps Static n (term_due d) q (terminal.Sign sign.Dot) e = cc
-type_steps Static n (term_read d a) q (terminal.Sign sign.Dot) e = cc
-type_steps Theorem n (term_due d) q (terminal.Sign sign.Defined) e = cc
-type_steps Theorem n (term_read d a) q (terminal.Sign sign.Defined) e = cc
-type_steps s n p q x e = ap (type_goes s n) e
-
-body_steps : (n : List ℕ) (a : Written) → Steps (in_body n a)
-body_steps n a (term_due d) q (terminal.Sign sign.Dot) e = cc
-body_steps n a (term_read d b) q (terminal.Sign sign.Dot) e = cc
-body_steps n a p q x e = ap (body_goes n a) e
-
-closed_more : (d : ℕ) (a : Written) → term_closed (d + 1) a ≡ Some (term_read d a)
-closed_more d a = grind (arith)
-
--- one step
-stepped : (wrap : TermPart → Part) → Steps wrap → (p q : TermPart) (x : Terminal) (rest : List Terminal) → term_next p x ≡ Some q → run (wrap p) (x ∷ rest) ≡ run (wrap q) rest
-stepped wrap steps p q x rest e = ap (λ (s : PartStep). run_by s (λ r. run r rest) rest) (steps p q x e)
-
--- a term is read as what it spells
-term_complete : {xs : List Terminal} {a : Written} → SpellsTerm xs a → (wrap : TermPart → Part) → Steps wrap → (d : ℕ) (rest : List Terminal) → run (wrap (term_due d)) (xs ++ rest) ≡ run (wrap (term_read d a)) rest
-term_complete spells_name wrap steps d rest = stepped wrap steps _ _ _ rest refl
-term_complete spells_qualified wrap steps d rest = stepped wrap steps _ _ _ rest refl
-term_complete spells_star wrap steps d rest = stepped wrap steps _ _ _ rest refl
-term_complete spells_wildcard wrap steps d rest = stepped wrap steps _ _ _ rest refl
-term_complete (spells_brackets {xs} {a} h) wrap steps d rest =
-    stepped wrap steps (term_due d) (term_due (d + 1)) open_bracket ((xs ++ close_bracket ∷ []) ++ rest) refl
-    ∙ ap (run (wrap (term_due (d + 1)))) (append_assoc xs (close_bracket ∷ []) rest)
-    ∙ term_complete h wrap steps (d + 1) (close_bracket ∷ rest)
-    ∙ stepped wrap steps (term_read (d + 1) a) (term_read d a) close_bracket rest (closed_more d a)
-
--- a command is read as what it spells
-pub complete : {xs : List Terminal} {form : WrittenForm} → SpellsForm xs form → run command_due xs ≡ ended form []
-complete (spells_declaration {n} {xs} {a} h) = term_complete h (in_type Static n) (type_steps Static n) 0 (dot ∷ [])
-complete (spells_theorem {n} {xs} {ys} {a} {b} h k) =
-    term_complete h (in_type Theorem n) (type_steps Theorem n) 0 (defined ∷ (ys ++ dot ∷ []))
-    ∙ term_complete k (in_body n a) (body_steps n a) 0 (dot ∷ [])
+use Rattle.dk_parser.specs.Written.{Written, written_name, written_qualified, written_star, written_wild, written_apply, written_arrow, written_product, written_annotated}
+use Rattle.dk_parser.specs.Grammar.{colon, arrow, double_arrow, open_bracket, close_bracket, SpellsBinder, spells_binder, spells_no_binder, SpellsAtom, spells_name, spells_qualified, spells_star, spells_wildcard, spells_brackets, SpellsApplication, spells_head, spells_applied, SpellsTerm, spells_application, spells_arrow, spells_product, spells_bracketed_product, spells_annotated}
+use Rattle.dk_parser.specs.Parsing.{Place, at_front, domain, Slot, due, bindable, applied, bracketed, Frame, bracket_frame, arrow_frame, product_frame, annotated_frame, Frames, bottom, on, TermPart, pushed, binder_term, slot_more, slot_binder, takes_atom, slot_term, in_frames, unwound, unwound_all, next_open, next_close, next_close_term, next_close_domain, next_colon, next_arrow, next_double_arrow, framed, term_next, term_done, slot_ended}
+use Rattle.dk_parser.proofs.Complete.{at, atom_more}
 
 append_nil : (xs : List Terminal) → xs ++ [] ≡ xs
 append_nil [] = refl
 append_nil (x ∷ xs) = ap (λ ys. x ∷ ys) (append_nil xs)
 
-some_same : {A : Type 0} {a b : A} → Some a ≡ Some b → a ≡ b
-some_same e = cc
+binder_atom : {x : Terminal} {v : Option (List ℕ)} → SpellsBinder x v → SpellsAtom (x ∷ []) (binder_term v)
+binder_atom spells_binder = spells_name
+binder_atom spells_no_binder = spells_wildcard
 
--- so many brackets
-pub opens : ℕ → List Terminal
-opens zero = []
-opens (suc d) = open_bracket ∷ opens d
+a_term : SpellsTerm (terminal.Star ∷ []) written_star
+a_term = spells_application (spells_head spells_star)
 
-closes : ℕ → List Terminal
-closes zero = []
-closes (suc d) = closes d ++ close_bracket ∷ []
+-- these terminals lead to this slot
+abbrev SpellsSlot : List Terminal → Slot → Type 0
+SpellsSlot ws (due at_front) = ws ≡ []
+SpellsSlot ws (due (domain v)) = (x : Terminal) × (ws ≡ x ∷ colon ∷ []) × SpellsBinder x v
+SpellsSlot ws (bindable v) = (x : Terminal) × (ws ≡ x ∷ []) × SpellsBinder x v
+SpellsSlot ws (applied at_front a n) = SpellsApplication ws a
+SpellsSlot ws (applied (domain v) a n) = (x : Terminal) × (us : List Terminal) × (ws ≡ x ∷ colon ∷ us) × SpellsBinder x v × SpellsApplication us a
+SpellsSlot ws (bracketed v a) = (x : Terminal) × (us : List Terminal) × (ws ≡ open_bracket ∷ x ∷ colon ∷ (us ++ close_bracket ∷ [])) × SpellsBinder x v × SpellsApplication us a
 
-opens_more : (d : ℕ) → opens d ++ open_bracket ∷ [] ≡ opens (suc d)
-unfolding opens
-opens_more zero = refl
-opens_more (suc d) = ap (λ xs. open_bracket ∷ xs) (opens_more d)
+-- these terminals make this frame; but for a bracket, a term behind them makes a term of them
+abbrev SpellsFrame : List Terminal → Frame → Type 0
+SpellsFrame vs (bracket_frame s) = (ws : List Terminal) × (vs ≡ ws ++ open_bracket ∷ []) × SpellsSlot ws s × (takes_atom s ≡ true)
+SpellsFrame vs (arrow_frame a) = (zs : List Terminal) (b : Written) → SpellsTerm zs b → SpellsTerm (vs ++ zs) (written_arrow a b)
+SpellsFrame vs (product_frame v a) = (zs : List Terminal) (b : Written) → SpellsTerm zs b → SpellsTerm (vs ++ zs) (written_product v a b)
+SpellsFrame vs (annotated_frame v a) = (zs : List Terminal) (b : Written) → SpellsTerm zs b → SpellsTerm (vs ++ zs) (written_annotated v a b)
 
--- a term in so many brackets
-around : (d : ℕ) {zs : List Terminal} {a : Written} → SpellsTerm zs a → SpellsTerm (opens d ++ (zs ++ closes d)) a
-unfolding opens closes
-around zero {zs} {a} h = subst (λ xs. SpellsTerm xs a) (sym (append_nil zs)) h
-around (suc d) {zs} {a} h =
-    subst (λ xs. SpellsTerm (open_bracket ∷ xs) a)
-    (append_assoc (opens d) (zs ++ closes d) (close_bracket ∷ []) ∙ ap (λ xs. opens d ++ xs) (append_assoc zs (closes d) (close_bracket ∷ [])))
-    (spells_brackets (around d h))
+abbrev SpellsFrames : List Terminal → Frames → Type 0
+SpellsFrames ys bottom = ys ≡ []
+SpellsFrames ys (on d f fs) = (us : List Terminal) × (vs : List Terminal) × (ys ≡ us ++ vs) × SpellsFrames us fs × SpellsFrame vs f
 
 -- these terminals of a term lead to this part of it
-pub data ReachedTerm : List Terminal → TermPart → Type 0 where
-  reached_due : (d : ℕ) (xs : List Terminal) → xs ≡ opens d → ReachedTerm xs (term_due d)
-  reached_read : (d : ℕ) (xs zs : List Terminal) {a : Written} → xs ≡ opens d ++ zs → SpellsTerm zs a → ReachedTerm xs (term_read d a)
+pub record ReachedTerm (xs : List Terminal) (p : TermPart) : Type 0 where
+  pub before : List Terminal
+  pub here : List Terminal
+  pub is : xs ≡ before ++ here
+  pub frames : SpellsFrames before p.frames
+  pub slot : SpellsSlot here p.slot
 
-pub nothing_reached : ReachedTerm [] (term_due 0)
-unfolding opens
-nothing_reached = reached_due 0 [] refl
+pub nothing_reached : ReachedTerm [] (at bottom (due at_front))
+nothing_reached = record { before = []; here = []; is = refl; frames = refl; slot = refl }
 
-read_one : (d : ℕ) (xs : List Terminal) (x : Terminal) {a : Written} → xs ≡ opens d → SpellsTerm (x ∷ []) a → ReachedTerm (xs ++ x ∷ []) (term_read d a)
-read_one d xs x e h = reached_read d (xs ++ x ∷ []) (x ∷ []) (ap (λ ys. ys ++ x ∷ []) e) h
+some_slot : (s t : Slot) → Some s ≡ Some t → s ≡ t
+some_slot s t e = cc
 
-read_closed : (d : ℕ) (xs zs : List Terminal) (a : Written) (q : TermPart) → xs ≡ opens d ++ zs → SpellsTerm zs a → term_closed d a ≡ Some q → ReachedTerm (xs ++ close_bracket ∷ []) q
-read_closed zero xs zs a q e h s = cc
-read_closed (suc d) xs zs a q e h s =
-    let to : term_read d a ≡ q = grind (arith) in
-    let lists : xs ++ close_bracket ∷ [] ≡ opens d ++ (open_bracket ∷ (zs ++ close_bracket ∷ [])) =
-    ap (λ ys. ys ++ close_bracket ∷ []) (e ∙ ap (λ ys. ys ++ zs) (sym (opens_more d)) ∙ append_assoc (opens d) (open_bracket ∷ []) zs)
-    ∙ append_assoc (opens d) (open_bracket ∷ zs) (close_bracket ∷ []) in
-    subst (ReachedTerm (xs ++ close_bracket ∷ [])) to (reached_read d (xs ++ close_bracket ∷ []) (open_bracket ∷ (zs ++ close_bracket ∷ [])) lists (spells_brackets h))
+some_part : (p q : TermPart) → Some p ≡ Some q → p ≡ q
+some_part p q e = cc
+
+some_term : (a b : Written) → Some a ≡ Some b → a ≡ b
+some_term a b e = cc
+
+behind : (ws ys zs : List Terminal) → ws ≡ zs → ws ++ ys ≡ zs ++ ys
+behind ws ys zs e = ap (λ us. us ++ ys) e
+
+-- one atom more
+slot_add : (s t : Slot) (ws ys : List Terminal) (a : Written) → SpellsSlot ws s → SpellsAtom ys a → slot_more s a ≡ Some t → SpellsSlot (ws ++ ys) t
+slot_add (due at_front) t ws ys a h k e =
+    subst (SpellsSlot (ws ++ ys)) (some_slot (applied at_front a 1) t e)
+    (subst (λ us. SpellsApplication us a) (sym (behind ws ys [] h)) (spells_head k))
+slot_add (due (domain v)) t ws ys a h k e =
+    subst (SpellsSlot (ws ++ ys)) (some_slot (applied (domain v) a 1) t e)
+    (h.0, ys, behind ws ys (h.0 ∷ colon ∷ []) h.1, h.2, spells_head k)
+slot_add (bindable v) t ws ys a h k e =
+    subst (SpellsSlot (ws ++ ys)) (some_slot (applied at_front (written_apply (binder_term v) a) 2) t e)
+    (subst (λ us. SpellsApplication us (written_apply (binder_term v) a)) (sym (behind ws ys (h.0 ∷ []) h.1)) (spells_applied (spells_head (binder_atom h.2)) k))
+slot_add (applied at_front f n) t ws ys a h k e =
+    subst (SpellsSlot (ws ++ ys)) (some_slot (applied at_front (written_apply f a) (n + 1)) t e) (spells_applied h k)
+slot_add (applied (domain v) f n) t ws ys a h k e =
+    subst (SpellsSlot (ws ++ ys)) (some_slot (applied (domain v) (written_apply f a) (n + 1)) t e)
+    (h.0, h.1 ++ ys, behind ws ys (h.0 ∷ colon ∷ h.1) h.2, h.3, spells_applied h.4 k)
+slot_add (bracketed v b) t ws ys a h k e = cc
+
+slot_bind : (s t : Slot) (ws : List Terminal) (x : Terminal) (v : Option (List ℕ)) → SpellsSlot ws s → SpellsBinder x v → slot_binder s v ≡ Some t → SpellsSlot (ws ++ x ∷ []) t
+slot_bind (due at_front) t ws x v h k e =
+    subst (SpellsSlot (ws ++ x ∷ [])) (some_slot (bindable v) t e) (x, behind ws (x ∷ []) [] h, k)
+slot_bind (due (domain w)) t ws x v h k e = slot_add (due (domain w)) t ws (x ∷ []) (binder_term v) h (binder_atom k) e
+slot_bind (bindable w) t ws x v h k e = slot_add (bindable w) t ws (x ∷ []) (binder_term v) h (binder_atom k) e
+slot_bind (applied place f n) t ws x v h k e = slot_add (applied place f n) t ws (x ∷ []) (binder_term v) h (binder_atom k) e
+slot_bind (bracketed w b) t ws x v h k e = cc
+
+-- where a term may end behind it, it is an application
+slot_sound : (s : Slot) (ws : List Terminal) (a : Written) → SpellsSlot ws s → slot_term s ≡ Some a → SpellsApplication ws a
+slot_sound (due place) ws a h e = cc
+slot_sound (bindable v) ws a h e =
+    subst (SpellsApplication ws) (some_term (binder_term v) a e) (subst (λ us. SpellsApplication us (binder_term v)) (sym h.1) (spells_head (binder_atom h.2)))
+slot_sound (applied at_front b n) ws a h e = subst (SpellsApplication ws) (some_term b a e) h
+slot_sound (applied (domain v) b n) ws a h e = cc
+slot_sound (bracketed v b) ws a h e = cc
+
+-- a slot in its frames
+slot_reached : (xs ys ws zs : List Terminal) (fs : Frames) (o : Option Slot) (q : TermPart) → xs ≡ ys ++ ws → SpellsFrames ys fs → ((t : Slot) → o ≡ Some t → SpellsSlot (ws ++ zs) t) → in_frames fs o ≡ Some q → ReachedTerm (xs ++ zs) q
+slot_reached xs ys ws zs fs None q is k h e = cc
+slot_reached xs ys ws zs fs (Some t) q is k h e =
+    subst (ReachedTerm (xs ++ zs)) (some_part (at fs t) q e)
+    (record { before = ys; here = ws ++ zs; is = behind xs zs (ys ++ ws) is ∙ append_assoc ys ws zs; frames = k; slot = h t refl })
+
+framed_reached : (xs ys ws : List Terminal) (x : Terminal) (f : Frame) (fs : Frames) (q : TermPart) → xs ≡ ys ++ ws → SpellsFrames ys fs → SpellsFrame (ws ++ x ∷ []) f → framed f fs ≡ Some q → ReachedTerm (xs ++ x ∷ []) q
+framed_reached xs ys ws x f fs q is k h e =
+    subst (ReachedTerm (xs ++ x ∷ [])) (some_part (at (pushed f fs) (due at_front)) q e)
+    (record {
+      before = ys ++ (ws ++ x ∷ []);
+      here = [];
+      is = behind xs (x ∷ []) (ys ++ ws) is ∙ append_assoc ys ws (x ∷ []) ∙ sym (append_nil (ys ++ (ws ++ x ∷ [])));
+      frames = (ys, ws ++ x ∷ [], refl, k, h);
+      slot = refl;
+    })
+
+arrow_frames : (ws : List Terminal) (a : Written) → SpellsApplication ws a → SpellsFrame (ws ++ arrow ∷ []) (arrow_frame a)
+arrow_frames ws a h zs b k = subst (λ us. SpellsTerm us (written_arrow a b)) (sym (append_assoc ws (arrow ∷ []) zs)) (spells_arrow h k)
+
+product_frames : (x : Terminal) (v : Option (List ℕ)) (ws us : List Terminal) (a : Written) → ws ≡ x ∷ colon ∷ us → SpellsBinder x v → SpellsApplication us a → SpellsFrame (ws ++ arrow ∷ []) (product_frame v a)
+product_frames x v ws us a e h k zs b t =
+    subst (λ ts. SpellsTerm ((ts ++ arrow ∷ []) ++ zs) (written_product v a b)) (sym e)
+    (subst (λ ts. SpellsTerm (x ∷ colon ∷ ts) (written_product v a b)) (sym (append_assoc us (arrow ∷ []) zs)) (spells_product h k t))
+
+annotated_frames : (x : Terminal) (v : Option (List ℕ)) (ws us : List Terminal) (a : Written) → ws ≡ x ∷ colon ∷ us → SpellsBinder x v → SpellsApplication us a → SpellsFrame (ws ++ double_arrow ∷ []) (annotated_frame v a)
+annotated_frames x v ws us a e h k zs b t =
+    subst (λ ts. SpellsTerm ((ts ++ double_arrow ∷ []) ++ zs) (written_annotated v a b)) (sym e)
+    (subst (λ ts. SpellsTerm (x ∷ colon ∷ ts) (written_annotated v a b)) (sym (append_assoc us (double_arrow ∷ []) zs)) (spells_annotated h k t))
+
+bracketed_frames : (x : Terminal) (v : Option (List ℕ)) (ws us : List Terminal) (a : Written) → ws ≡ open_bracket ∷ x ∷ colon ∷ (us ++ close_bracket ∷ []) → SpellsBinder x v → SpellsApplication us a → SpellsFrame (ws ++ arrow ∷ []) (product_frame v a)
+bracketed_frames x v ws us a e h k zs b t =
+    subst (λ ts. SpellsTerm ((ts ++ arrow ∷ []) ++ zs) (written_product v a b)) (sym e)
+    (subst (λ ts. SpellsTerm (open_bracket ∷ x ∷ colon ∷ ts) (written_product v a b))
+    (sym (append_assoc (us ++ close_bracket ∷ []) (arrow ∷ []) zs ∙ append_assoc us (close_bracket ∷ []) (arrow ∷ zs)))
+    (spells_bracketed_product h k t))
+
+-- a bracket closes behind a term
+bracket_spelt : (us ws zs xs : List Terminal) → xs ≡ (us ++ (ws ++ open_bracket ∷ [])) ++ zs → xs ++ close_bracket ∷ [] ≡ us ++ (ws ++ (open_bracket ∷ (zs ++ close_bracket ∷ [])))
+bracket_spelt us ws zs xs e = behind xs (close_bracket ∷ []) ((us ++ (ws ++ open_bracket ∷ [])) ++ zs) e ∙ simp append_assoc
+
+bracket_reached : (o : Option Slot) (s : Slot) (xs us ws zs : List Terminal) (fs : Frames) (a : Written) (q : TermPart) → xs ≡ (us ++ (ws ++ open_bracket ∷ [])) ++ zs → SpellsFrames us fs → SpellsSlot ws s → SpellsTerm zs a → slot_more s a ≡ o → in_frames fs o ≡ Some q → ReachedTerm (xs ++ close_bracket ∷ []) q
+bracket_reached None s xs us ws zs fs a q is k h t m e = cc
+bracket_reached (Some r) s xs us ws zs fs a q is k h t m e =
+    subst (ReachedTerm (xs ++ close_bracket ∷ [])) (some_part (at fs r) q e)
+    (record {
+      before = us;
+      here = ws ++ (open_bracket ∷ (zs ++ close_bracket ∷ []));
+      is = bracket_spelt us ws zs xs is;
+      frames = k;
+      slot = slot_add s r ws (open_bracket ∷ (zs ++ close_bracket ∷ [])) a h (spells_brackets t) m;
+    })
+
+unwound_reached : (fs : Frames) (xs ys zs : List Terminal) (a : Written) (q : TermPart) → xs ≡ ys ++ zs → SpellsFrames ys fs → SpellsTerm zs a → unwound fs a ≡ Some q → ReachedTerm (xs ++ close_bracket ∷ []) q
+unwound_reached bottom xs ys zs a q is k t e = cc
+unwound_reached (on d (bracket_frame s) fs) xs ys zs a q is k t e =
+    let f = k.4 in
+    bracket_reached (slot_more s a) s xs k.0 f.0 zs fs a q (is ∙ behind ys zs (k.0 ++ (f.0 ++ open_bracket ∷ [])) (k.2 ∙ ap (λ vs. k.0 ++ vs) f.1)) k.3 f.2 t refl e
+unwound_reached (on d (arrow_frame b) fs) xs ys zs a q is k t e =
+    unwound_reached fs xs k.0 (k.1 ++ zs) (written_arrow b a) q (is ∙ behind ys zs (k.0 ++ k.1) k.2 ∙ append_assoc k.0 k.1 zs) k.3 (k.4 zs a t) e
+unwound_reached (on d (product_frame v b) fs) xs ys zs a q is k t e =
+    unwound_reached fs xs k.0 (k.1 ++ zs) (written_product v b a) q (is ∙ behind ys zs (k.0 ++ k.1) k.2 ∙ append_assoc k.0 k.1 zs) k.3 (k.4 zs a t) e
+unwound_reached (on d (annotated_frame v b) fs) xs ys zs a q is k t e =
+    unwound_reached fs xs k.0 (k.1 ++ zs) (written_annotated v b a) q (is ∙ behind ys zs (k.0 ++ k.1) k.2 ∙ append_assoc k.0 k.1 zs) k.3 (k.4 zs a t) e
+
+close_reached : (o : Option Written) (s : Slot) (fs : Frames) (xs ys ws : List Terminal) (q : TermPart) → xs ≡ ys ++ ws → SpellsFrames ys fs → SpellsSlot ws s → slot_term s ≡ o → next_close_term fs o ≡ Some q → ReachedTerm (xs ++ close_bracket ∷ []) q
+close_reached None s fs xs ys ws q is k h t e = cc
+close_reached (Some a) s fs xs ys ws q is k h t e = unwound_reached fs xs ys ws a q is k (spells_application (slot_sound s ws a h t)) e
+
+domain_reached : (fs : Frames) (v : Option (List ℕ)) (a : Written) (xs ys ws : List Terminal) (x : Terminal) (us : List Terminal) (q : TermPart) → xs ≡ ys ++ ws → SpellsFrames ys fs → ws ≡ x ∷ colon ∷ us → SpellsBinder x v → SpellsApplication us a → next_close_domain fs v a ≡ Some q → ReachedTerm (xs ++ close_bracket ∷ []) q
+domain_reached (on d (bracket_frame (due at_front)) fs) v a xs ys ws x us q is k w b h e =
+    let f = k.4 in
+    let front : ys ≡ k.0 ++ open_bracket ∷ [] = k.2 ∙ ap (λ vs. k.0 ++ vs) (f.1 ∙ behind f.0 (open_bracket ∷ []) [] f.2) in
+    let all : xs ≡ (k.0 ++ open_bracket ∷ []) ++ (x ∷ colon ∷ us) = is ∙ behind ys ws (k.0 ++ open_bracket ∷ []) front ∙ ap (λ vs. (k.0 ++ open_bracket ∷ []) ++ vs) w in
+    subst (ReachedTerm (xs ++ close_bracket ∷ [])) (some_part (at fs (bracketed v a)) q e)
+    (record {
+      before = k.0;
+      here = open_bracket ∷ x ∷ colon ∷ (us ++ close_bracket ∷ []);
+      is = behind xs (close_bracket ∷ []) ((k.0 ++ open_bracket ∷ []) ++ (x ∷ colon ∷ us)) all ∙ simp append_assoc;
+      frames = k.3;
+      slot = (x, us, refl, b, h);
+    })
+domain_reached fs v a xs ys ws x us q is k w b h e = cc
+
+-- one sign more
+open_reached : (b : Bool) (s : Slot) (fs : Frames) (xs ys ws : List Terminal) (q : TermPart) → xs ≡ ys ++ ws → SpellsFrames ys fs → SpellsSlot ws s → takes_atom s ≡ b → next_open b fs s ≡ Some q → ReachedTerm (xs ++ open_bracket ∷ []) q
+open_reached true s fs xs ys ws q is k h t e = framed_reached xs ys ws open_bracket (bracket_frame s) fs q is k (ws, refl, h, t) e
+open_reached false s fs xs ys ws q is k h t e = cc
+
+closed_reached : (s : Slot) (fs : Frames) (xs ys ws : List Terminal) (q : TermPart) → xs ≡ ys ++ ws → SpellsFrames ys fs → SpellsSlot ws s → next_close fs s ≡ Some q → ReachedTerm (xs ++ close_bracket ∷ []) q
+closed_reached (applied (domain v) a n) fs xs ys ws q is k h e = domain_reached fs v a xs ys ws h.0 h.1 q is k h.2 h.3 h.4 e
+closed_reached (applied at_front a n) fs xs ys ws q is k h e = close_reached (Some a) (applied at_front a n) fs xs ys ws q is k h refl e
+closed_reached (bindable v) fs xs ys ws q is k h e = close_reached (Some (binder_term v)) (bindable v) fs xs ys ws q is k h refl e
+closed_reached (due place) fs xs ys ws q is k h e = cc
+closed_reached (bracketed v a) fs xs ys ws q is k h e = cc
+
+colon_reached : (s : Slot) (fs : Frames) (xs ys ws : List Terminal) (q : TermPart) → xs ≡ ys ++ ws → SpellsFrames ys fs → SpellsSlot ws s → next_colon fs s ≡ Some q → ReachedTerm (xs ++ colon ∷ []) q
+colon_reached (bindable v) fs xs ys ws q is k h e =
+    subst (ReachedTerm (xs ++ colon ∷ [])) (some_part (at fs (due (domain v))) q e)
+    (record {
+      before = ys;
+      here = ws ++ colon ∷ [];
+      is = behind xs (colon ∷ []) (ys ++ ws) is ∙ append_assoc ys ws (colon ∷ []);
+      frames = k;
+      slot = (h.0, behind ws (colon ∷ []) (h.0 ∷ []) h.1, h.2);
+    })
+colon_reached s fs xs ys ws q is k h e = cc
+
+arrow_reached : (s : Slot) (fs : Frames) (xs ys ws : List Terminal) (q : TermPart) → xs ≡ ys ++ ws → SpellsFrames ys fs → SpellsSlot ws s → next_arrow fs s ≡ Some q → ReachedTerm (xs ++ arrow ∷ []) q
+arrow_reached (due place) fs xs ys ws q is k h e = cc
+arrow_reached (bindable v) fs xs ys ws q is k h e = framed_reached xs ys ws arrow (arrow_frame (binder_term v)) fs q is k (arrow_frames ws (binder_term v) (slot_sound (bindable v) ws (binder_term v) h refl)) e
+arrow_reached (applied at_front a n) fs xs ys ws q is k h e = framed_reached xs ys ws arrow (arrow_frame a) fs q is k (arrow_frames ws a h) e
+arrow_reached (applied (domain v) a n) fs xs ys ws q is k h e = framed_reached xs ys ws arrow (product_frame v a) fs q is k (product_frames h.0 v ws h.1 a h.2 h.3 h.4) e
+arrow_reached (bracketed v a) fs xs ys ws q is k h e = framed_reached xs ys ws arrow (product_frame v a) fs q is k (bracketed_frames h.0 v ws h.1 a h.2 h.3 h.4) e
+
+double_arrow_reached : (s : Slot) (fs : Frames) (xs ys ws : List Terminal) (q : TermPart) → xs ≡ ys ++ ws → SpellsFrames ys fs → SpellsSlot ws s → next_double_arrow fs s ≡ Some q → ReachedTerm (xs ++ double_arrow ∷ []) q
+double_arrow_reached (applied (domain v) a n) fs xs ys ws q is k h e = framed_reached xs ys ws double_arrow (annotated_frame v a) fs q is k (annotated_frames h.0 v ws h.1 a h.2 h.3 h.4) e
+double_arrow_reached s fs xs ys ws q is k h e = cc
 
 -- one terminal more of a term
-pub term_reached : {xs : List Terminal} {p : TermPart} → ReachedTerm xs p → (x : Terminal) (q : TermPart) → term_next p x ≡ Some q → ReachedTerm (xs ++ x ∷ []) q
-term_reached (reached_due d xs e) (terminal.Name n) q s = subst (ReachedTerm (xs ++ terminal.Name n ∷ [])) (some_same s) (read_one d xs (terminal.Name n) e spells_name)
-term_reached (reached_due d xs e) (terminal.Qualified m n) q s = subst (ReachedTerm (xs ++ terminal.Qualified m n ∷ [])) (some_same s) (read_one d xs (terminal.Qualified m n) e spells_qualified)
-term_reached (reached_due d xs e) terminal.Star q s = subst (ReachedTerm (xs ++ terminal.Star ∷ [])) (some_same s) (read_one d xs terminal.Star e spells_star)
-term_reached (reached_due d xs e) terminal.Wildcard q s = subst (ReachedTerm (xs ++ terminal.Wildcard ∷ [])) (some_same s) (read_one d xs terminal.Wildcard e spells_wildcard)
-term_reached (reached_due d xs e) (terminal.Sign sign.OpenBracket) q s =
-    subst (ReachedTerm (xs ++ open_bracket ∷ [])) (some_same s)
-    (reached_due (d + 1) (xs ++ open_bracket ∷ []) (ap (λ ys. ys ++ open_bracket ∷ []) e ∙ opens_more d ∙ ap opens (sym (add-one d))))
-term_reached (reached_due d xs e) x q s = cc
-term_reached (reached_read d xs zs {a} e h) (terminal.Sign sign.CloseBracket) q s = read_closed d xs zs a q e h s
-term_reached (reached_read d xs zs e h) x q s = cc
-
-not_done : (d : ℕ) (a b : Written) → term_done (term_read (suc d) a) ≡ Some b → ⊥
-not_done d a b e = grind (arith, nat_tests)
+pub term_reached : (xs : List Terminal) (p : TermPart) (x : Terminal) (q : TermPart) → ReachedTerm xs p → term_next p x ≡ Some q → ReachedTerm (xs ++ x ∷ []) q
+term_reached xs p (terminal.Name n) q h e = slot_reached xs h.before h.here (terminal.Name n ∷ []) p.frames (slot_binder p.slot (Some n)) q h.is h.frames (λ t m. slot_bind p.slot t h.here (terminal.Name n) (Some n) h.slot spells_binder m) e
+term_reached xs p terminal.Wildcard q h e = slot_reached xs h.before h.here (terminal.Wildcard ∷ []) p.frames (slot_binder p.slot None) q h.is h.frames (λ t m. slot_bind p.slot t h.here terminal.Wildcard None h.slot spells_no_binder m) e
+term_reached xs p (terminal.Qualified m n) q h e = slot_reached xs h.before h.here (terminal.Qualified m n ∷ []) p.frames (slot_more p.slot (written_qualified m n)) q h.is h.frames (λ t r. slot_add p.slot t h.here (terminal.Qualified m n ∷ []) (written_qualified m n) h.slot spells_qualified r) e
+term_reached xs p terminal.Star q h e = slot_reached xs h.before h.here (terminal.Star ∷ []) p.frames (slot_more p.slot written_star) q h.is h.frames (λ t r. slot_add p.slot t h.here (terminal.Star ∷ []) written_star h.slot spells_star r) e
+term_reached xs p (terminal.Sign sign.OpenBracket) q h e = open_reached (takes_atom p.slot) p.slot p.frames xs h.before h.here q h.is h.frames h.slot refl e
+term_reached xs p (terminal.Sign sign.CloseBracket) q h e = closed_reached p.slot p.frames xs h.before h.here q h.is h.frames h.slot e
+term_reached xs p (terminal.Sign sign.Colon) q h e = colon_reached p.slot p.frames xs h.before h.here q h.is h.frames h.slot e
+term_reached xs p (terminal.Sign sign.Arrow) q h e = arrow_reached p.slot p.frames xs h.before h.here q h.is h.frames h.slot e
+term_reached xs p (terminal.Sign sign.DoubleArrow) q h e = double_arrow_reached p.slot p.frames xs h.before h.here q h.is h.frames h.slot e
+term_reached xs p x q h e = cc
 
 -- a term that may end here is spelt
-pub term_sound : {xs : List Terminal} {p : TermPart} → ReachedTerm xs p → (a : Written) → term_done p ≡ Some a → SpellsTerm xs a
-unfolding opens
-term_sound (reached_due d xs e) a s = cc
-term_sound (reached_read zero xs zs {a = b} e h) a s = subst (λ ys. SpellsTerm ys a) (sym e) (subst (SpellsTerm zs) (some_same s) h)
-term_sound (reached_read (suc d) xs zs {a = b} e h) a s = absurd (not_done d b a s)
+unwound_all_sound : (fs : Frames) (ys zs : List Terminal) (a b : Written) → SpellsFrames ys fs → SpellsTerm zs a → unwound_all fs a ≡ Some b → SpellsTerm (ys ++ zs) b
+unwound_all_sound bottom ys zs a b k t e = subst (SpellsTerm (ys ++ zs)) (some_term a b e) (subst (λ us. SpellsTerm us a) (sym (behind ys zs [] k)) t)
+unwound_all_sound (on d (bracket_frame s) fs) ys zs a b k t e = cc
+unwound_all_sound (on d (arrow_frame c) fs) ys zs a b k t e =
+    subst (λ us. SpellsTerm us b) (sym (behind ys zs (k.0 ++ k.1) k.2 ∙ append_assoc k.0 k.1 zs)) (unwound_all_sound fs k.0 (k.1 ++ zs) (written_arrow c a) b k.3 (k.4 zs a t) e)
+unwound_all_sound (on d (product_frame v c) fs) ys zs a b k t e =
+    subst (λ us. SpellsTerm us b) (sym (behind ys zs (k.0 ++ k.1) k.2 ∙ append_assoc k.0 k.1 zs)) (unwound_all_sound fs k.0 (k.1 ++ zs) (written_product v c a) b k.3 (k.4 zs a t) e)
+unwound_all_sound (on d (annotated_frame v c) fs) ys zs a b k t e =
+    subst (λ us. SpellsTerm us b) (sym (behind ys zs (k.0 ++ k.1) k.2 ∙ append_assoc k.0 k.1 zs)) (unwound_all_sound fs k.0 (k.1 ++ zs) (written_annotated v c a) b k.3 (k.4 zs a t) e)
+
+ended_sound : (o : Option Written) (xs : List Terminal) (p : TermPart) (b : Written) → ReachedTerm xs p → slot_term p.slot ≡ o → slot_ended p.frames o ≡ Some b → SpellsTerm xs b
+ended_sound None xs p b h t e = cc
+ended_sound (Some a) xs p b h t e =
+    subst (λ us. SpellsTerm us b) (sym h.is) (unwound_all_sound p.frames h.before h.here a b h.frames (spells_application (slot_sound p.slot h.here a h.slot t)) e)
+
+pub term_sound : (xs : List Terminal) (p : TermPart) (b : Written) → ReachedTerm xs p → term_done p ≡ Some b → SpellsTerm xs b
+term_sound xs p b h e = ended_sound (slot_term p.slot) xs p b h refl e
 
 -- a term that has begun can be completed
-pub term_begun : {xs : List Terminal} {p : TermPart} → ReachedTerm xs p → (rest : List Terminal) × (a : Written) × SpellsTerm (xs ++ rest) a
-term_begun (reached_due d xs e) = (terminal.Star ∷ closes d, written_star, subst (λ ys. SpellsTerm (ys ++ terminal.Star ∷ closes d) written_star) (sym e) (around d spells_star))
-term_begun (reached_read d xs zs {a} e h) =
-    (closes d, a, subst (λ ys. SpellsTerm (ys ++ closes d) a) (sym e) (subst (λ ys. SpellsTerm ys a) (sym (append_assoc (opens d) zs (closes d))) (around d h)))
+record Completed (xs : List Terminal) : Type 0 where
+  pub rest : List Terminal
+  pub term : Written
+  pub spelt : SpellsTerm (xs ++ rest) term
+
+slot_begun : (s : Slot) (ws : List Terminal) → SpellsSlot ws s → Completed ws
+slot_begun (due at_front) ws h = record { rest = terminal.Star ∷ []; term = written_star; spelt = subst (λ us. SpellsTerm us written_star) (sym (behind ws (terminal.Star ∷ []) [] h)) a_term }
+slot_begun (due (domain v)) ws h = record {
+  rest = terminal.Star ∷ arrow ∷ terminal.Star ∷ [];
+  term = written_product v written_star written_star;
+  spelt = subst (λ us. SpellsTerm us (written_product v written_star written_star)) (sym (behind ws (terminal.Star ∷ arrow ∷ terminal.Star ∷ []) (h.0 ∷ colon ∷ []) h.1)) (spells_product h.2 (spells_head spells_star) a_term);
+}
+slot_begun (bindable v) ws h = record { rest = []; term = binder_term v; spelt = subst (λ us. SpellsTerm us (binder_term v)) (sym (append_nil ws)) (spells_application (slot_sound (bindable v) ws (binder_term v) h refl)) }
+slot_begun (applied at_front a n) ws h = record { rest = []; term = a; spelt = subst (λ us. SpellsTerm us a) (sym (append_nil ws)) (spells_application h) }
+slot_begun (applied (domain v) a n) ws h = record {
+  rest = arrow ∷ terminal.Star ∷ [];
+  term = written_product v a written_star;
+  spelt = subst (λ us. SpellsTerm us (written_product v a written_star)) (sym (behind ws (arrow ∷ terminal.Star ∷ []) (h.0 ∷ colon ∷ h.1) h.2)) (spells_product h.3 h.4 a_term);
+}
+slot_begun (bracketed v a) ws h = record {
+  rest = arrow ∷ terminal.Star ∷ [];
+  term = written_product v a written_star;
+  spelt = subst (λ us. SpellsTerm us (written_product v a written_star))
+      (sym (behind ws (arrow ∷ terminal.Star ∷ []) (open_bracket ∷ h.0 ∷ colon ∷ (h.1 ++ close_bracket ∷ [])) h.2 ∙ ap (λ us. open_bracket ∷ h.0 ∷ colon ∷ us) (append_assoc h.1 (close_bracket ∷ []) (arrow ∷ terminal.Star ∷ []))))
+      (spells_bracketed_product h.3 h.4 a_term);
+}
+
+frame_begun : (us vs zs rest : List Terminal) (ys : List Terminal) → ys ≡ us ++ vs → us ++ ((vs ++ zs) ++ rest) ≡ ys ++ (zs ++ rest)
+frame_begun us vs zs rest ys e =
+    ap (λ ts. us ++ ts) (append_assoc vs zs rest) ∙ sym (append_assoc us vs (zs ++ rest)) ∙ sym (behind ys (zs ++ rest) (us ++ vs) e)
+
+bracket_lists : (us ws zs one two : List Terminal) → us ++ (((ws ++ (open_bracket ∷ (zs ++ close_bracket ∷ []))) ++ one) ++ two) ≡ (us ++ (ws ++ open_bracket ∷ [])) ++ (zs ++ (close_bracket ∷ (one ++ two)))
+bracket_lists us ws zs one two = simp append_assoc
+
+brackets_begun : (us ws zs ys one two : List Terminal) → ys ≡ us ++ (ws ++ open_bracket ∷ []) → us ++ (((ws ++ (open_bracket ∷ (zs ++ close_bracket ∷ []))) ++ one) ++ two) ≡ ys ++ (zs ++ (close_bracket ∷ (one ++ two)))
+brackets_begun us ws zs ys one two e =
+    bracket_lists us ws zs one two ∙ sym (behind ys (zs ++ (close_bracket ∷ (one ++ two))) (us ++ (ws ++ open_bracket ∷ [])) e)
+
+record CompletedIn (ys zs : List Terminal) : Type 0 where
+  pub rest : List Terminal
+  pub term : Written
+  pub spelt : SpellsTerm (ys ++ (zs ++ rest)) term
+
+frames_begun : (fs : Frames) (ys zs : List Terminal) (a : Written) → SpellsFrames ys fs → SpellsTerm zs a → CompletedIn ys zs
+frames_begun bottom ys zs a k t = record { rest = []; term = a; spelt = subst (λ us. SpellsTerm us a) (sym (behind ys (zs ++ []) [] k ∙ append_nil zs)) t }
+frames_begun (on d (bracket_frame s) fs) ys zs a k t =
+    let f = k.4 in
+    let m = atom_more s a f.3 in
+    let atom = f.0 ++ (open_bracket ∷ (zs ++ close_bracket ∷ [])) in
+    let one = slot_begun m.0 atom (slot_add s m.0 f.0 (open_bracket ∷ (zs ++ close_bracket ∷ [])) a f.2 (spells_brackets t) m.1) in
+    let two = frames_begun fs k.0 (atom ++ one.rest) one.term k.3 one.spelt in
+    record {
+      rest = close_bracket ∷ (one.rest ++ two.rest);
+      term = two.term;
+      spelt = subst (λ us. SpellsTerm us two.term) (brackets_begun k.0 f.0 zs ys one.rest two.rest (k.2 ∙ ap (λ vs. k.0 ++ vs) f.1)) two.spelt;
+    }
+frames_begun (on d (arrow_frame b) fs) ys zs a k t =
+    let r = frames_begun fs k.0 (k.1 ++ zs) (written_arrow b a) k.3 (k.4 zs a t) in
+    record { rest = r.rest; term = r.term; spelt = subst (λ us. SpellsTerm us r.term) (frame_begun k.0 k.1 zs r.rest ys k.2) r.spelt }
+frames_begun (on d (product_frame v b) fs) ys zs a k t =
+    let r = frames_begun fs k.0 (k.1 ++ zs) (written_product v b a) k.3 (k.4 zs a t) in
+    record { rest = r.rest; term = r.term; spelt = subst (λ us. SpellsTerm us r.term) (frame_begun k.0 k.1 zs r.rest ys k.2) r.spelt }
+frames_begun (on d (annotated_frame v b) fs) ys zs a k t =
+    let r = frames_begun fs k.0 (k.1 ++ zs) (written_annotated v b a) k.3 (k.4 zs a t) in
+    record { rest = r.rest; term = r.term; spelt = subst (λ us. SpellsTerm us r.term) (frame_begun k.0 k.1 zs r.rest ys k.2) r.spelt }
+
+pub term_begun : (xs : List Terminal) (p : TermPart) → ReachedTerm xs p → (rest : List Terminal) × (a : Written) × SpellsTerm (xs ++ rest) a
+term_begun xs p h =
+    let one = slot_begun p.slot h.here h.slot in
+    let two = frames_begun p.frames h.before (h.here ++ one.rest) one.term h.frames one.spelt in
+    (one.rest ++ two.rest, two.term, subst (λ us. SpellsTerm us two.term) (frame_begun h.before h.here one.rest two.rest xs h.is) two.spelt)

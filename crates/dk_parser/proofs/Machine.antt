@@ -1,5 +1,5 @@
 -- The parts of a command, one terminal after the other.
-use Rattle.std.proofs.Common.{◌≡◌, List, [], ◌∷◌, ◌++◌, refl, sym, ap, ◌∙◌, subst, append_assoc}
+use Rattle.std.proofs.Common.{◌≡◌, ℕ, List, [], ◌∷◌, ◌++◌, refl, sym, ap, ◌∙◌, subst, append_assoc}
 use Rattle.dk_parser.specs.declared.terminal.Terminal.{Terminal}
 use Rattle.dk_parser.specs.Written.{WrittenForm}
 use Rattle.dk_parser.specs.Parsing.{Part, PartStep, goes, ends, refuses, part_next, command_due}
@@ -11,7 +11,7 @@ pub data Run : Type 0 where
   stuck : Run
 
 abbrev pub run_by : PartStep → (Part → Run) → List Terminal → Run
-run_by (goes q) more xs = more q
+run_by (goes made q) more xs = more q
 run_by (ends form) more xs = ended form xs
 run_by refuses more xs = stuck
 
@@ -26,7 +26,7 @@ run_on (ended form xs) ys = ended form (xs ++ ys)
 run_on stuck ys = stuck
 
 run_by_append : (s : PartStep) (xs ys : List Terminal) → ((q : Part) → run q (xs ++ ys) ≡ run_on (run q xs) ys) → run_by s (λ q. run q (xs ++ ys)) (xs ++ ys) ≡ run_on (run_by s (λ q. run q xs) xs) ys
-run_by_append (goes q) xs ys h = h q
+run_by_append (goes made q) xs ys h = h q
 run_by_append (ends form) xs ys h = refl
 run_by_append refuses xs ys h = refl
 
@@ -38,8 +38,8 @@ run_append p (x ∷ xs) ys = run_by_append (part_next p x) xs ys (λ q. run_appe
 pub run_next : (p q : Part) (xs : List Terminal) (x : Terminal) (rest : List Terminal) → run p xs ≡ going q → run p (xs ++ x ∷ rest) ≡ run_by (part_next q x) (λ r. run r rest) rest
 run_next p q xs x rest e = run_append p xs (x ∷ rest) ∙ ap (λ (r : Run). run_on r (x ∷ rest)) e
 
-pub run_goes : (p q r : Part) (xs : List Terminal) (x : Terminal) → run p xs ≡ going q → part_next q x ≡ goes r → run p (xs ++ x ∷ []) ≡ going r
-run_goes p q r xs x e n = run_next p q xs x [] e ∙ ap (λ (s : PartStep). run_by s (λ r. run r []) []) n
+pub run_goes : (p q r : Part) (made : ℕ) (xs : List Terminal) (x : Terminal) → run p xs ≡ going q → part_next q x ≡ goes made r → run p (xs ++ x ∷ []) ≡ going r
+run_goes p q r made xs x e n = run_next p q xs x [] e ∙ ap (λ (s : PartStep). run_by s (λ r. run r []) []) n
 
 no_append : (xs ys : List Terminal) (y : Terminal) → xs ++ y ∷ ys ≡ [] → ⊥
 no_append [] ys y e = cc
@@ -56,45 +56,14 @@ going_before stuck form y ys e = cc
 pub front_goes : (p : Part) (xs : List Terminal) (y : Terminal) (ys : List Terminal) (form : WrittenForm) → run p (xs ++ y ∷ ys) ≡ ended form [] → (q : Part) × (run p xs ≡ going q)
 front_goes p xs y ys form e = going_before (run p xs) form y ys (sym (run_append p xs (y ∷ ys)) ∙ e)
 
--- the last terminal of a list that ends a command
-pub record Last (p : Part) (xs : List Terminal) (form : WrittenForm) : Type 0 where
-  pub front : List Terminal
-  pub last : Terminal
-  pub part : Part
-  pub is : xs ≡ front ++ last ∷ []
-  pub goes_on : run p front ≡ going part
-  pub ends_it : part_next part last ≡ ends form
-
-last_more : (p q : Part) (x : Terminal) (xs : List Terminal) (form : WrittenForm) → part_next p x ≡ goes q → Last q xs form → Last p (x ∷ xs) form
-last_more p q x xs form e l = record {
-  front = x ∷ l.front;
-  last = l.last;
-  part = l.part;
-  is = ap (λ ys. x ∷ ys) l.is;
-  goes_on = ap (λ (s : PartStep). run_by s (λ q. run q l.front) l.front) e ∙ l.goes_on;
-  ends_it = l.ends_it;
-}
-
-last_step : (s : PartStep) (p : Part) (x : Terminal) (xs : List Terminal) (form : WrittenForm) → part_next p x ≡ s → ((q : Part) → run q xs ≡ ended form [] → Last q xs form) → run_by s (λ q. run q xs) xs ≡ ended form [] → Last p (x ∷ xs) form
-last_step (goes q) p x xs form e h r = last_more p q x xs form e (h q r)
-last_step (ends f) p x [] form e h r =
-    let same : f ≡ form = cc in
-    record { front = []; last = x; part = p; is = refl; goes_on = refl; ends_it = e ∙ ap ends same }
-last_step (ends f) p x (y ∷ xs) form e h r = cc
-last_step refuses p x xs form e h r = cc
-
-pub last_of : (p : Part) (xs : List Terminal) (form : WrittenForm) → run p xs ≡ ended form [] → Last p xs form
-last_of p [] form r = cc
-last_of p (x ∷ xs) form r = last_step (part_next p x) p x xs form refl (λ q. last_of q xs form) r
-
 append_nil : (xs : List Terminal) → xs ++ [] ≡ xs
 append_nil [] = refl
 append_nil (x ∷ xs) = ap (λ ys. x ∷ ys) (append_nil xs)
 
 -- a fact of the terminals so far and the part, that each step keeps
-module _ (R : List Terminal → Part → Type 0) (keeps : (xs : List Terminal) (p q : Part) (x : Terminal) → R xs p → part_next p x ≡ goes q → R (xs ++ x ∷ []) q) where
+module _ (R : List Terminal → Part → Type 0) (keeps : (xs : List Terminal) (p q : Part) (made : ℕ) (x : Terminal) → R xs p → part_next p x ≡ goes made q → R (xs ++ x ∷ []) q) where
   follow_by : (s : PartStep) (front : List Terminal) (p : Part) (x : Terminal) (xs : List Terminal) (q : Part) → R front p → part_next p x ≡ s → ((r : Part) → R (front ++ x ∷ []) r → run r xs ≡ going q → R ((front ++ x ∷ []) ++ xs) q) → run_by s (λ r. run r xs) xs ≡ going q → R ((front ++ x ∷ []) ++ xs) q
-  follow_by (goes r) front p x xs q h e more is = more r (keeps front p r x h e) is
+  follow_by (goes made r) front p x xs q h e more is = more r (keeps front p r made x h e) is
   follow_by (ends form) front p x xs q h e more is = cc
   follow_by refuses front p x xs q h e more is = cc
 

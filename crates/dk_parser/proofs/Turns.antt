@@ -13,7 +13,7 @@ use Rattle.dk_parser.specs.declared.terminal.Terminal.{Terminal}
 use Rattle.dk_parser.specs.declared.terminal.Terminal.TheVariants as terminal
 use Rattle.dk_parser.specs.Terminals.{terminal_of}
 use Rattle.dk_parser.specs.Written.{WrittenCommand, written_command}
-use Rattle.dk_parser.specs.Parsing.{Part, PartStep, goes, ends, refuses, part_next, part_level, Parsing, started, Answer, more, command, refused, turn, turn_refused, turn_by_step, turn_by_terminal, turn_by_fault, parsing_from, parsing_after, answered, commands_from}
+use Rattle.dk_parser.specs.Parsing.{Part, PartStep, goes, ends, refuses, part_next, Parsing, started, Answer, more, command, refused, turn, turn_refused, turn_by_step, turn_by_terminal, turn_by_fault, parsing_from, parsing_after, answered, commands_from}
 use Rattle.dk_parser.specs.Reading.{TokenReading, read_tokens, fault_of, GoesOn, AddsCommand, AddsFault, AddsStep, Answers}
 use Rattle.dk_parser.specs.Views.{CameTo}
 
@@ -56,7 +56,7 @@ says_level true s line part e = says_refused s line E04 e
 says_level false s line part e = (e, e, refl)
 
 says_step : (s : Parsing) (line : ℕ) (p : PartStep) → s.fault ≡ None → Says (turn_by_step s line p).answer s (turn_by_step s line p).state
-says_step s line (goes part) e = says_level (nat_lt s.limits.levels (part_level part)) s line part e
+says_step s line (goes made part) e = says_level (nat_lt s.limits.levels made) s line part e
 says_step s line (ends form) e = (e, e, refl)
 says_step s line refuses e = says_refused s line E02 e
 

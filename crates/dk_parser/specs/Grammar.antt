@@ -1,12 +1,12 @@
 -- The grammar: which terminals spell which commands (Dedukti manual, syntax; docs/grammar.md).
-use Rattle.std.specs.Prelude.{◌≡◌, ℕ, List, [], ◌∷◌, ◌++◌, Some, None, map}
+use Rattle.std.specs.Prelude.{◌≡◌, ℕ, List, [], ◌∷◌, ◌++◌, Option, Some, None, map}
 use Rattle.dk_model.specs.declared.signature.SymSort.TheVariants.{Static, Theorem}
 use Rattle.dk_lexer.specs.declared.token.Token.{Token}
 use Rattle.dk_lexer.specs.declared.token.Sign.TheVariants as sign
 use Rattle.dk_parser.specs.declared.terminal.Terminal.{Terminal}
 use Rattle.dk_parser.specs.declared.terminal.Terminal.TheVariants as terminal
 use Rattle.dk_parser.specs.Terminals.{terminal_of}
-use Rattle.dk_parser.specs.Written.{Written, written_name, written_qualified, written_star, written_wild, WrittenForm, written_declare, WrittenCommand}
+use Rattle.dk_parser.specs.Written.{Written, written_name, written_qualified, written_star, written_wild, written_apply, written_arrow, written_product, written_annotated, WrittenForm, written_declare, WrittenCommand}
 
 abbrev pub colon : Terminal
 colon = terminal.Sign sign.Colon
@@ -17,19 +17,44 @@ defined = terminal.Sign sign.Defined
 abbrev pub dot : Terminal
 dot = terminal.Sign sign.Dot
 
+abbrev pub arrow : Terminal
+arrow = terminal.Sign sign.Arrow
+
+abbrev pub double_arrow : Terminal
+double_arrow = terminal.Sign sign.DoubleArrow
+
 abbrev pub open_bracket : Terminal
 open_bracket = terminal.Sign sign.OpenBracket
 
 abbrev pub close_bracket : Terminal
 close_bracket = terminal.Sign sign.CloseBracket
 
--- these terminals spell this term
-pub data SpellsTerm : List Terminal → Written → Type 0 where
-  spells_name : {n : List ℕ} → SpellsTerm (terminal.Name n ∷ []) (written_name n)
-  spells_qualified : {m n : List ℕ} → SpellsTerm (terminal.Qualified m n ∷ []) (written_qualified m n)
-  spells_star : SpellsTerm (terminal.Star ∷ []) written_star
-  spells_wildcard : SpellsTerm (terminal.Wildcard ∷ []) written_wild
-  spells_brackets : {xs : List Terminal} {a : Written} → SpellsTerm xs a → SpellsTerm (open_bracket ∷ (xs ++ close_bracket ∷ [])) a
+-- this terminal spells this binder: a name, or the wildcard, which is None
+pub data SpellsBinder : Terminal → Option (List ℕ) → Type 0 where
+  spells_binder : {n : List ℕ} → SpellsBinder (terminal.Name n) (Some n)
+  spells_no_binder : SpellsBinder terminal.Wildcard None
+
+mutual
+  -- these terminals spell this atom: a name, `Type`, the wildcard, or a term in brackets
+  pub data SpellsAtom : List Terminal → Written → Type 0 where
+    spells_name : {n : List ℕ} → SpellsAtom (terminal.Name n ∷ []) (written_name n)
+    spells_qualified : {m n : List ℕ} → SpellsAtom (terminal.Qualified m n ∷ []) (written_qualified m n)
+    spells_star : SpellsAtom (terminal.Star ∷ []) written_star
+    spells_wildcard : SpellsAtom (terminal.Wildcard ∷ []) written_wild
+    spells_brackets : {xs : List Terminal} {a : Written} → SpellsTerm xs a → SpellsAtom (open_bracket ∷ (xs ++ close_bracket ∷ [])) a
+
+  -- this application: an atom, and the arguments that it is applied to, from the left
+  pub data SpellsApplication : List Terminal → Written → Type 0 where
+    spells_head : {xs : List Terminal} {a : Written} → SpellsAtom xs a → SpellsApplication xs a
+    spells_applied : {xs ys : List Terminal} {f a : Written} → SpellsApplication xs f → SpellsAtom ys a → SpellsApplication (xs ++ ys) (written_apply f a)
+
+  -- this term: an application, `A -> B`, `x : A -> B`, `(x : A) -> B` or `x : A => t`
+  pub data SpellsTerm : List Terminal → Written → Type 0 where
+    spells_application : {xs : List Terminal} {a : Written} → SpellsApplication xs a → SpellsTerm xs a
+    spells_arrow : {xs ys : List Terminal} {a b : Written} → SpellsApplication xs a → SpellsTerm ys b → SpellsTerm (xs ++ arrow ∷ ys) (written_arrow a b)
+    spells_product : {x : Terminal} {v : Option (List ℕ)} {xs ys : List Terminal} {a b : Written} → SpellsBinder x v → SpellsApplication xs a → SpellsTerm ys b → SpellsTerm (x ∷ colon ∷ (xs ++ arrow ∷ ys)) (written_product v a b)
+    spells_bracketed_product : {x : Terminal} {v : Option (List ℕ)} {xs ys : List Terminal} {a b : Written} → SpellsBinder x v → SpellsApplication xs a → SpellsTerm ys b → SpellsTerm (open_bracket ∷ x ∷ colon ∷ (xs ++ close_bracket ∷ arrow ∷ ys)) (written_product v a b)
+    spells_annotated : {x : Terminal} {v : Option (List ℕ)} {xs ys : List Terminal} {a b : Written} → SpellsBinder x v → SpellsApplication xs a → SpellsTerm ys b → SpellsTerm (x ∷ colon ∷ (xs ++ double_arrow ∷ ys)) (written_annotated v a b)
 
 -- these terminals spell this command: a declaration, or a theorem
 pub data SpellsForm : List Terminal → WrittenForm → Type 0 where

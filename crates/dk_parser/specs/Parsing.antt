@@ -1,5 +1,5 @@
 -- What the parser has made of the tokens so far. `Reading` has its meaning.
-use Rattle.std.specs.Prelude.{ℕ, ◌+◌, ◌-◌, List, [], ◌∷◌, ◌++◌, Option, Some, None, unwrap_or, if◌then◌else◌, ◌==◌, nat_lt}
+use Rattle.std.specs.Prelude.{ℕ, ◌+◌, Bool, true, false, List, [], ◌∷◌, ◌++◌, Option, Some, None, max, unwrap_or, if◌then◌else◌, nat_lt}
 use Rattle.dk_model.specs.declared.code.Code.{Code}
 use Rattle.dk_model.specs.declared.code.Code.TheVariants.{E02, E04, E06}
 use Rattle.dk_model.specs.declared.limits.Limits.{Limits}
@@ -10,33 +10,179 @@ use Rattle.dk_lexer.specs.declared.token.Sign.TheVariants as sign
 use Rattle.dk_parser.specs.declared.terminal.Terminal.{Terminal}
 use Rattle.dk_parser.specs.declared.terminal.Terminal.TheVariants as terminal
 use Rattle.dk_parser.specs.Terminals.{terminal_of}
-use Rattle.dk_parser.specs.Written.{Written, written_name, written_qualified, written_star, written_wild, WrittenForm, written_declare, WrittenCommand}
+use Rattle.dk_parser.specs.Written.{Written, written_name, written_qualified, written_star, written_wild, written_apply, written_arrow, written_product, written_annotated, WrittenForm, written_declare, WrittenCommand}
 
--- a term that has begun: so many brackets are open before one that is due, or around one that was read
-pub data TermPart : Type 0 where
-  term_due : ℕ → TermPart
-  term_read : ℕ → Written → TermPart
+-- where an application stands: at the front of a term, or as the domain of a binder
+pub data Place : Type 0 where
+  at_front : Place
+  domain : Option (List ℕ) → Place
 
-abbrev pub term_closed : ℕ → Written → Option TermPart
-term_closed depth a = if nat_lt 0 depth then Some (term_read (depth - 1) a) else None
+-- what has been read of an application and what stands before it: nothing; a binder or else a first atom; some atoms;
+-- or a binder and its domain in brackets, behind which an arrow is due
+pub data Slot : Type 0 where
+  due : Place → Slot
+  bindable : Option (List ℕ) → Slot
+  applied : Place → Written → ℕ → Slot
+  bracketed : Option (List ℕ) → Written → Slot
 
+-- what waits for a term: a bracket, `A ->`, `x : A ->` or `x : A =>`
+pub data Frame : Type 0 where
+  bracket_frame : Slot → Frame
+  arrow_frame : Written → Frame
+  product_frame : Option (List ℕ) → Written → Frame
+  annotated_frame : Option (List ℕ) → Written → Frame
+
+-- the innermost first, each with the number of frames from it on
+pub data Frames : Type 0 where
+  bottom : Frames
+  on : ℕ → Frame → Frames → Frames
+
+-- a term that has begun
+pub record TermPart : Type 0 where
+  pub frames : Frames
+  pub slot : Slot
+
+abbrev pub term_due : TermPart
+term_due = record { frames = bottom; slot = due at_front }
+
+abbrev pub depth : Frames → ℕ
+depth bottom = 0
+depth (on d f fs) = d
+
+abbrev pub pushed : Frame → Frames → Frames
+pushed f fs = on (depth fs + 1) f fs
+
+-- a binder read as a term
+abbrev pub binder_term : Option (List ℕ) → Written
+binder_term None = written_wild
+binder_term (Some n) = written_name n
+
+abbrev pub atoms : Slot → ℕ
+atoms (due place) = 0
+atoms (bindable v) = 1
+atoms (applied place a n) = n
+atoms (bracketed v a) = 1
+
+-- one atom more
+abbrev pub slot_more : Slot → Written → Option Slot
+slot_more (due place) a = Some (applied place a 1)
+slot_more (bindable v) a = Some (applied at_front (written_apply (binder_term v) a) 2)
+slot_more (applied place f n) a = Some (applied place (written_apply f a) (n + 1))
+slot_more (bracketed v b) a = None
+
+-- one name or wildcard more
+abbrev pub slot_binder : Slot → Option (List ℕ) → Option Slot
+slot_binder (due at_front) v = Some (bindable v)
+slot_binder slot v = slot_more slot (binder_term v)
+
+-- may an atom stand here
+abbrev pub takes_atom : Slot → Bool
+takes_atom (bracketed v a) = false
+takes_atom slot = true
+
+-- the application, where a term may end behind it
+abbrev pub slot_term : Slot → Option Written
+slot_term (bindable v) = Some (binder_term v)
+slot_term (applied at_front a n) = Some a
+slot_term slot = None
+
+abbrev pub in_frames : Frames → Option Slot → Option TermPart
+in_frames fs None = None
+in_frames fs (Some slot) = Some (record { frames = fs; slot = slot })
+
+-- a term in its frame: a longer term, or the last one in a bracket that stands behind this slot
+pub data Around : Type 0 where
+  around_term : Written → Around
+  around_bracket : Slot → Written → Around
+
+abbrev pub around : Frame → Written → Around
+around (bracket_frame slot) a = around_bracket slot a
+around (arrow_frame b) a = around_term (written_arrow b a)
+around (product_frame v b) a = around_term (written_product v b a)
+around (annotated_frame v b) a = around_term (written_annotated v b a)
+
+abbrev pub unwound_by : Around → (Written → Option TermPart) → Frames → Option TermPart
+unwound_by (around_term t) more fs = more t
+unwound_by (around_bracket slot a) more fs = in_frames fs (slot_more slot a)
+
+-- the bracket closes behind this term
+abbrev pub unwound : Frames → Written → Option TermPart
+unwound bottom a = None
+unwound (on d f fs) a = unwound_by (around f a) (λ t. unwound fs t) fs
+
+abbrev pub unwound_all_by : Around → (Written → Option Written) → Option Written
+unwound_all_by (around_term t) more = more t
+unwound_all_by (around_bracket slot a) more = None
+
+-- the whole term ends behind this one
+abbrev pub unwound_all : Frames → Written → Option Written
+unwound_all bottom a = Some a
+unwound_all (on d f fs) a = unwound_all_by (around f a) (λ t. unwound_all fs t)
+
+abbrev pub next_open : Bool → Frames → Slot → Option TermPart
+next_open true fs slot = Some (record { frames = pushed (bracket_frame slot) fs; slot = due at_front })
+next_open false fs slot = None
+
+abbrev pub next_close_term : Frames → Option Written → Option TermPart
+next_close_term fs None = None
+next_close_term fs (Some a) = unwound fs a
+
+-- `(x : A)`, which stands at the front of a term
+abbrev pub next_close_domain : Frames → Option (List ℕ) → Written → Option TermPart
+next_close_domain (on d (bracket_frame (due at_front)) fs) v a = Some (record { frames = fs; slot = bracketed v a })
+next_close_domain fs v a = None
+
+abbrev pub next_close : Frames → Slot → Option TermPart
+next_close fs (applied (domain v) a n) = next_close_domain fs v a
+next_close fs slot = next_close_term fs (slot_term slot)
+
+abbrev pub next_colon : Frames → Slot → Option TermPart
+next_colon fs (bindable v) = Some (record { frames = fs; slot = due (domain v) })
+next_colon fs slot = None
+
+abbrev pub framed : Frame → Frames → Option TermPart
+framed f fs = Some (record { frames = pushed f fs; slot = due at_front })
+
+abbrev pub next_arrow : Frames → Slot → Option TermPart
+next_arrow fs (bindable v) = framed (arrow_frame (binder_term v)) fs
+next_arrow fs (applied at_front a n) = framed (arrow_frame a) fs
+next_arrow fs (applied (domain v) a n) = framed (product_frame v a) fs
+next_arrow fs (bracketed v a) = framed (product_frame v a) fs
+next_arrow fs (due place) = None
+
+abbrev pub next_double_arrow : Frames → Slot → Option TermPart
+next_double_arrow fs (applied (domain v) a n) = framed (annotated_frame v a) fs
+next_double_arrow fs slot = None
+
+-- the term with one terminal more
 abbrev pub term_next : TermPart → Terminal → Option TermPart
-term_next (term_due depth) (terminal.Name n) = Some (term_read depth (written_name n))
-term_next (term_due depth) (terminal.Qualified m n) = Some (term_read depth (written_qualified m n))
-term_next (term_due depth) terminal.Star = Some (term_read depth written_star)
-term_next (term_due depth) terminal.Wildcard = Some (term_read depth written_wild)
-term_next (term_due depth) (terminal.Sign sign.OpenBracket) = Some (term_due (depth + 1))
-term_next (term_read depth a) (terminal.Sign sign.CloseBracket) = term_closed depth a
-term_next part x = None
+term_next p (terminal.Name n) = in_frames p.frames (slot_binder p.slot (Some n))
+term_next p terminal.Wildcard = in_frames p.frames (slot_binder p.slot None)
+term_next p (terminal.Qualified m n) = in_frames p.frames (slot_more p.slot (written_qualified m n))
+term_next p terminal.Star = in_frames p.frames (slot_more p.slot written_star)
+term_next p (terminal.Sign sign.OpenBracket) = next_open (takes_atom p.slot) p.frames p.slot
+term_next p (terminal.Sign sign.CloseBracket) = next_close p.frames p.slot
+term_next p (terminal.Sign sign.Colon) = next_colon p.frames p.slot
+term_next p (terminal.Sign sign.Arrow) = next_arrow p.frames p.slot
+term_next p (terminal.Sign sign.DoubleArrow) = next_double_arrow p.frames p.slot
+term_next p x = None
+
+-- the number of the argument that a terminal begins
+abbrev pub term_argument : TermPart → Terminal → ℕ
+term_argument p (terminal.Name n) = atoms p.slot
+term_argument p terminal.Wildcard = atoms p.slot
+term_argument p (terminal.Qualified m n) = atoms p.slot
+term_argument p terminal.Star = atoms p.slot
+term_argument p (terminal.Sign sign.OpenBracket) = atoms p.slot
+term_argument p x = 0
+
+abbrev pub slot_ended : Frames → Option Written → Option Written
+slot_ended fs None = None
+slot_ended fs (Some a) = unwound_all fs a
 
 -- the term, where it may end here
 abbrev pub term_done : TermPart → Option Written
-term_done (term_due depth) = None
-term_done (term_read depth a) = if depth == 0 then Some a else None
-
-abbrev pub term_level : TermPart → ℕ
-term_level (term_due depth) = depth
-term_level (term_read depth a) = depth
+term_done p = slot_ended p.frames (slot_term p.slot)
 
 -- a command that has begun, by what is due next
 pub data Part : Type 0 where
@@ -46,14 +192,15 @@ pub data Part : Type 0 where
   in_type : SymSort → List ℕ → TermPart → Part
   in_body : List ℕ → Written → TermPart → Part
 
+-- what a terminal makes of it: a command that goes on, and the load of the terminal; a command; or nothing
 pub data PartStep : Type 0 where
-  goes : Part → PartStep
+  goes : ℕ → Part → PartStep
   ends : WrittenForm → PartStep
   refuses : PartStep
 
-abbrev pub type_goes : SymSort → List ℕ → Option TermPart → PartStep
-type_goes sort name None = refuses
-type_goes sort name (Some part) = goes (in_type sort name part)
+abbrev pub type_goes : SymSort → List ℕ → ℕ → Option TermPart → PartStep
+type_goes sort name argument None = refuses
+type_goes sort name argument (Some part) = goes (max (depth part.frames) argument) (in_type sort name part)
 
 abbrev pub type_ends : List ℕ → Option Written → PartStep
 type_ends name None = refuses
@@ -61,16 +208,16 @@ type_ends name (Some a) = ends (written_declare Static name [] (Some a) None)
 
 abbrev pub body_begins : List ℕ → Option Written → PartStep
 body_begins name None = refuses
-body_begins name (Some a) = goes (in_body name a (term_due 0))
+body_begins name (Some a) = goes 0 (in_body name a term_due)
 
 abbrev pub type_next : SymSort → List ℕ → TermPart → Terminal → PartStep
 type_next Static name part (terminal.Sign sign.Dot) = type_ends name (term_done part)
 type_next Theorem name part (terminal.Sign sign.Defined) = body_begins name (term_done part)
-type_next sort name part x = type_goes sort name (term_next part x)
+type_next sort name part x = type_goes sort name (term_argument part x) (term_next part x)
 
-abbrev pub body_goes : List ℕ → Written → Option TermPart → PartStep
-body_goes name a None = refuses
-body_goes name a (Some part) = goes (in_body name a part)
+abbrev pub body_goes : List ℕ → Written → ℕ → Option TermPart → PartStep
+body_goes name a argument None = refuses
+body_goes name a argument (Some part) = goes (max (depth part.frames) argument) (in_body name a part)
 
 abbrev pub body_ends : List ℕ → Written → Option Written → PartStep
 body_ends name a None = refuses
@@ -78,21 +225,16 @@ body_ends name a (Some b) = ends (written_declare Theorem name [] (Some a) (Some
 
 abbrev pub body_next : List ℕ → Written → TermPart → Terminal → PartStep
 body_next name a part (terminal.Sign sign.Dot) = body_ends name a (term_done part)
-body_next name a part x = body_goes name a (term_next part x)
+body_next name a part x = body_goes name a (term_argument part x) (term_next part x)
 
 abbrev pub part_next : Part → Terminal → PartStep
-part_next command_due (terminal.Name n) = goes (colon_due Static n)
-part_next command_due terminal.Thm = goes name_due
-part_next name_due (terminal.Name n) = goes (colon_due Theorem n)
-part_next (colon_due sort name) (terminal.Sign sign.Colon) = goes (in_type sort name (term_due 0))
+part_next command_due (terminal.Name n) = goes 0 (colon_due Static n)
+part_next command_due terminal.Thm = goes 0 name_due
+part_next name_due (terminal.Name n) = goes 0 (colon_due Theorem n)
+part_next (colon_due sort name) (terminal.Sign sign.Colon) = goes 0 (in_type sort name term_due)
 part_next (in_type sort name part) x = type_next sort name part x
 part_next (in_body name a part) x = body_next name a part x
 part_next part x = refuses
-
-abbrev pub part_level : Part → ℕ
-part_level (in_type sort name part) = term_level part
-part_level (in_body name a part) = term_level part
-part_level part = 0
 
 -- the line of the first token of the command that has begun, and the fault
 pub record Parsing : Type 0 where
@@ -117,8 +259,8 @@ abbrev pub turn_refused : Parsing → ℕ → Code → Turn
 turn_refused s line code = record { state = record s { begun = Some line; part = command_due; fault = Some code }; answer = refused code }
 
 abbrev pub turn_by_step : Parsing → ℕ → PartStep → Turn
-turn_by_step s line (goes part) =
-    if nat_lt s.limits.levels (part_level part) then turn_refused s line E04
+turn_by_step s line (goes made part) =
+    if nat_lt s.limits.levels made then turn_refused s line E04
     else record { state = record s { begun = Some line; part = part }; answer = more }
 turn_by_step s line (ends form) = record { state = record s { begun = None; part = command_due }; answer = command record { line = line; form = form } }
 turn_by_step s line refuses = turn_refused s line E02

@@ -14,14 +14,14 @@ use Rattle.dk_parser.specs.declared.terminal.Terminal.TheVariants as terminal
 use Rattle.dk_parser.specs.Terminals.{terminal_of}
 use Rattle.dk_parser.specs.Written.{WrittenCommand, written_command}
 use Rattle.dk_parser.specs.Grammar.{terminals, first_line, Spells, Begins, IsBegun}
-use Rattle.dk_parser.specs.Levels.{level, IsWithin}
+use Rattle.dk_parser.specs.Levels.{load, IsWithin}
 use Rattle.dk_parser.specs.Parsing.{Parsing, started, parsing_after, commands_from}
 
--- a terminal is at fault behind a front of a command: a word outside the profile, else one with which no command begins, else one above the last level
+-- a terminal is at fault behind a front of a command: a word outside the profile, else one with which no command begins, else one that makes a level or an argument above the limit
 abbrev pub IsFault : Limits → List Terminal → Terminal → Code → Type 0
 IsFault limits front x E06 = x ≡ terminal.Profile
 IsFault limits front x E02 = ¬ (x ≡ terminal.Profile) × ¬ Begins (front ++ x ∷ [])
-IsFault limits front x E04 = Begins (front ++ x ∷ []) × (limits.levels < level (front ++ x ∷ []))
+IsFault limits front x E04 = Begins (front ++ x ∷ []) × (limits.levels < load front x)
 IsFault limits front x code = ⊥
 
 -- these tokens begin a command that isn't ended, and none of them is at fault

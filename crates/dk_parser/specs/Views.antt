@@ -2,8 +2,17 @@
 use Rattle.std.specs.Prelude.{◌≡◌, Result, Ok, Err}
 use Rattle.dk_model.specs.declared.code.Fault.{Fault}
 use Rattle.dk_model.specs.declared.code.Fault.TheVariants as fault
+use Rattle.dk_parser.specs.declared.frames.Place.{Place}
+use Rattle.dk_parser.specs.declared.frames.Place.TheVariants as place
+use Rattle.dk_parser.specs.declared.frames.Slot.{Slot}
+use Rattle.dk_parser.specs.declared.frames.Slot.TheVariants as slot
+use Rattle.dk_parser.specs.declared.frames.Frame.{Frame}
+use Rattle.dk_parser.specs.declared.frames.Frame.TheVariants as frame
+use Rattle.dk_parser.specs.declared.frames.Around.{Around}
+use Rattle.dk_parser.specs.declared.frames.Around.TheVariants as around
+use Rattle.dk_parser.specs.declared.frames.Frames.{Frames, On'}
+use Rattle.dk_parser.specs.declared.frames.Frames.TheVariants.{Bottom}
 use Rattle.dk_parser.specs.declared.term_part.TermPart.{TermPart}
-use Rattle.dk_parser.specs.declared.term_part.TermPart.TheVariants as term
 use Rattle.dk_parser.specs.declared.part.Part.{Part}
 use Rattle.dk_parser.specs.declared.part.Part.TheVariants as part
 use Rattle.dk_parser.specs.declared.part.PartStep.{PartStep}
@@ -14,9 +23,32 @@ use Rattle.dk_parser.specs.declared.parser.Step.TheVariants as step
 use Rattle.dk_parser.specs.Written.{written, written_form, written_command}
 use Rattle.dk_parser.specs.Parsing as plain
 
+abbrev pub plain_place : Place → plain.Place
+plain_place place.Front = plain.at_front
+plain_place (place.Domain v) = plain.domain v
+
+abbrev pub plain_slot : Slot → plain.Slot
+plain_slot (slot.Due p) = plain.due (plain_place p)
+plain_slot (slot.Bindable v) = plain.bindable v
+plain_slot (slot.Applied p a n) = plain.applied (plain_place p) (written a) n
+plain_slot (slot.Bracketed v a) = plain.bracketed v (written a)
+
+abbrev pub plain_frame : Frame → plain.Frame
+plain_frame (frame.Bracket s) = plain.bracket_frame (plain_slot s)
+plain_frame (frame.Arrow a) = plain.arrow_frame (written a)
+plain_frame (frame.Product v a) = plain.product_frame v (written a)
+plain_frame (frame.Annotated v a) = plain.annotated_frame v (written a)
+
+abbrev pub plain_around : Around → plain.Around
+plain_around (around.Term a) = plain.around_term (written a)
+plain_around (around.Bracket s a) = plain.around_bracket (plain_slot s) (written a)
+
+abbrev pub plain_frames : Frames → plain.Frames
+plain_frames Bottom = plain.bottom
+plain_frames (On' d f p fs) = plain.on d (plain_frame f) (plain_frames fs)
+
 abbrev pub plain_term : TermPart → plain.TermPart
-plain_term (term.Due depth) = plain.term_due depth
-plain_term (term.Read depth a) = plain.term_read depth (written a)
+plain_term t = record { frames = plain_frames t.frames; slot = plain_slot t.slot }
 
 abbrev pub plain_part : Part → plain.Part
 plain_part part.CommandDue = plain.command_due
@@ -26,7 +58,7 @@ plain_part (part.InType sort name p) = plain.in_type sort name (plain_term p)
 plain_part (part.InBody name a p) = plain.in_body name (written a) (plain_term p)
 
 abbrev pub plain_step : PartStep → plain.PartStep
-plain_step (part_step.Goes p) = plain.goes (plain_part p)
+plain_step (part_step.Goes made p) = plain.goes made (plain_part p)
 plain_step (part_step.Ends form) = plain.ends (written_form form)
 plain_step part_step.Refuses = plain.refuses
 

@@ -3,6 +3,7 @@
 //! Begin at `Parser`. The meaning is in specs/Grammar.antt and specs/Reading.antt (docs/grammar.md).
 #![tactic(auto)]
 
+mod frames;
 mod laws;
 mod parser;
 mod part;

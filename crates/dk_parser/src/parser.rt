@@ -97,20 +97,22 @@ impl Parser {
         }
         let line = self.begun.unwrap_or(token.line);
         let x = Terminal::of(alloc, token)?;
-        let part = replace(&mut self.part, Part::CommandDue);
-        if let Terminal::Profile = x {
-            return self.refuse(line, Code::E06);
+        match x {
+            Terminal::Profile => self.refuse(line, Code::E06),
+            x => {
+                let part = replace(&mut self.part, Part::CommandDue);
+                let step = part.next(alloc, x)?;
+                self.step(line, step)
+            }
         }
-        let step = part.next(alloc, x)?;
-        self.step(line, step)
     }
 
     fn step(&mut self, line: u32, step: PartStep) -> Result<Step, Fault>
         ensures { CameTo (turn_by_step (parsing self.old) line (plain_step step)) result (parsing self.new) }
     {
         match step {
-            PartStep::Goes(part) => {
-                if part.level() > self.limits.levels as u64 {
+            PartStep::Goes(made, part) => {
+                if made > self.limits.levels as u64 {
                     self.refuse(line, Code::E04)
                 } else {
                     self.go_on(line, part)
@@ -126,7 +128,7 @@ impl Parser {
         ensures after { self.new ≡ record self.old { begun = Some line; part = part } }
     {
         self.begun = Some(line);
-        self.part = part;
+        drop(replace(&mut self.part, part));
         Ok(Step::More)
     }
 
@@ -135,7 +137,7 @@ impl Parser {
         ensures after { self.new ≡ record self.old { begun = None; part = Part.CommandDue } }
     {
         self.begun = None;
-        self.part = Part::CommandDue;
+        drop(replace(&mut self.part, Part::CommandDue));
         Ok(Step::Command(Raw { line, form }))
     }
 
@@ -145,7 +147,7 @@ impl Parser {
             ≡ record self.old { begun = Some line; part = Part.CommandDue; fault = Some code } }
     {
         self.begun = Some(line);
-        self.part = Part::CommandDue;
+        drop(replace(&mut self.part, Part::CommandDue));
         self.fault = Some(code);
         Err(Fault::Refused(code))
     }

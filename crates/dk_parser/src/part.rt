@@ -1,6 +1,6 @@
 //! Commands, one terminal at a time.
 ghost use Rattle.std.specs.Prelude.{◌≡◌, [], IfOk};
-ghost use Rattle.dk_parser.specs.Parsing.{body_next, part_level, part_next, type_next};
+ghost use Rattle.dk_parser.specs.Parsing.{body_next, part_next, type_next};
 ghost use Rattle.dk_parser.specs.Views.{plain_part, plain_step, plain_term};
 ghost use Rattle.dk_parser.specs.Written.{maybe_written, written, written_declare, written_form};
 
@@ -29,7 +29,9 @@ pub enum Part {
 /// What a terminal makes of a command that has begun.
 #[derive(Drop)]
 pub enum PartStep {
-    Goes(Part),
+    /// It goes on. The level that the terminal stands on, or the number of the argument that it
+    /// begins, whichever is greater.
+    Goes(u64, Part),
     Ends(RawForm),
     /// No command begins so.
     Refuses,
@@ -42,29 +44,22 @@ impl Part {
     {
         match (self, x) {
             (Part::CommandDue, Terminal::Name(name)) => {
-                Ok(PartStep::Goes(Part::ColonDue(SymSort::Static, name)))
+                Ok(PartStep::Goes(0, Part::ColonDue(SymSort::Static, name)))
             }
-            (Part::CommandDue, Terminal::Thm) => Ok(PartStep::Goes(Part::NameDue)),
+            (Part::CommandDue, Terminal::Thm) => Ok(PartStep::Goes(0, Part::NameDue)),
             (Part::NameDue, Terminal::Name(name)) => {
-                Ok(PartStep::Goes(Part::ColonDue(SymSort::Theorem, name)))
+                Ok(PartStep::Goes(0, Part::ColonDue(SymSort::Theorem, name)))
             }
             (Part::ColonDue(sort, name), Terminal::Sign(Sign::Colon)) => {
-                Ok(PartStep::Goes(Part::InType(sort, name, TermPart::Due(0))))
+                Ok(PartStep::Goes(0, Part::InType(sort, name, TermPart::new())))
             }
             (Part::InType(sort, name, part), x) => type_next(alloc, sort, name, part, x),
             (Part::InBody(name, typ, part), x) => body_next(alloc, name, typ, part, x),
-            _ => Ok(PartStep::Refuses),
-        }
-    }
-
-    /// The level of the last terminal.
-    pub fn level(&self) -> u64
-        ensures { result ≡ part_level (plain_part self.now) }
-    {
-        match self {
-            Part::InType(_, _, part) => part.level(),
-            Part::InBody(_, _, part) => part.level(),
-            _ => 0,
+            (part, x) => {
+                drop(part);
+                drop(x);
+                Ok(PartStep::Refuses)
+            }
         }
     }
 }
@@ -79,18 +74,24 @@ fn type_next(
     ensures { IfOk result (λ step. plain_step step ≡ type_next sort name (plain_term part) x) }
 {
     match (sort, x) {
-        (SymSort::Static, Terminal::Sign(Sign::Dot)) => match part.done() {
+        (SymSort::Static, Terminal::Sign(Sign::Dot)) => match part.done(alloc)? {
             Some(typ) => Ok(PartStep::Ends(declared(alloc, SymSort::Static, name, typ, None))),
             None => Ok(PartStep::Refuses),
         },
-        (SymSort::Theorem, Terminal::Sign(Sign::Defined)) => match part.done() {
-            Some(typ) => Ok(PartStep::Goes(Part::InBody(name, typ, TermPart::Due(0)))),
+        (SymSort::Theorem, Terminal::Sign(Sign::Defined)) => match part.done(alloc)? {
+            Some(typ) => Ok(PartStep::Goes(0, Part::InBody(name, typ, TermPart::new()))),
             None => Ok(PartStep::Refuses),
         },
-        (sort, x) => match part.next(x)? {
-            Some(part) => Ok(PartStep::Goes(Part::InType(sort, name, part))),
-            None => Ok(PartStep::Refuses),
-        },
+        (sort, x) => {
+            let argument = part.argument(&x);
+            match part.next(alloc, x)? {
+                Some(part) => Ok(PartStep::Goes(
+                    part.frames.depth().max(argument),
+                    Part::InType(sort, name, part),
+                )),
+                None => Ok(PartStep::Refuses),
+            }
+        }
     }
 }
 
@@ -104,20 +105,40 @@ fn body_next(
     ensures { IfOk result (λ step. plain_step step ≡ body_next name (written typ) (plain_term part) x) }
 {
     match x {
-        Terminal::Sign(Sign::Dot) => match part.done() {
-            Some(body) => Ok(PartStep::Ends(declared(
+        Terminal::Sign(Sign::Dot) => match part.done(alloc) {
+            Ok(Some(body)) => Ok(PartStep::Ends(declared(
                 alloc,
                 SymSort::Theorem,
                 name,
                 typ,
                 Some(body),
             ))),
-            None => Ok(PartStep::Refuses),
+            Ok(None) => {
+                drop(typ);
+                Ok(PartStep::Refuses)
+            }
+            Err(e) => {
+                drop(typ);
+                Err(e)
+            }
         },
-        x => match part.next(x)? {
-            Some(part) => Ok(PartStep::Goes(Part::InBody(name, typ, part))),
-            None => Ok(PartStep::Refuses),
-        },
+        x => {
+            let argument = part.argument(&x);
+            match part.next(alloc, x) {
+                Ok(Some(part)) => Ok(PartStep::Goes(
+                    part.frames.depth().max(argument),
+                    Part::InBody(name, typ, part),
+                )),
+                Ok(None) => {
+                    drop(typ);
+                    Ok(PartStep::Refuses)
+                }
+                Err(e) => {
+                    drop(typ);
+                    Err(e)
+                }
+            }
+        }
     }
 }
 

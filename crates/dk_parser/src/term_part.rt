@@ -1,76 +1,200 @@
 //! Terms, one terminal at a time.
 ghost use Rattle.std.specs.Prelude.{◌≡◌, IfOk, option_map};
-ghost use Rattle.dk_parser.specs.Parsing.{term_done, term_level, term_next};
-ghost use Rattle.dk_parser.specs.Views.{plain_term};
-ghost use Rattle.dk_parser.specs.Written.{maybe_written};
+ghost use Rattle.dk_parser.specs.Parsing.{framed, next_arrow, next_close, next_close_domain, next_colon, next_double_arrow, next_open, takes_atom, term_argument, term_done, term_due, term_next};
+ghost use Rattle.dk_parser.specs.Views.{plain_frame, plain_frames, plain_slot, plain_term};
+ghost use Rattle.dk_parser.specs.Written.{maybe_written, written};
 
 use crate::RawTerm;
+use crate::frames::{Frame, Frames, Place, Slot, atom_more, binder_more, binder_term};
 use crate::terminal::Terminal;
 use dk_lexer::Sign;
-use dk_model::NoMemory;
+use dk_model::{Listed, NoMemory};
+use std::alloc::Global;
 
 /// A term that has begun.
 #[derive(Drop)]
-pub enum TermPart {
-    /// So many brackets are open, and a term is due.
-    Due(u64),
-    /// So many brackets are open around a term.
-    Read(u64, RawTerm),
+pub struct TermPart {
+    pub frames: Frames,
+    pub slot: Slot,
 }
 
 impl TermPart {
+    /// Before the first terminal.
+    pub fn new() -> TermPart
+        ensures { plain_term result ≡ term_due }
+    {
+        TermPart {
+            frames: Frames::Bottom,
+            slot: Slot::Due(Place::Front),
+        }
+    }
+
+    /// The number of the argument that a terminal begins, from 1; 0 where it begins none.
+    pub fn argument(&self, x: &Terminal) -> u64
+        ensures { result ≡ term_argument (plain_term self.now) x.now }
+    {
+        match x {
+            Terminal::Name(_) => self.slot.atoms(),
+            Terminal::Wildcard => self.slot.atoms(),
+            Terminal::Qualified(_, _) => self.slot.atoms(),
+            Terminal::Star => self.slot.atoms(),
+            Terminal::Sign(Sign::OpenBracket) => self.slot.atoms(),
+            _ => 0,
+        }
+    }
+
     /// Takes a terminal, or answers None where the term can't go on so.
-    pub fn next(self, x: Terminal) -> Result<Option<TermPart>, NoMemory>
+    pub fn next(self, alloc: Global, x: Terminal) -> Result<Option<TermPart>, NoMemory>
         ensures { IfOk result (λ next. option_map plain_term next ≡ term_next (plain_term self) x) }
     {
-        match (self, x) {
-            (TermPart::Due(depth), Terminal::Name(n)) => {
-                Ok(Some(TermPart::Read(depth, RawTerm::Name(n))))
+        let TermPart { frames, slot } = self;
+        match x {
+            Terminal::Name(n) => binder_more(alloc, frames, slot, Some(n)),
+            Terminal::Wildcard => binder_more(alloc, frames, slot, None),
+            Terminal::Qualified(m, n) => {
+                atom_more(alloc, frames, slot, RawTerm::Qualified(m, n))
             }
-            (TermPart::Due(depth), Terminal::Qualified(m, n)) => {
-                Ok(Some(TermPart::Read(depth, RawTerm::Qualified(m, n))))
+            Terminal::Star => atom_more(alloc, frames, slot, RawTerm::Star),
+            Terminal::Sign(Sign::OpenBracket) => open(alloc, frames, slot),
+            Terminal::Sign(Sign::CloseBracket) => close(alloc, frames, slot),
+            Terminal::Sign(Sign::Colon) => Ok(colon(frames, slot)),
+            Terminal::Sign(Sign::Arrow) => arrow(alloc, frames, slot),
+            Terminal::Sign(Sign::DoubleArrow) => double_arrow(alloc, frames, slot),
+            x => {
+                drop(x);
+                drop(slot);
+                drop(frames);
+                Ok(None)
             }
-            (TermPart::Due(depth), Terminal::Star) => Ok(Some(TermPart::Read(
-                depth,
-                RawTerm::Star,
-            ))),
-            (TermPart::Due(depth), Terminal::Wildcard) => {
-                Ok(Some(TermPart::Read(depth, RawTerm::Wild)))
-            }
-            (TermPart::Due(depth), Terminal::Sign(Sign::OpenBracket)) => {
-                match depth.checked_add(1) {
-                    Some(depth) => Ok(Some(TermPart::Due(depth))),
-                    None => Err(NoMemory),
-                }
-            }
-            (TermPart::Read(depth, a), Terminal::Sign(Sign::CloseBracket)) => {
-                if depth > 0 {
-                    Ok(Some(TermPart::Read(depth - 1, a)))
-                } else {
-                    Ok(None)
-                }
-            }
-            _ => Ok(None),
         }
     }
 
     /// The term, where it may end here.
-    pub fn done(self) -> Option<RawTerm>
-        ensures { maybe_written result ≡ term_done (plain_term self) }
+    pub fn done(self, alloc: Global) -> Result<Option<RawTerm>, NoMemory>
+        ensures { IfOk result (λ term. maybe_written term ≡ term_done (plain_term self)) }
     {
-        match self {
-            TermPart::Read(0, a) => Some(a),
-            _ => None,
+        let TermPart { frames, slot } = self;
+        match slot.term() {
+            Some(a) => frames.unwind_all(alloc, a),
+            None => {
+                drop(frames);
+                Ok(None)
+            }
         }
     }
+}
 
-    /// The level of the last terminal.
-    pub fn level(&self) -> u64
-        ensures { result ≡ term_level (plain_term self.now) }
-    {
-        match self {
-            TermPart::Due(depth) => *depth,
-            TermPart::Read(depth, _) => *depth,
+// Puts a frame on; a term is due in it.
+fn framed(alloc: Global, frame: Frame, frames: Frames) -> Result<Option<TermPart>, NoMemory>
+    ensures { IfOk result (λ next. option_map plain_term next ≡ framed (plain_frame frame) (plain_frames frames)) }
+{
+    Ok(Some(TermPart {
+        frames: frames.push(alloc, frame)?,
+        slot: Slot::Due(Place::Front),
+    }))
+}
+
+fn open(alloc: Global, frames: Frames, slot: Slot) -> Result<Option<TermPart>, NoMemory>
+    ensures { IfOk result (λ next. option_map plain_term next
+        ≡ next_open (takes_atom (plain_slot slot)) (plain_frames frames) (plain_slot slot)) }
+{
+    if slot.takes_atom() {
+        framed(alloc, Frame::Bracket(slot), frames)
+    } else {
+        drop(slot);
+        drop(frames);
+        Ok(None)
+    }
+}
+
+fn close(alloc: Global, frames: Frames, slot: Slot) -> Result<Option<TermPart>, NoMemory>
+    ensures { IfOk result (λ next. option_map plain_term next
+        ≡ next_close (plain_frames frames) (plain_slot slot)) }
+{
+    match slot {
+        Slot::Applied(place, a, _) => match place {
+            Place::Domain(binder) => Ok(close_domain(frames, binder, a)),
+            Place::Front => frames.unwind(alloc, a),
+        },
+        Slot::Bindable(binder) => frames.unwind(alloc, binder_term(binder)),
+        slot => {
+            drop(slot);
+            drop(frames);
+            Ok(None)
+        }
+    }
+}
+
+// A binder and its domain in brackets, at the front of a term.
+fn close_domain(frames: Frames, binder: Option<Listed<u8>>, a: RawTerm) -> Option<TermPart>
+    ensures { option_map plain_term result ≡ next_close_domain (plain_frames frames) binder (written a) }
+{
+    match frames {
+        Frames::On(_, Frame::Bracket(Slot::Due(Place::Front)), rest) => Some(TermPart {
+            frames: Box::into_inner(rest),
+            slot: Slot::Bracketed(binder, a),
+        }),
+        frames => {
+            drop(frames);
+            drop(binder);
+            drop(a);
+            None
+        }
+    }
+}
+
+fn colon(frames: Frames, slot: Slot) -> Option<TermPart>
+    ensures { option_map plain_term result ≡ next_colon (plain_frames frames) (plain_slot slot) }
+{
+    match slot {
+        Slot::Bindable(binder) => Some(TermPart {
+            frames,
+            slot: Slot::Due(Place::Domain(binder)),
+        }),
+        slot => {
+            drop(slot);
+            drop(frames);
+            None
+        }
+    }
+}
+
+fn arrow(alloc: Global, frames: Frames, slot: Slot) -> Result<Option<TermPart>, NoMemory>
+    ensures { IfOk result (λ next. option_map plain_term next
+        ≡ next_arrow (plain_frames frames) (plain_slot slot)) }
+{
+    match slot {
+        Slot::Bindable(binder) => framed(alloc, Frame::Arrow(binder_term(binder)), frames),
+        Slot::Applied(place, a, _) => match place {
+            Place::Front => framed(alloc, Frame::Arrow(a), frames),
+            Place::Domain(binder) => framed(alloc, Frame::Product(binder, a), frames),
+        },
+        Slot::Bracketed(binder, a) => framed(alloc, Frame::Product(binder, a), frames),
+        Slot::Due(place) => {
+            drop(place);
+            drop(frames);
+            Ok(None)
+        }
+    }
+}
+
+fn double_arrow(alloc: Global, frames: Frames, slot: Slot) -> Result<Option<TermPart>, NoMemory>
+    ensures { IfOk result (λ next. option_map plain_term next
+        ≡ next_double_arrow (plain_frames frames) (plain_slot slot)) }
+{
+    match slot {
+        Slot::Applied(place, a, _) => match place {
+            Place::Domain(binder) => framed(alloc, Frame::Annotated(binder, a), frames),
+            Place::Front => {
+                drop(a);
+                drop(frames);
+                Ok(None)
+            }
+        },
+        slot => {
+            drop(slot);
+            drop(frames);
+            Ok(None)
         }
     }
 }

@@ -45,15 +45,6 @@ fn token(alloc: Global, word: &str, line: u32) -> Result<Token, NoMemory> {
     })
 }
 
-fn sign(alloc: Global, sign: Sign) -> Token {
-    Token {
-        kind: TokenKind::Sign(sign),
-        spelling: Listed::new(alloc),
-        offset: 0,
-        line: 1,
-    }
-}
-
 // Whether this is a theorem with this name, at this line.
 fn gives_theorem(step: &Result<Step, ParseFault>, text: &[u8], line: u32) -> bool {
     match step {
@@ -113,7 +104,28 @@ fn reads_up_to_the_first_fault(rt: HostRuntime) -> Result<(), Fail> {
         ("a : Type . m.n : Type .", 1, Some(Code::E02), Some(1)),
         ("a : Type . thm t : a .", 1, Some(Code::E02), Some(1)),
         ("a : Type := a .", 0, Some(Code::E02), Some(1)),
-        ("a : Type .\nb b . c : a .", 1, Some(Code::E02), Some(2)),
+        ("a : Type .\n_ . c : a .", 1, Some(Code::E02), Some(2)),
+        (
+            "s : n -> n . p : x : n -> e x x . q : ( x : n ) -> e x x .",
+            3,
+            None,
+            None,
+        ),
+        (
+            "thm t : ( x : n -> n ) -> n := x : ( _ : n -> n ) => x z .",
+            1,
+            None,
+            None,
+        ),
+        ("x : ( x : n => Type ) z .", 1, None, None),
+        ("x : y : a -> b -> c .", 1, None, None),
+        ("x : y : a .", 0, Some(Code::E02), Some(1)),
+        ("x : y => a .", 0, Some(Code::E02), Some(1)),
+        ("x : f ( x : a ) -> b .", 0, Some(Code::E02), Some(1)),
+        ("x : y : ( x : a ) -> b .", 0, Some(Code::E02), Some(1)),
+        ("x : ( ( x : a ) ) -> b .", 0, Some(Code::E02), Some(1)),
+        ("x : ( x : a ) => b .", 0, Some(Code::E02), Some(1)),
+        ("x : m.n : a -> b .", 0, Some(Code::E02), Some(1)),
     ] {
         let outcome = read(rt.alloc(), text)?;
         assert_eq!(rt; outcome.commands, commands, "at {text}");
@@ -138,33 +150,49 @@ fn gives_the_command_as_written(rt: HostRuntime) -> Result<(), Fail> {
     Ok(())
 }
 
-#[test]
-fn ends_levels_at_the_limit(rt: HostRuntime) -> Result<(), Fail> {
-    let alloc = rt.alloc();
-    for (depth, code) in [(1_000, None), (1_001, Some(Code::E04))] {
-        let mut parser = Parser::new(alloc, Limits::standard())?;
-        assert!(rt; parser.feed(alloc, token(alloc, "x", 1)?).is_ok());
-        assert!(rt; parser.feed(alloc, token(alloc, ":", 1)?).is_ok());
-        for _ in 1..depth {
-            assert!(rt; parser.feed(alloc, sign(alloc, Sign::OpenBracket)).is_ok());
-        }
-        let last = parser.feed(alloc, sign(alloc, Sign::OpenBracket));
-        match code {
-            Some(code) => {
-                assert_eq!(rt; last.err(), Some(ParseFault::Refused(code)));
-                assert_eq!(rt; parser.finish(), Err(code));
-            }
-            None => {
-                assert!(rt; last.is_ok());
-                assert!(rt; parser.feed(alloc, token(alloc, "Type", 1)?).is_ok());
-                for _ in 0..depth {
-                    assert!(rt; parser.feed(alloc, sign(alloc, Sign::CloseBracket)).is_ok());
-                }
-                let end = parser.feed(alloc, sign(alloc, Sign::Dot));
-                assert!(rt; matches!(end, Ok(Step::Command(_))));
-                assert_eq!(rt; parser.finish(), Ok(()));
+// Feeds some words so many times, whatever the parser answers.
+fn feed_times(alloc: Global, parser: &mut Parser, words: &str, count: u32) -> Result<(), NoMemory> {
+    for _ in 0..count {
+        for word in words.split_whitespace() {
+            match parser.feed(alloc, token(alloc, word, 1)?) {
+                Err(ParseFault::NoMemory) => return Err(NoMemory),
+                _ => {}
             }
         }
     }
+    Ok(())
+}
+
+#[test]
+fn ends_levels_and_arguments_at_the_limit(rt: HostRuntime) -> Result<(), Fail> {
+    let alloc = rt.alloc();
+    for (words, count, code) in [
+        ("(", 1_000, Code::E03),
+        ("(", 1_001, Code::E04),
+        ("-> a", 1_000, Code::E03),
+        ("-> a", 1_001, Code::E04),
+        ("a", 1_000, Code::E03),
+        ("a", 1_001, Code::E04),
+        ("( a )", 1_000, Code::E03),
+        ("( a )", 1_001, Code::E04),
+    ] {
+        let mut parser = Parser::new(alloc, Limits::standard())?;
+        feed_times(alloc, &mut parser, "x : a", 1)?;
+        feed_times(alloc, &mut parser, words, count)?;
+        assert_eq!(rt; parser.finish(), Err(code), "at {count} of {words}");
+    }
+    Ok(())
+}
+
+#[test]
+fn reads_a_thousand_brackets(rt: HostRuntime) -> Result<(), Fail> {
+    let alloc = rt.alloc();
+    let mut parser = Parser::new(alloc, Limits::standard())?;
+    feed_times(alloc, &mut parser, "x :", 1)?;
+    feed_times(alloc, &mut parser, "(", 1_000)?;
+    feed_times(alloc, &mut parser, "Type", 1)?;
+    feed_times(alloc, &mut parser, ")", 1_000)?;
+    feed_times(alloc, &mut parser, ".", 1)?;
+    assert_eq!(rt; parser.finish(), Ok(()));
     Ok(())
 }

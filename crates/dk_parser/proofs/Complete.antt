@@ -1,0 +1,312 @@
+-- What is spelt so is read so.
+use Rattle.std.proofs.Common.{◌≡◌, ℕ, ◌+◌, Bool, true, false, List, [], ◌∷◌, ◌++◌, refl, sym, ap, ◌∙◌, subst, append_assoc, inl, inr}
+use Rattle.std.specs.Prelude.{Option, Some, None, ◌⊎◌, max}
+use Rattle.dk_model.specs.declared.signature.SymSort.{SymSort}
+use Rattle.dk_model.specs.declared.signature.SymSort.TheVariants.{Static, Definable, Theorem}
+use Rattle.dk_lexer.specs.declared.token.Sign.TheVariants as sign
+use Rattle.dk_parser.specs.declared.terminal.Terminal.{Terminal}
+use Rattle.dk_parser.specs.declared.terminal.Terminal.TheVariants as terminal
+use Rattle.dk_parser.specs.Written.{Written, written_name, written_qualified, written_star, written_wild, written_apply, written_arrow, written_product, written_annotated, WrittenForm, written_declare}
+use Rattle.dk_parser.specs.Grammar.{colon, defined, dot, arrow, double_arrow, open_bracket, close_bracket, SpellsBinder, spells_binder, spells_no_binder, SpellsAtom, spells_name, spells_qualified, spells_star, spells_wildcard, spells_brackets, SpellsApplication, spells_head, spells_applied, SpellsTerm, spells_application, spells_arrow, spells_product, spells_bracketed_product, spells_annotated, SpellsForm, spells_declaration, spells_theorem}
+use Rattle.dk_parser.specs.Parsing.{Place, at_front, domain, Slot, due, bindable, applied, bracketed, Frame, bracket_frame, arrow_frame, product_frame, annotated_frame, Frames, bottom, on, TermPart, depth, pushed, binder_term, slot_more, slot_binder, takes_atom, slot_term, in_frames, unwound, unwound_all, next_open, next_close, next_close_term, next_arrow, framed, term_next, term_argument, term_done, slot_ended, Part, command_due, in_type, in_body, PartStep, goes, ends, type_goes, body_goes, body_begins, body_ends, type_ends, part_next}
+use Rattle.dk_parser.proofs.Machine.{going, ended, run_by, run}
+
+-- a part of a command that a term goes on in
+abbrev pub Steps : (TermPart → Part) → Type 0
+Steps wrap = (p q : TermPart) (x : Terminal) → term_next p x ≡ Some q → (made : ℕ) × (part_next (wrap p) x ≡ goes made (wrap q))
+
+type_steps : (s : SymSort) (n : List ℕ) → Steps (in_type s n)
+type_steps Static n p q (terminal.Sign sign.Dot) e = cc
+type_steps Theorem n p q (terminal.Sign sign.Defined) e = cc
+type_steps s n p q x e = (max (depth q.frames) (term_argument p x), ap (type_goes s n (term_argument p x)) e)
+
+body_steps : (n : List ℕ) (a : Written) → Steps (in_body n a)
+body_steps n a p q (terminal.Sign sign.Dot) e = cc
+body_steps n a p q x e = (max (depth q.frames) (term_argument p x), ap (body_goes n a (term_argument p x)) e)
+
+abbrev pub at : Frames → Slot → TermPart
+at fs s = record { frames = fs; slot = s }
+
+-- the slot with an atom more; a name or a wildcard at the front of a term is first taken for a binder
+abbrev IsMore : Slot → Written → Slot → Type 0
+IsMore s a t = (slot_more s a ≡ Some t) ⊎ ((s ≡ due at_front) × ((v : Option (List ℕ)) × (t ≡ bindable v) × (binder_term v ≡ a)))
+
+-- the slot behind an application
+abbrev IsBehind : Place → Written → Slot → Type 0
+IsBehind place a t = ((n : ℕ) × (t ≡ applied place a n)) ⊎ ((place ≡ at_front) × ((v : Option (List ℕ)) × (t ≡ bindable v) × (binder_term v ≡ a)))
+
+binder_more : (s : Slot) (v : Option (List ℕ)) → takes_atom s ≡ true → (t : Slot) × (slot_binder s v ≡ Some t) × IsMore s (binder_term v) t
+binder_more (due at_front) v h = (bindable v, refl, inr (refl, (v, refl, refl)))
+binder_more (due (domain w)) v h = (applied (domain w) (binder_term v) 1, refl, inl refl)
+binder_more (bindable w) v h = (applied at_front (written_apply (binder_term w) (binder_term v)) 2, refl, inl refl)
+binder_more (applied place f n) v h = (applied place (written_apply f (binder_term v)) (n + 1), refl, inl refl)
+binder_more (bracketed w b) v h = cc
+
+pub atom_more : (s : Slot) (a : Written) → takes_atom s ≡ true → (t : Slot) × (slot_more s a ≡ Some t)
+atom_more (due place) a h = (applied place a 1, refl)
+atom_more (bindable w) a h = (applied at_front (written_apply (binder_term w) a) 2, refl)
+atom_more (applied place f n) a h = (applied place (written_apply f a) (n + 1), refl)
+atom_more (bracketed w b) a h = cc
+
+behind_head : (place : Place) (a : Written) (t : Slot) → IsMore (due place) a t → IsBehind place a t
+behind_head place a t (inl e) =
+    let same : t ≡ applied place a 1 = cc in
+    inl (1, same)
+behind_head place a t (inr h) =
+    let same : place ≡ at_front = cc (h.0) in
+    inr (same, h.1)
+
+behind_takes : (place : Place) (a : Written) (t : Slot) → IsBehind place a t → takes_atom t ≡ true
+behind_takes place a t (inl h) = ap takes_atom h.1
+behind_takes place a t (inr h) = ap takes_atom h.1.1
+
+behind_more : (place : Place) (f a : Written) (s t : Slot) → IsBehind place f s → IsMore s a t → IsBehind place (written_apply f a) t
+behind_more place f a s t (inl h) (inl e) =
+    let more : slot_more s a ≡ Some (applied place (written_apply f a) (h.0 + 1)) = ap (λ s. slot_more s a) h.1 in
+    let same : t ≡ applied place (written_apply f a) (h.0 + 1) = cc in
+    inl (h.0 + 1, same)
+behind_more place f a s t (inr h) (inl e) =
+    let more : slot_more s a ≡ Some (applied at_front (written_apply (binder_term h.1.0) a) 2) = ap (λ s. slot_more s a) h.1.1 in
+    let front : applied at_front (written_apply (binder_term h.1.0) a) 2 ≡ applied place (written_apply f a) 2 = cc (h.0, h.1.2) in
+    let same : t ≡ applied at_front (written_apply (binder_term h.1.0) a) 2 = cc in
+    inl (2, same ∙ front)
+behind_more place f a s t (inl h) (inr e) = cc (h.1, e.0)
+behind_more place f a s t (inr h) (inr e) = cc (h.1.1, e.0)
+
+-- a term ends behind an application at its front
+behind_term : (a : Written) (t : Slot) → IsBehind at_front a t → slot_term t ≡ Some a
+behind_term a t (inl h) = ap slot_term h.1
+behind_term a t (inr h) = ap slot_term h.1.1 ∙ ap (λ b. Some b) h.1.2
+
+behind_arrow : (fs : Frames) (a : Written) (t : Slot) → IsBehind at_front a t → next_arrow fs t ≡ framed (arrow_frame a) fs
+behind_arrow fs a t (inl h) = ap (next_arrow fs) h.1
+behind_arrow fs a t (inr h) = ap (next_arrow fs) h.1.1 ∙ ap (λ b. framed (arrow_frame b) fs) h.1.2
+
+-- a domain is no term
+behind_domain : (v : Option (List ℕ)) (a : Written) (t : Slot) → IsBehind (domain v) a t → (n : ℕ) × (t ≡ applied (domain v) a n)
+behind_domain v a t (inl h) = h
+behind_domain v a t (inr h) = cc (h.0)
+
+close_term : (fs : Frames) (t : Slot) (a : Written) → slot_term t ≡ Some a → next_close fs t ≡ unwound fs a
+close_term fs (due place) a e = cc
+close_term fs (bindable v) a e = ap (next_close_term fs) e
+close_term fs (applied at_front b n) a e = ap (next_close_term fs) e
+close_term fs (applied (domain v) b n) a e = cc
+close_term fs (bracketed v b) a e = cc
+
+binder_next : (fs : Frames) (x : Terminal) (v : Option (List ℕ)) → SpellsBinder x v → term_next (at fs (due at_front)) x ≡ Some (at fs (bindable v))
+binder_next fs x v spells_binder = refl
+binder_next fs x v spells_no_binder = refl
+
+done_by : (fs : Frames) (o : Option Written) (b a : Written) → o ≡ Some b → unwound_all fs b ≡ Some a → slot_ended fs o ≡ Some a
+done_by fs o b a e h = ap (slot_ended fs) e ∙ h
+
+abbrev declaration : List ℕ → Written → WrittenForm
+declaration n a = written_declare Static n [] (Some a) None
+
+abbrev theorem : List ℕ → Written → Written → WrittenForm
+theorem n a b = written_declare Theorem n [] (Some a) (Some b)
+
+module _ (wrap : TermPart → Part) (steps : Steps wrap) where
+  stepped : (p q : TermPart) (x : Terminal) (rest : List Terminal) → term_next p x ≡ Some q → run (wrap p) (x ∷ rest) ≡ run (wrap q) rest
+  stepped p q x rest e = ap (λ (s : PartStep). run_by s (λ r. run r rest) rest) (steps p q x e).1
+
+  record AtomRun (fs : Frames) (s : Slot) (ys : List Terminal) (a : Written) (rest : List Terminal) : Type 0 where
+    pub slot : Slot
+    pub runs : run (wrap (at fs s)) (ys ++ rest) ≡ run (wrap (at fs slot)) rest
+    pub kind : IsMore s a slot
+
+  record ApplicationRun (fs : Frames) (place : Place) (xs : List Terminal) (a : Written) (rest : List Terminal) : Type 0 where
+    pub slot : Slot
+    pub runs : run (wrap (at fs (due place))) (xs ++ rest) ≡ run (wrap (at fs slot)) rest
+    pub kind : IsBehind place a slot
+
+  record TermRun (fs : Frames) (xs : List Terminal) (a : Written) (rest : List Terminal) : Type 0 where
+    pub frames : Frames
+    pub slot : Slot
+    pub runs : run (wrap (at fs (due at_front))) (xs ++ rest) ≡ run (wrap (at frames slot)) rest
+    pub last : Written
+    pub ends_in : slot_term slot ≡ Some last
+    pub closes : unwound frames last ≡ unwound fs a
+    pub ends_all : unwound_all frames last ≡ unwound_all fs a
+
+  abbrev AtomRuns : List Terminal → Written → Type 0
+  AtomRuns ys a = (fs : Frames) (s : Slot) (rest : List Terminal) → takes_atom s ≡ true → AtomRun fs s ys a rest
+
+  abbrev ApplicationRuns : List Terminal → Written → Type 0
+  ApplicationRuns xs a = (fs : Frames) (place : Place) (rest : List Terminal) → ApplicationRun fs place xs a rest
+
+  abbrev TermRuns : List Terminal → Written → Type 0
+  TermRuns xs a = (fs : Frames) (rest : List Terminal) → TermRun fs xs a rest
+
+  binder_runs : (x : Terminal) (v : Option (List ℕ)) → ((fs : Frames) (s : Slot) → term_next (at fs s) x ≡ in_frames fs (slot_binder s v)) → AtomRuns (x ∷ []) (binder_term v)
+  binder_runs x v h fs s rest takes =
+      let t = binder_more s v takes in
+      record { slot = t.0; runs = stepped (at fs s) (at fs t.0) x rest (h fs s ∙ ap (in_frames fs) t.1); kind = t.2 }
+
+  word_runs : (x : Terminal) (a : Written) → ((fs : Frames) (s : Slot) → term_next (at fs s) x ≡ in_frames fs (slot_more s a)) → AtomRuns (x ∷ []) a
+  word_runs x a h fs s rest takes =
+      let t = atom_more s a takes in
+      record { slot = t.0; runs = stepped (at fs s) (at fs t.0) x rest (h fs s ∙ ap (in_frames fs) t.1); kind = inl t.1 }
+
+  bracket_runs : (xs : List Terminal) (a : Written) → TermRuns xs a → AtomRuns (open_bracket ∷ (xs ++ close_bracket ∷ [])) a
+  bracket_runs xs a h fs s rest takes =
+      let t = atom_more s a takes in
+      let inside = h (pushed (bracket_frame s) fs) (close_bracket ∷ rest) in
+      record {
+        slot = t.0;
+        runs = stepped (at fs s) (at (pushed (bracket_frame s) fs) (due at_front)) open_bracket ((xs ++ close_bracket ∷ []) ++ rest) (ap (λ b. next_open b fs s) takes)
+            ∙ ap (run (wrap (at (pushed (bracket_frame s) fs) (due at_front)))) (append_assoc xs (close_bracket ∷ []) rest)
+            ∙ inside.runs
+            ∙ stepped (at inside.frames inside.slot) (at fs t.0) close_bracket rest
+            (close_term inside.frames inside.slot inside.last inside.ends_in ∙ inside.closes ∙ ap (in_frames fs) t.1);
+        kind = inl t.1;
+      }
+
+  head_runs : (xs : List Terminal) (a : Written) → AtomRuns xs a → ApplicationRuns xs a
+  head_runs xs a h fs place rest =
+      let r = h fs (due place) rest refl in
+      record { slot = r.slot; runs = r.runs; kind = behind_head place a r.slot r.kind }
+
+  applied_runs : (xs ys : List Terminal) (f a : Written) → ApplicationRuns xs f → AtomRuns ys a → ApplicationRuns (xs ++ ys) (written_apply f a)
+  applied_runs xs ys f a h k fs place rest =
+      let r = h fs place (ys ++ rest) in
+      let q = k fs r.slot rest (behind_takes place f r.slot r.kind) in
+      record {
+        slot = q.slot;
+        runs = ap (run (wrap (at fs (due place)))) (append_assoc xs ys rest) ∙ r.runs ∙ q.runs;
+        kind = behind_more place f a r.slot q.slot r.kind q.kind;
+      }
+
+  application_term : (xs : List Terminal) (a : Written) → ApplicationRuns xs a → TermRuns xs a
+  application_term xs a h fs rest =
+      let r = h fs at_front rest in
+      record { frames = fs; slot = r.slot; runs = r.runs; last = a; ends_in = behind_term a r.slot r.kind; closes = refl; ends_all = refl }
+
+  arrow_runs : (xs ys : List Terminal) (a b : Written) → ApplicationRuns xs a → TermRuns ys b → TermRuns (xs ++ arrow ∷ ys) (written_arrow a b)
+  arrow_runs xs ys a b h k fs rest =
+      let r = h fs at_front (arrow ∷ (ys ++ rest)) in
+      let q = k (pushed (arrow_frame a) fs) rest in
+      record {
+        frames = q.frames;
+        slot = q.slot;
+        runs = ap (run (wrap (at fs (due at_front)))) (append_assoc xs (arrow ∷ ys) rest)
+            ∙ r.runs
+            ∙ stepped (at fs r.slot) (at (pushed (arrow_frame a) fs) (due at_front)) arrow (ys ++ rest) (behind_arrow fs a r.slot r.kind)
+            ∙ q.runs;
+        last = q.last;
+        ends_in = q.ends_in;
+        closes = q.closes;
+        ends_all = q.ends_all;
+      }
+
+  -- a binder and its domain
+  domain_runs : (x : Terminal) (v : Option (List ℕ)) (xs : List Terminal) (a : Written) → SpellsBinder x v → ApplicationRuns xs a → (fs : Frames) (rest : List Terminal) →
+      (n : ℕ) × (run (wrap (at fs (due at_front))) (x ∷ colon ∷ (xs ++ rest)) ≡ run (wrap (at fs (applied (domain v) a n))) rest)
+  domain_runs x v xs a b h fs rest =
+      let r = h fs (domain v) rest in
+      let d = behind_domain v a r.slot r.kind in (
+        d.0,
+        stepped (at fs (due at_front)) (at fs (bindable v)) x (colon ∷ (xs ++ rest)) (binder_next fs x v b)
+            ∙ stepped (at fs (bindable v)) (at fs (due (domain v))) colon (xs ++ rest) refl
+            ∙ r.runs
+            ∙ ap (λ s. run (wrap (at fs s)) rest) d.1,
+      )
+
+  product_runs : (x : Terminal) (v : Option (List ℕ)) (xs ys : List Terminal) (a b : Written) → SpellsBinder x v → ApplicationRuns xs a → TermRuns ys b → TermRuns (x ∷ colon ∷ (xs ++ arrow ∷ ys)) (written_product v a b)
+  product_runs x v xs ys a b s h k fs rest =
+      let d = domain_runs x v xs a s h fs (arrow ∷ (ys ++ rest)) in
+      let q = k (pushed (product_frame v a) fs) rest in
+      record {
+        frames = q.frames;
+        slot = q.slot;
+        runs = ap (λ zs. run (wrap (at fs (due at_front))) (x ∷ colon ∷ zs)) (append_assoc xs (arrow ∷ ys) rest)
+            ∙ d.1
+            ∙ stepped (at fs (applied (domain v) a d.0)) (at (pushed (product_frame v a) fs) (due at_front)) arrow (ys ++ rest) refl
+            ∙ q.runs;
+        last = q.last;
+        ends_in = q.ends_in;
+        closes = q.closes;
+        ends_all = q.ends_all;
+      }
+
+  annotated_runs : (x : Terminal) (v : Option (List ℕ)) (xs ys : List Terminal) (a b : Written) → SpellsBinder x v → ApplicationRuns xs a → TermRuns ys b → TermRuns (x ∷ colon ∷ (xs ++ double_arrow ∷ ys)) (written_annotated v a b)
+  annotated_runs x v xs ys a b s h k fs rest =
+      let d = domain_runs x v xs a s h fs (double_arrow ∷ (ys ++ rest)) in
+      let q = k (pushed (annotated_frame v a) fs) rest in
+      record {
+        frames = q.frames;
+        slot = q.slot;
+        runs = ap (λ zs. run (wrap (at fs (due at_front))) (x ∷ colon ∷ zs)) (append_assoc xs (double_arrow ∷ ys) rest)
+            ∙ d.1
+            ∙ stepped (at fs (applied (domain v) a d.0)) (at (pushed (annotated_frame v a) fs) (due at_front)) double_arrow (ys ++ rest) refl
+            ∙ q.runs;
+        last = q.last;
+        ends_in = q.ends_in;
+        closes = q.closes;
+        ends_all = q.ends_all;
+      }
+
+  bracketed_runs : (x : Terminal) (v : Option (List ℕ)) (xs ys : List Terminal) (a b : Written) → SpellsBinder x v → ApplicationRuns xs a → TermRuns ys b → TermRuns (open_bracket ∷ x ∷ colon ∷ (xs ++ close_bracket ∷ arrow ∷ ys)) (written_product v a b)
+  bracketed_runs x v xs ys a b s h k fs rest =
+      let inside = pushed (bracket_frame (due at_front)) fs in
+      let d = domain_runs x v xs a s h inside (close_bracket ∷ arrow ∷ (ys ++ rest)) in
+      let q = k (pushed (product_frame v a) fs) rest in
+      record {
+        frames = q.frames;
+        slot = q.slot;
+        runs = ap (λ zs. run (wrap (at fs (due at_front))) (open_bracket ∷ x ∷ colon ∷ zs)) (append_assoc xs (close_bracket ∷ arrow ∷ ys) rest)
+            ∙ stepped (at fs (due at_front)) (at inside (due at_front)) open_bracket (x ∷ colon ∷ (xs ++ close_bracket ∷ arrow ∷ (ys ++ rest))) refl
+            ∙ d.1
+            ∙ stepped (at inside (applied (domain v) a d.0)) (at fs (bracketed v a)) close_bracket (arrow ∷ (ys ++ rest)) refl
+            ∙ stepped (at fs (bracketed v a)) (at (pushed (product_frame v a) fs) (due at_front)) arrow (ys ++ rest) refl
+            ∙ q.runs;
+        last = q.last;
+        ends_in = q.ends_in;
+        closes = q.closes;
+        ends_all = q.ends_all;
+      }
+
+  mutual
+    atom_runs : {ys : List Terminal} {a : Written} → SpellsAtom ys a → AtomRuns ys a
+    atom_runs (spells_name {n}) = binder_runs (terminal.Name n) (Some n) (λ fs s. refl)
+    atom_runs (spells_qualified {m} {n}) = word_runs (terminal.Qualified m n) (written_qualified m n) (λ fs s. refl)
+    atom_runs spells_star = word_runs terminal.Star written_star (λ fs s. refl)
+    atom_runs spells_wildcard = binder_runs terminal.Wildcard None (λ fs s. refl)
+    atom_runs (spells_brackets {xs} {a} h) = bracket_runs xs a (term_runs h)
+
+    application_runs : {xs : List Terminal} {a : Written} → SpellsApplication xs a → ApplicationRuns xs a
+    application_runs (spells_head {xs} {a} h) = head_runs xs a (atom_runs h)
+    application_runs (spells_applied {xs} {ys} {f} {a} h k) = applied_runs xs ys f a (application_runs h) (atom_runs k)
+
+    term_runs : {xs : List Terminal} {a : Written} → SpellsTerm xs a → TermRuns xs a
+    term_runs (spells_application {xs} {a} h) = application_term xs a (application_runs h)
+    term_runs (spells_arrow {xs} {ys} {a} {b} h k) = arrow_runs xs ys a b (application_runs h) (term_runs k)
+    term_runs (spells_product {x} {v} {xs} {ys} {a} {b} s h k) = product_runs x v xs ys a b s (application_runs h) (term_runs k)
+    term_runs (spells_bracketed_product {x} {v} {xs} {ys} {a} {b} s h k) = bracketed_runs x v xs ys a b s (application_runs h) (term_runs k)
+    term_runs (spells_annotated {x} {v} {xs} {ys} {a} {b} s h k) = annotated_runs x v xs ys a b s (application_runs h) (term_runs k)
+
+  -- a whole term is read as what it spells
+  pub term_complete : {xs : List Terminal} {a : Written} → SpellsTerm xs a → (rest : List Terminal) → (p : TermPart) × (run (wrap (at bottom (due at_front))) (xs ++ rest) ≡ run (wrap p) rest) × (term_done p ≡ Some a)
+  term_complete {xs} {a} h rest =
+      let r = term_runs h bottom rest in
+      (at r.frames r.slot, r.runs, done_by r.frames (slot_term r.slot) r.last a r.ends_in r.ends_all)
+
+-- a command is read as what it spells
+declaration_complete : (n : List ℕ) (a : Written) (p : TermPart) → term_done p ≡ Some a → run (in_type Static n p) (dot ∷ []) ≡ ended (declaration n a) []
+declaration_complete n a p e = ap (λ (o : Option Written). run_by (type_ends n o) (λ q. run q []) []) e
+
+body_complete : (n : List ℕ) (a b : Written) (p : TermPart) → term_done p ≡ Some b → run (in_body n a p) (dot ∷ []) ≡ ended (theorem n a b) []
+body_complete n a b p e = ap (λ (o : Option Written). run_by (body_ends n a o) (λ q. run q []) []) e
+
+theorem_complete : (n : List ℕ) (a : Written) (p : TermPart) (rest : List Terminal) → term_done p ≡ Some a → run (in_type Theorem n p) (defined ∷ rest) ≡ run (in_body n a (at bottom (due at_front))) rest
+theorem_complete n a p rest e = ap (λ (o : Option Written). run_by (body_begins n o) (λ q. run q rest) rest) e
+
+pub complete : {xs : List Terminal} {form : WrittenForm} → SpellsForm xs form → run command_due xs ≡ ended form []
+complete (spells_declaration {n} {xs} {a} h) =
+    let t = term_complete (in_type Static n) (type_steps Static n) h (dot ∷ []) in
+    t.1 ∙ declaration_complete n a t.0 t.2
+complete (spells_theorem {n} {xs} {ys} {a} {b} h k) =
+    let t = term_complete (in_type Theorem n) (type_steps Theorem n) h (defined ∷ (ys ++ dot ∷ [])) in
+    let u = term_complete (in_body n a) (body_steps n a) k (dot ∷ []) in
+    t.1 ∙ theorem_complete n a t.0 (ys ++ dot ∷ []) t.2 ∙ u.1 ∙ body_complete n a b u.0 u.2
