@@ -38,7 +38,7 @@ FILES = {
     'command_at_limit': lambda: command_of(COMMAND),
     'command_past_limit': lambda: command_of(COMMAND + 1),
     'commands_at_limit': lambda: commands(COMMANDS),
-    'commands_past_limit': lambda: commands(COMMANDS + 1),
+    'commands_past_limit': lambda: commands(COMMANDS) + b'\nx1 : unknown.\n',
     'comment_100000_deep': lambda: open_comment(100000),
     'arrows_1000': lambda: b'a : Type.\nf : ' + b'a -> ' * 1000 + b'a.\n',
     'arrows_1001': lambda: b'a : Type.\nf : ' + b'a -> ' * 1001 + b'a.\n',
