@@ -1,15 +1,15 @@
 -- What is spelt so is read so.
-use Rattle.std.proofs.Common.{◌≡◌, ℕ, ◌+◌, Bool, true, false, List, [], ◌∷◌, ◌++◌, refl, sym, ap, ◌∙◌, subst, append_assoc, inl, inr}
+use Rattle.std.proofs.Common.{◌≡◌, ℕ, ◌+◌, true, List, [], ◌∷◌, ◌++◌, refl, ap, ◌∙◌, append_assoc, inl, inr}
 use Rattle.std.specs.Prelude.{Option, Some, None, ◌⊎◌, max}
 use Rattle.dk_model.specs.declared.signature.SymSort.{SymSort}
-use Rattle.dk_model.specs.declared.signature.SymSort.TheVariants.{Static, Definable, Theorem}
+use Rattle.dk_model.specs.declared.signature.SymSort.TheVariants.{Static, Theorem}
 use Rattle.dk_lexer.specs.declared.token.Sign.TheVariants as sign
 use Rattle.dk_parser.specs.declared.terminal.Terminal.{Terminal}
 use Rattle.dk_parser.specs.declared.terminal.Terminal.TheVariants as terminal
-use Rattle.dk_parser.specs.Written.{Written, written_name, written_qualified, written_star, written_wild, written_apply, written_arrow, written_product, written_annotated, WrittenForm, written_declare}
+use Rattle.dk_parser.specs.Written.{Written, written_qualified, written_star, written_apply, written_arrow, written_product, written_annotated, WrittenForm, written_declare}
 use Rattle.dk_parser.specs.Grammar.{colon, defined, dot, arrow, double_arrow, open_bracket, close_bracket, SpellsBinder, spells_binder, spells_no_binder, SpellsAtom, spells_name, spells_qualified, spells_star, spells_wildcard, spells_brackets, SpellsApplication, spells_head, spells_applied, SpellsTerm, spells_application, spells_arrow, spells_product, spells_bracketed_product, spells_annotated, SpellsForm, spells_declaration, spells_theorem}
-use Rattle.dk_parser.specs.Parsing.{Place, at_front, domain, Slot, due, bindable, applied, bracketed, Frame, bracket_frame, arrow_frame, product_frame, annotated_frame, Frames, bottom, on, TermPart, depth, pushed, binder_term, slot_more, slot_binder, takes_atom, slot_term, in_frames, unwound, unwound_all, next_open, next_close, next_close_term, next_arrow, framed, term_next, term_argument, term_done, slot_ended, Part, command_due, in_type, in_body, PartStep, goes, ends, type_goes, body_goes, body_begins, body_ends, type_ends, part_next}
-use Rattle.dk_parser.proofs.Machine.{going, ended, run_by, run}
+use Rattle.dk_parser.specs.Parsing.{Place, at_front, domain, Slot, due, bindable, applied, bracketed, bracket_frame, arrow_frame, product_frame, annotated_frame, Frames, bottom, TermPart, depth, pushed, binder_term, slot_more, slot_binder, takes_atom, slot_term, in_frames, unwound, unwound_all, next_open, next_close, next_close_term, next_arrow, framed, term_next, term_argument, term_done, slot_ended, Part, command_due, in_type, in_body, PartStep, goes, type_goes, body_goes, body_begins, body_ends, type_ends, part_next}
+use Rattle.dk_parser.proofs.Machine.{ended, run_by, run}
 
 -- a part of a command that a term goes on in
 abbrev pub Steps : (TermPart → Part) → Type 0

@@ -1,5 +1,5 @@
 -- The load of a terminal is the one that the step to the next part gives.
-use Rattle.std.proofs.Common.{◌≡◌, ℕ, ◌+◌, ◌-◌, ◌≤◌, List, [], ◌∷◌, ◌++◌, refl, sym, ap, ◌∙◌, subst, append_assoc, arith, inl, inr}
+use Rattle.std.proofs.Common.{◌≡◌, ℕ, ◌+◌, List, [], ◌∷◌, ◌++◌, refl, sym, ap, ◌∙◌, subst, arith}
 use Rattle.std.specs.Prelude.{Bool, true, false, Option, Some, None, max}
 use Rattle.dk_model.specs.declared.signature.SymSort.{SymSort}
 use Rattle.dk_model.specs.declared.signature.SymSort.TheVariants.{Static, Definable, Theorem}
@@ -7,8 +7,8 @@ use Rattle.dk_lexer.specs.declared.token.Sign.TheVariants as sign
 use Rattle.dk_parser.specs.declared.terminal.Terminal.{Terminal}
 use Rattle.dk_parser.specs.declared.terminal.Terminal.TheVariants as terminal
 use Rattle.dk_parser.specs.Written.{Written, written_qualified, written_star, written_apply, written_arrow, written_product, written_annotated, WrittenForm}
-use Rattle.dk_parser.specs.Levels.{Group, empty_group, Groups, no_groups, closed, grouped, groups_from, groups, arrows_of, level_of, argument_in, load}
-use Rattle.dk_parser.specs.Parsing.{Place, at_front, domain, Slot, due, bindable, applied, bracketed, Frame, bracket_frame, arrow_frame, product_frame, annotated_frame, Frames, bottom, on, TermPart, depth, pushed, binder_term, atoms, slot_more, slot_binder, takes_atom, slot_term, in_frames, unwound, unwound_all, next_open, next_close, next_close_term, next_close_domain, next_colon, next_arrow, next_double_arrow, framed, term_next, term_argument, term_done, slot_ended, Part, command_due, name_due, colon_due, in_type, in_body, PartStep, goes, ends, refuses, type_goes, type_ends, body_begins, body_goes, body_ends, part_next}
+use Rattle.dk_parser.specs.Levels.{empty_group, Groups, no_groups, closed, grouped, groups_from, groups, arrows_of, level_of, argument_in, load}
+use Rattle.dk_parser.specs.Parsing.{at_front, domain, Slot, due, bindable, applied, bracketed, Frame, bracket_frame, arrow_frame, product_frame, annotated_frame, Frames, bottom, on, TermPart, depth, pushed, binder_term, atoms, slot_more, slot_binder, takes_atom, in_frames, unwound, next_open, next_close, next_close_term, next_close_domain, next_colon, next_arrow, next_double_arrow, framed, term_next, term_argument, term_done, Part, command_due, name_due, colon_due, in_type, in_body, goes, ends, refuses, type_goes, type_ends, body_begins, body_goes, body_ends, part_next}
 use Rattle.dk_parser.proofs.Machine.{going, run, follow}
 use Rattle.dk_parser.proofs.Complete.{at}
 use Rattle.dk_parser.proofs.Reached.{goes_no_end, body_no_end, begins_no_end}
