@@ -1,12 +1,12 @@
 -- With more units the answer is the same, and as many more are left.
-use Rattle.std.proofs.Common.{List, [], ◌∷◌, ◌++◌, take, drop, map, length, ℕ, zero, suc, ◌≡◌, ◌-◌, ◌<◌, ◌≤◌, ◌+◌, ◌*◌, Bool, true, false, Option, Some, None, refl, ap, ◌∙◌, sym as flip, subst as along_path, arith, if◌then◌else◌}
+use Rattle.std.proofs.Common.{List, [], ◌∷◌, ℕ, zero, suc, ◌≡◌, ◌≤◌, ◌+◌, ◌*◌, Bool, true, false, Option, Some, None, refl, ap, sym as flip, subst as along_path, arith, if◌then◌else◌}
 use Rattle.std.specs.Prelude.{slice_get, slice_set, replicate, not}
-use Rattle.dk_model.specs.Trees.{Tree, star, kind, symbol, variable, rule_variable, apply, bare, annotated, product}
+use Rattle.dk_model.specs.Trees.{Tree, apply, bare, annotated, product}
 use Rattle.dk_model.specs.Substitution.{shift, equal}
 use Rattle.dk_model.specs.Signatures.{rule_variable_pattern, guard_pattern, PlainRule, PlainSignature}
 use Rattle.dk_model.specs.Units.{Units, bind}
 use Rattle.dk_model.specs.Spines.{head_symbol, contraction, pairs_of}
-use Rattle.dk_model.specs.Selection.{Cell, cell, Column, Row, rigid_at, refined_rows, opened, filled, strays, captured, Captures, capture_at, escaped, matched, at_cell, through, guarded, tried, each_same, each_normal, select_from}
+use Rattle.dk_model.specs.Selection.{Cell, cell, Column, Row, rigid_at, filled, strays, captured, Captures, capture_at, escaped, matched, at_cell, through, guarded, tried, each_same, each_normal, select_from}
 use Rattle.dk_model.specs.Evaluation.{whnf_with, selection_with, comparison_with, normal_with, whnf_of, comparison_of, columns, rows, rewritten}
 
 -- what the first gives the second gives too, with `d` units more left

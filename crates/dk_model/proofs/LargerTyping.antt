@@ -1,17 +1,17 @@
 -- With more units typing gives the same, and as many more are left.
-use Rattle.std.proofs.Common.{List, [], ◌∷◌, ℕ, ◌≡◌, ◌-◌, ◌≤◌, ◌+◌, Bool, true, false, Option, Some, None, refl, ap, ◌∙◌, sym as flip, subst as along_path, arith}
+use Rattle.std.proofs.Common.{List, [], ◌∷◌, ℕ, ◌≡◌, ◌-◌, ◌≤◌, ◌+◌, Bool, true, false, Option, Some, None, Result, Ok, Err, refl, ap, sym as flip, subst as along_path, arith}
 use Rattle.dk_model.specs.Trees.{Tree, star, kind, symbol, variable, rule_variable, apply, bare, annotated, product}
 use Rattle.dk_model.specs.Substitution.{substitute}
 use Rattle.dk_model.specs.Erasure.{erased}
-use Rattle.dk_model.specs.Signatures.{PlainSignature}
+use Rattle.dk_model.specs.Signatures.{PlainRule, PlainSignature}
+use Rattle.dk_model.specs.Shapes.{shapes_of}
 use Rattle.dk_model.specs.Scoping.{PlainCommand, declare, rule_command}
 use Rattle.dk_model.specs.Units.{Units}
 use Rattle.dk_model.specs.Evaluation.{whnf_of, comparison_of}
 use Rattle.dk_model.specs.Typing.{Judged, answer, refused, ended, after, next, parts_of_product, a_sort, the_star, agreed, not_kind, symbol_type, variable_type, rule_variable_type, as_product, as_sort, as_star, as_same, against, application_type, product_type, abstraction_type, annotated_fits, inferred, checked, sort_of}
-use Rattle.dk_model.specs.Verdicts.{verdict, verdict_of, body_checked, body_type, declaration_checked, command_checked}
+use Rattle.dk_model.specs.Verdicts.{verdict, verdict_of, body_checked, body_type, rules_checked, command_checked}
 use Rattle.dk_model.specs.declared.code.Code.{Code}
 use Rattle.dk_model.specs.declared.code.Code.TheVariants.{E20, E24}
-use Rattle.dk_model.specs.declared.code.Verdict.{Verdict}
 use Rattle.dk_model.specs.declared.code.Verdict.TheVariants.{Ended}
 use Rattle.dk_model.proofs.Larger.{Raised, whnf_raised, comparison_raised}
 
@@ -136,11 +136,15 @@ module _ (d : ℕ) where
     body_type_grows : (b : Tree) (n m : ℕ) → m ≡ n + d → Grows d (body_type S b n) (body_type S b m)
     body_type_grows b n m e = next_grows d (inferred S [] [] b n) (inferred S [] [] b m) _ _ (inferred_grows [] [] b n m e) not_kind_grows
 
+    rules_grow : (rs : Result (List PlainRule) Code) (n m : ℕ) → m ≡ n + d → Grows d (rules_checked rs n) (rules_checked rs m)
+    rules_grow (Ok rs) n m e = ap (λ k. answer tt k) e
+    rules_grow (Err c) n m e = refl
+
     pub command_grows : (c : PlainCommand) (n m : ℕ) → m ≡ n + d → Grows d (command_checked S c n) (command_checked S c m)
     command_grows (declare s (Some A) b) n m e = next_grows d (sort_of S [] [] A n) (sort_of S [] [] A m) _ _ (sort_of_grows A n m e) (λ t. body_checked_grows A b)
     command_grows (declare s None (Some b)) n m e = next_grows d (body_type S b n) (body_type S b m) _ _ (body_type_grows b n m e) (λ T i j q. ap (λ k. answer tt k) q)
     command_grows (declare s None None) n m e = ap (λ k. answer tt k) e
-    command_grows (rule_command rs) n m e = refl
+    command_grows (rule_command rs) n m e = rules_grow (shapes_of S rs) n m e
 
 same_verdict : (d : ℕ) (x y : Judged (Unit {0})) → Grows d x y → ¬ (verdict x ≡ Ended) → verdict y ≡ verdict x
 same_verdict d (answer u n) y h k = ap verdict h

@@ -2,13 +2,13 @@
 use Rattle.std.proofs.Common.{ℕ, zero, suc, ◌≡◌, Some, None, true, [], ◌∷◌, refl}
 use Rattle.dk_model.specs.Trees.{Tree, star, symbol, variable, rule_variable, apply, bare, annotated, product}
 use Rattle.dk_model.specs.Signatures.{no_patterns, more_patterns, rule_variable_pattern, symbol_pattern, symbol_entry, rules_entry, PlainSignature}
-use Rattle.dk_model.specs.Scoping.{PlainCommand, declare}
+use Rattle.dk_model.specs.Scoping.{PlainLeft, left_symbol, left_rule_variable, left_variable, left_abstraction, left_guard, left_apply, PlainScopedRule, PlainCommand, declare, rule_command}
 use Rattle.dk_model.specs.Evaluation.{whnf_of, comparison_of, normal_of}
 use Rattle.dk_model.specs.Typing.{answer, ended, checked}
 use Rattle.dk_model.specs.Verdicts.{verdict_of, entry_of, body_type}
 use Rattle.dk_model.specs.declared.signature.SymSort.TheVariants.{Static, Definable, Theorem}
 use Rattle.dk_model.specs.declared.code.Verdict.TheVariants.{Accepted, Refused, Ended}
-use Rattle.dk_model.specs.declared.code.Code.TheVariants.{E20, E21, E22, E23, E24, E25}
+use Rattle.dk_model.specs.declared.code.Code.TheVariants.{E20, E21, E22, E23, E24, E25, E30, E31, E32, E33}
 
 -- nat : Type. z : nat. s : nat -> nat. def plus : nat -> nat -> nat.
 -- [n] plus z n --> n  [m, n] plus (s m) n --> s (plus m n).
@@ -138,3 +138,54 @@ definition_without_type = refl
 -- def id (x : a) : a := x. and then: id c : a
 pub identity : verdict_of two_types (declare Definable (Some (product (symbol 0) (symbol 0))) (Some (annotated (symbol 0) (variable 0)))) 100 ≡ Accepted
 identity = refl
+
+-- ---- rules
+
+abbrev rule : ℕ → PlainLeft → Tree → PlainScopedRule
+rule vars left right = record { vars = vars; notes = []; left = left; right = right }
+
+-- z : Type. [] z --> z.
+pub head_not_definable : verdict_of nat_z (rule_command (rule 0 (left_symbol 1) (symbol 1) ∷ [])) 100 ≡ Refused E30
+head_not_definable = refl
+
+-- [x] x --> nat.
+pub head_no_symbol : verdict_of nat_z (rule_command (rule 1 (left_rule_variable 0) (symbol 0) ∷ [])) 100 ≡ Refused E31
+head_no_symbol = refl
+
+-- the rules are looked at one after the other
+pub first_rule_first : verdict_of nat_z (rule_command (rule 0 (left_symbol 1) (symbol 1) ∷ rule 1 (left_rule_variable 0) (symbol 0) ∷ [])) 100 ≡ Refused E30
+first_rule_first = refl
+
+-- plus is symbol 3: [F] plus (x => F x x) --> F.
+pub argument_twice : verdict_of numbers (rule_command (rule 1 (left_apply (left_symbol 3) (left_abstraction (left_apply (left_apply (left_rule_variable 0) (left_variable 0)) (left_variable 0)))) (rule_variable 0) ∷ [])) 100 ≡ Refused E32
+argument_twice = refl
+
+-- [F] plus (x => F) --> F.  [] plus {z} --> z.  [x] plus x x --> x.
+pub abstraction_not_admitted : verdict_of numbers (rule_command (rule 1 (left_apply (left_symbol 3) (left_abstraction (left_rule_variable 0))) (rule_variable 0) ∷ [])) 100 ≡ Refused E32
+abstraction_not_admitted = refl
+
+pub guard_not_admitted : verdict_of numbers (rule_command (rule 0 (left_apply (left_symbol 3) (left_guard (symbol 1))) (symbol 1) ∷ [])) 100 ≡ Refused E32
+guard_not_admitted = refl
+
+pub second_occurrence_not_admitted : verdict_of numbers (rule_command (rule 1 (left_apply (left_apply (left_symbol 3) (left_rule_variable 0)) (left_rule_variable 0)) (rule_variable 0) ∷ [])) 100 ≡ Refused E32
+second_occurrence_not_admitted = refl
+
+-- [x, y] plus x --> y.
+pub variable_missing : verdict_of numbers (rule_command (rule 2 (left_apply (left_symbol 3) (left_rule_variable 0)) (rule_variable 1) ∷ [])) 100 ≡ Refused E33
+variable_missing = refl
+
+-- [m, n] plus (s m) n --> s (plus m n). takes no unit
+abbrev successor : PlainCommand
+successor = rule_command (rule 2 (left_apply (left_apply (left_symbol 3) (left_apply (left_symbol 2) (left_rule_variable 0))) (left_rule_variable 1)) (apply (symbol 2) (plus (rule_variable 0) (rule_variable 1))) ∷ [])
+
+pub rule_accepted : verdict_of numbers successor 0 ≡ Accepted
+rule_accepted = refl
+
+pub rule_kept : entry_of numbers successor None ≡ rules_entry (record {
+  head = 3;
+  vars = 2;
+  pats = symbol_pattern 2 (more_patterns (rule_variable_pattern 0 []) no_patterns) ∷ rule_variable_pattern 1 [] ∷ [];
+  notes = [];
+  right = apply (symbol 2) (plus (rule_variable 0) (rule_variable 1));
+} ∷ [])
+rule_kept = refl

@@ -11,4 +11,5 @@ pub mod Spines
 pub mod Selection
 pub mod Evaluation
 pub mod Typing
+pub mod Shapes
 pub mod Verdicts

@@ -1,13 +1,14 @@
 -- The verdict on a command and the entry that an accepted one adds (docs/typing.md).
-use Rattle.std.specs.Prelude.{Bool, true, false, ◌≡◌, ℕ, Option, Some, None, [], ◌∷◌}
+use Rattle.std.specs.Prelude.{Bool, true, false, ◌≡◌, ℕ, Option, Some, None, Result, Ok, Err, List, []}
 use Rattle.dk_model.specs.Trees.{Tree, kind}
 use Rattle.dk_model.specs.Erasure.{erased}
-use Rattle.dk_model.specs.Signatures.{PlainEntry, symbol_entry, rules_entry, PlainSignature}
+use Rattle.dk_model.specs.Signatures.{PlainRule, PlainEntry, symbol_entry, rules_entry, PlainSignature}
+use Rattle.dk_model.specs.Shapes.{shapes_of, kept_rules}
 use Rattle.dk_model.specs.Scoping.{PlainCommand, declare, rule_command}
 use Rattle.dk_model.specs.Typing.{Judged, answer, refused, ended, next, not_kind, inferred, checked, sort_of}
 use Rattle.dk_model.specs.declared.signature.SymSort.{SymSort}
 use Rattle.dk_model.specs.declared.signature.SymSort.TheVariants.{Static, Definable, Theorem}
-use Rattle.dk_model.specs.declared.code.Code.TheVariants.{E31}
+use Rattle.dk_model.specs.declared.code.Code.{Code}
 use Rattle.dk_model.specs.declared.code.Verdict.{Verdict}
 use Rattle.dk_model.specs.declared.code.Verdict.TheVariants.{Accepted, Refused, Ended, Memory}
 
@@ -31,11 +32,15 @@ declaration_checked S (Some A) b n = next (sort_of S [] [] A n) (λ s m. body_ch
 declaration_checked S None (Some b) n = next (body_type S b n) (λ T m. answer tt m)
 declaration_checked S None None n = answer tt n
 
+-- the rules of a command have their shapes, which takes no unit; their types aren't looked at yet
+abbrev pub rules_checked : Result (List PlainRule) Code → ℕ → Judged (Unit {0})
+rules_checked (Ok rs) n = answer tt n
+rules_checked (Err c) n = refused c
+
 -- the check of a command over a signature, with the units that are left of the budget
 abbrev pub command_checked : PlainSignature → PlainCommand → ℕ → Judged (Unit {0})
 command_checked S (declare s A b) n = declaration_checked S A b n
--- no rule command is accepted yet: the shapes and types of rules aren't defined
-command_checked S (rule_command rs) n = refused E31
+command_checked S (rule_command rs) n = rules_checked (shapes_of S rs) n
 
 -- `Ended` exactly where the check needs more units than the budget
 abbrev pub verdict_of : PlainSignature → PlainCommand → ℕ → Verdict
@@ -72,8 +77,7 @@ kept_body Theorem b = None
 -- the entry of an accepted command, with the type that was inferred for a definition without a declared one
 abbrev pub entry_of : PlainSignature → PlainCommand → Option Tree → PlainEntry
 entry_of S (declare s A b) T = symbol_entry s (entry_type_of A T) (kept_body s b)
--- the entry of no rules, until rule commands are accepted
-entry_of S (rule_command rs) T = rules_entry []
+entry_of S (rule_command rs) T = rules_entry (kept_rules (shapes_of S rs))
 
 -- whether the command is a definition without a declared type
 abbrev pub is_untyped : PlainCommand → Bool
@@ -86,12 +90,3 @@ is_untyped (rule_command rs) = false
 abbrev pub IsVerdictOrMemory : Verdict → Verdict → Type 0
 IsVerdictOrMemory due Memory = Unit {0}
 IsVerdictOrMemory due given = given ≡ due
-
-abbrev pub AddsNoRules : PlainEntry → Type 0
-AddsNoRules (symbol_entry s t b) = Unit {0}
-AddsNoRules (rules_entry rs) = rs ≡ []
-
--- no entry has a rule besides the bodies of definitions
-abbrev pub HasNoRules : PlainSignature → Type 0
-HasNoRules [] = Unit {0}
-HasNoRules (e ∷ es) = AddsNoRules e × HasNoRules es
