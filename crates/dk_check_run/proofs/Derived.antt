@@ -2,9 +2,9 @@
 use Rattle.std.proofs.Common.{◌≡◌, ◌≢◌, ℕ, ◌+◌, Bool, true, false, List, [], ◌∷◌, ◌++◌, refl, sym, ap, subst, ◌∙◌, arith}
 use Rattle.std.specs.Prelude.{Option, Some, None, if◌then◌else◌, nat_le}
 use Rattle.dk_model.specs.Limits.{standard}
-use Rattle.dk_model.specs.Scoping.{PlainCommand}
+use Rattle.dk_model.specs.Scoping.{PlainCommand, declare, rule_command}
 use Rattle.dk_model.specs.Signatures.{PlainEntry, PlainSignature}
-use Rattle.dk_model.specs.Verdicts.{HasNoRules, entry_of, inferred_type, verdict_of}
+use Rattle.dk_model.specs.Verdicts.{entry_of, inferred_type, verdict_of}
 use Rattle.dk_model.specs.declared.code.Code.TheVariants.{E08}
 use Rattle.dk_model.specs.declared.code.Verdict.{Verdict}
 use Rattle.dk_model.specs.declared.code.Verdict.TheVariants as verdict
@@ -14,29 +14,30 @@ use Rattle.dk_parser.specs.Reading.{Tail, read}
 use Rattle.dk_parser.specs.Written.{WrittenCommand, WrittenForm}
 use Rattle.scope_terms.specs.Scopes.{Scoping, scoped, refused, scope_of}
 use Rattle.typing_model.specs.Derivations.{HasDerivation}
-use Rattle.typing_model.proofs.Commands.{accepted_derives, unruled_numbered}
+use Rattle.typing_model.proofs.Commands.{accepted_derives}
 use Rattle.typing_model.proofs.Rules.{comparison_joins, whnf_reduces}
 use Rattle.command_line.specs.Requests.{Request}
 use Rattle.verdict_book.specs.Report.{status_of}
 use Rattle.dk_check_run.specs.Outcomes.{FileReport, Theory, by_verdict, no_theory, report_from, scoped_entry, scoped_verdict, theory_after, verdict_after, verdict_at}
 use Rattle.dk_check_run.specs.Run.{AllDerived, Answers, AsksFor, IsDerived, ShelfState, SinkState}
 use Rattle.dk_check_run.proofs.Clauses.{own}
-use Rattle.dk_check_run.proofs.Sound.{entry_adds, no_rules_more}
+use Rattle.typing_model.specs.Laws.{IsNumbered}
+use Rattle.typing_model.proofs.Shapes.{entry_numbered, numbered_more}
 use Rattle.std.proofs.Common.{inl}
 
-scoped_derives : (S : PlainSignature) (budget : ℕ) (T : Theory) (s : Scoping PlainCommand) → T.signature ≡ S → HasNoRules S → scoped_verdict S budget s ≡ verdict.Accepted → IsDerived T s
-scoped_derives S budget T (refused code) same none e = cc
-scoped_derives S budget T (scoped c) same none e =
-    let numbered = unruled_numbered S none in
-    subst (λ (U : PlainSignature). HasDerivation U c) (sym same) (accepted_derives S (whnf_reduces S numbered) (comparison_joins S numbered) c budget e)
+scoped_derives : (S : PlainSignature) (budget : ℕ) (T : Theory) (s : Scoping PlainCommand) → T.signature ≡ S → IsNumbered S → scoped_verdict S budget s ≡ verdict.Accepted → IsDerived T s
+scoped_derives S budget T (refused code) same numbered e = cc
+scoped_derives S budget T (scoped (rule_command rules)) same numbered e = tt
+scoped_derives S budget T (scoped (declare sort typ body)) same numbered e =
+    subst (λ (U : PlainSignature). HasDerivation U (declare sort typ body)) (sym same) (accepted_derives S (whnf_reduces S numbered) (comparison_joins S numbered) sort typ body budget e)
 
-entries_more : (S : PlainSignature) (budget : ℕ) (s : Scoping PlainCommand) → HasNoRules S → HasNoRules (S ++ scoped_entry S budget s)
-entries_more S budget (refused code) none = subst HasNoRules (sym (append_none S)) none
+entries_more : (S : PlainSignature) (budget : ℕ) (s : Scoping PlainCommand) → IsNumbered S → IsNumbered (S ++ scoped_entry S budget s)
+entries_more S budget (refused code) numbered = subst IsNumbered (sym (append_none S)) numbered
   where
     append_none : (xs : List PlainEntry) → xs ++ [] ≡ xs
     append_none [] = refl
     append_none (x ∷ xs) = ap (λ ys. x ∷ ys) (append_none xs)
-entries_more S budget (scoped c) none = no_rules_more S (entry_of S c (inferred_type S c budget)) none (entry_adds S c (inferred_type S c budget))
+entries_more S budget (scoped c) numbered = numbered_more S (entry_of S c (inferred_type S c budget)) numbered (entry_numbered S c (inferred_type S c budget))
 
 -- below the limit of commands
 accepted_after : (b : Bool) (v : Verdict) → (if b then verdict.Refused E08 else v) ≡ verdict.Accepted → v ≡ verdict.Accepted
@@ -49,12 +50,12 @@ accepted_first (verdict.Refused code) n c rest e = absurd (omega (arith, e))
 accepted_first verdict.Ended n c rest e = absurd (omega (arith, e))
 accepted_first verdict.Memory n c rest e = absurd (omega (arith, e))
 
-all_derived : (limits : Limits) (budget : ℕ) (T : Theory) (n : ℕ) (cs : List WrittenCommand) (tail : Tail) → HasNoRules T.signature → status_of (report_from limits budget T n cs tail).outcome ≡ 0 → AllDerived budget T cs
-all_derived limits budget T n [] tail none e = tt
-all_derived limits budget T n (c ∷ cs) tail none e =
+all_derived : (limits : Limits) (budget : ℕ) (T : Theory) (n : ℕ) (cs : List WrittenCommand) (tail : Tail) → IsNumbered T.signature → status_of (report_from limits budget T n cs tail).outcome ≡ 0 → AllDerived budget T cs
+all_derived limits budget T n [] tail numbered e = tt
+all_derived limits budget T n (c ∷ cs) tail numbered e =
     let first = accepted_first (verdict_at limits budget T n c.form) n c (report_from limits budget (theory_after T budget c.form) (n + 1) cs tail) e in (
-      scoped_derives T.signature budget T (scope_of T.names c.form) refl none (accepted_after (nat_le limits.commands n) (verdict_after T budget c.form) first.0),
-      all_derived limits budget (theory_after T budget c.form) (n + 1) cs tail (entries_more T.signature budget (scope_of T.names c.form) none) first.1,
+      scoped_derives T.signature budget T (scope_of T.names c.form) refl numbered (accepted_after (nat_le limits.commands n) (verdict_after T budget c.form) first.0),
+      all_derived limits budget (theory_after T budget c.form) (n + 1) cs tail (entries_more T.signature budget (scope_of T.names c.form) numbered) first.1,
     )
 
 pub derived : (request : Option Request) (old new : ShelfState) (before after : SinkState) (result : ℕ) → Answers request old new before after result

@@ -4,26 +4,20 @@ use Rattle.std.specs.Prelude.{Option}
 use Rattle.dk_model.specs.Signatures.{PlainEntry, PlainSignature}
 use Rattle.dk_model.specs.Scoping.{PlainCommand, declare, rule_command}
 use Rattle.dk_model.specs.Trees.{Tree}
-use Rattle.dk_model.specs.Verdicts.{AddsNoRules, HasNoRules, entry_of, inferred_type}
+use Rattle.dk_model.specs.Verdicts.{entry_of, inferred_type}
 use Rattle.dk_parser.specs.Written.{WrittenForm, written_declare, written_rules}
 use Rattle.scope_terms.specs.Scopes.{Numbered, Scoping, scoped, refused, names_after}
+use Rattle.typing_model.specs.Laws.{IsNumberedEntry}
+use Rattle.typing_model.proofs.Shapes.{entry_numbered, numbered_more}
 use Rattle.dk_check_run.specs.Outcomes.{scoped_entry}
 use Rattle.dk_check_run.specs.Theories.{Checked, IsSound, AcceptsWith, Adds}
-
-pub no_rules_more : (S : PlainSignature) (e : PlainEntry) → HasNoRules S → AddsNoRules e → HasNoRules (S ++ e ∷ [])
-no_rules_more [] e none adds = (adds, tt)
-no_rules_more (d ∷ S) e none adds = (none.0, no_rules_more S e none.1 adds)
-
-pub entry_adds : (S : PlainSignature) (c : PlainCommand) (T : Option Tree) → AddsNoRules (entry_of S c T)
-entry_adds S (declare sort typ body) T = tt
-entry_adds S (rule_command rs) T = refl
 
 first_of_one : (a b : PlainEntry) → a ∷ [] ≡ b ∷ [] → a ≡ b
 first_of_one a b e = cc
 
-scoped_adds : (S : PlainSignature) (budget : ℕ) (s : Scoping PlainCommand) (e : PlainEntry) → scoped_entry S budget s ≡ e ∷ [] → AddsNoRules e
-scoped_adds S budget (refused code) e is = cc
-scoped_adds S budget (scoped c) e is = subst AddsNoRules (first_of_one _ _ is) (entry_adds S c (inferred_type S c budget))
+scoped_numbered : (S : PlainSignature) (budget : ℕ) (s : Scoping PlainCommand) (e : PlainEntry) → scoped_entry S budget s ≡ e ∷ [] → IsNumberedEntry e
+scoped_numbered S budget (refused code) e is = cc
+scoped_numbered S budget (scoped c) e is = subst IsNumberedEntry (first_of_one _ _ is) (entry_numbered S c (inferred_type S c budget))
 
 names_counted : (N : Numbered) (form : WrittenForm) → (names_after N form).count ≡ N.count + 1
 names_counted N (written_declare sort name params typ body) = refl
@@ -36,5 +30,5 @@ sound_after {old = old} {middle = middle} {new = new} {budget = budget} {form = 
     adds ∙ ap (λ (c : Checked). let r : Checked = record { theory = record { names = c.theory.names; signature = c.theory.signature ++ entry ∷ [] }; shown = c.shown ++ name ∷ [] } in r) accepts.declared in
     subst IsSound (sym is) (record {
       counted = names_counted old.theory.names form ∙ ap (λ n. n + 1) sound.counted ∙ sym (length-append old.shown (name ∷ []));
-      no_rules = no_rules_more old.theory.signature entry sound.no_rules (scoped_adds old.theory.signature budget _ entry accepts.entry_is);
+      numbered = numbered_more old.theory.signature entry sound.numbered (scoped_numbered old.theory.signature budget _ entry accepts.entry_is);
     })

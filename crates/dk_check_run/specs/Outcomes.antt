@@ -11,7 +11,7 @@ use Rattle.dk_model.specs.declared.code.Verdict.TheVariants as verdict
 use Rattle.dk_lexer.specs.Tokens.{Ending}
 use Rattle.dk_parser.specs.Reading.{Reading, Tail, read}
 use Rattle.dk_parser.specs.Reading as reading
-use Rattle.dk_parser.specs.Written.{WrittenForm, written_declare, written_rules, WrittenCommand}
+use Rattle.dk_parser.specs.Written.{WrittenPattern, pattern_name, pattern_apply, WrittenRule, WrittenForm, written_declare, written_rules, WrittenCommand}
 use Rattle.scope_terms.specs.Scopes.{Numbered, Scoping, scoped, refused, no_names, names_after, scope_of}
 use Rattle.verdict_book.specs.declared.outcome.Outcome.{Outcome}
 use Rattle.verdict_book.specs.declared.outcome.Outcome.TheVariants.{Accepted, Stopped, Unread}
@@ -43,10 +43,17 @@ theory_after T budget form = record {
   signature = T.signature ++ scoped_entry T.signature budget (scope_of T.names form);
 }
 
--- the name in the `ok` line of a command: the declared one; no rule command is accepted yet
+-- the name at the head of a left side
+abbrev pub head_name : WrittenPattern → List ℕ
+head_name (pattern_name name) = name
+head_name (pattern_apply f a) = head_name f
+head_name p = []
+
+-- the name in the `ok` line of a command: the declared one, or that at the head of the first rule
 abbrev pub shown_name : WrittenForm → List ℕ
 shown_name (written_declare sort name params typ body) = name
-shown_name (written_rules rules) = []
+shown_name (written_rules []) = []
+shown_name (written_rules (rule ∷ rules)) = head_name rule.left
 
 -- the names of the `ok` lines and the outcome
 pub record FileReport : Type 0 where

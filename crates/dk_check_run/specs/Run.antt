@@ -8,7 +8,7 @@ use Rattle.dk_lexer.specs.Tokens.{broken, whole}
 use Rattle.dk_parser.specs.Reading.{read}
 use Rattle.dk_parser.specs.Written.{WrittenCommand}
 use Rattle.scope_terms.specs.Scopes.{Scoping, scoped, refused, scope_of}
-use Rattle.dk_model.specs.Scoping.{PlainCommand}
+use Rattle.dk_model.specs.Scoping.{PlainCommand, declare, rule_command}
 use Rattle.typing_model.specs.Derivations.{HasDerivation}
 use Rattle.command_line.specs.Requests.{Request}
 use Rattle.command_line.specs.Usage.{usage_text}
@@ -42,16 +42,18 @@ memory_at_once = stop_line 0 0 verdict.Memory 0
 
 -- ---- derivations
 
+-- of rules no derivation is claimed: their types aren't looked at yet
 abbrev pub IsDerived : Theory → Scoping PlainCommand → Type 0
-IsDerived T (scoped c) = HasDerivation T.signature c
+IsDerived T (scoped (declare sort typ body)) = HasDerivation T.signature (declare sort typ body)
+IsDerived T (scoped (rule_command rules)) = Unit {0}
 IsDerived T (refused code) = ⊥
 
--- each command has a derivation over the commands before it
+-- each declared type and body has a derivation over the commands before it
 abbrev pub AllDerived : ℕ → Theory → List WrittenCommand → Type 0
 AllDerived budget T [] = Unit {0}
 AllDerived budget T (c ∷ cs) = IsDerived T (scope_of T.names c.form) × AllDerived budget (theory_after T budget c.form) cs
 
--- each command of the file has a derivation over the commands before it
+-- each declared type and body of the file has a derivation over the commands before it
 abbrev pub IsFileDerived : Request → List ℕ → Type 0
 IsFileDerived q bytes = AllDerived q.budget no_theory (read standard bytes whole).commands
 

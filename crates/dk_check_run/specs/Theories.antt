@@ -1,6 +1,6 @@
 -- The theory that the program keeps, and a step of it.
 use Rattle.std.specs.Prelude.{◌≡◌, ◌≢◌, ℕ, List, [], ◌∷◌, ◌++◌, length}
-use Rattle.dk_model.specs.Verdicts.{HasNoRules, IsVerdictOrMemory, entry_of, inferred_type, verdict_of}
+use Rattle.dk_model.specs.Verdicts.{IsVerdictOrMemory, entry_of, inferred_type, verdict_of}
 use Rattle.dk_model.specs.declared.code.Verdict.{Verdict}
 use Rattle.dk_model.specs.declared.code.Verdict.TheVariants as verdict
 use Rattle.dk_model.specs.declared.limits.Limits.{Limits}
@@ -8,6 +8,7 @@ use Rattle.dk_parser.specs.Written.{WrittenForm}
 use Rattle.scope_terms.specs.Scopes.{names_after, scope_of}
 use Rattle.dk_model.specs.Signatures.{PlainEntry, PlainSignature, plain_signature}
 use Rattle.dk_model.specs.Scoping.{PlainCommand}
+use Rattle.typing_model.specs.Laws.{IsNumbered}
 use Rattle.dk_check_run.specs.declared.theory.Theory.{Theory as Kept}
 use Rattle.dk_check_run.specs.Outcomes.{Theory, no_theory, scoped_entry, theory_after, verdict_after, verdict_at, shown_name}
 
@@ -23,10 +24,10 @@ checked_of t = record { theory = record { names = t.names; signature = plain_sig
 abbrev pub nothing_checked : Checked
 nothing_checked = record { theory = no_theory; shown = [] }
 
--- each accepted command has a number, and none has rules yet
+-- each accepted command has a number, and the rules number their variables
 pub record IsSound (c : Checked) : Type 0 where
   pub counted : c.theory.names.count ≡ length c.shown
-  pub no_rules : HasNoRules c.theory.signature
+  pub numbered : IsNumbered c.theory.signature
 
 abbrev pub checked_after : Checked → ℕ → WrittenForm → Checked
 checked_after c budget form = record { theory = theory_after c.theory budget form; shown = c.shown ++ shown_name form ∷ [] }

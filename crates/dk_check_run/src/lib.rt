@@ -12,3 +12,6 @@ pub use reader::Reader;
 pub use shelf_read::read_book;
 pub use theory::Theory;
 pub use top::run;
+
+#[cfg(test)]
+mod tests;

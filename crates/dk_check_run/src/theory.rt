@@ -1,13 +1,12 @@
 //! The theory of the commands accepted so far, and the check of the next one.
-ghost use Rattle.std.specs.Prelude.{◌≡◌, ◌<◌, ◌≤◌, ◌∷◌, ◌++◌, [], IfOk, IfErr, OnOk, OnErr, length};
+ghost use Rattle.std.specs.Prelude.{◌≡◌, ◌<◌, ◌≤◌, ◌∷◌, ◌++◌, [], IfOk, IfErr, OnOk, OnErr, length, map};
 ghost use Rattle.dk_model.specs.Signatures.{plain_entry};
-ghost use Rattle.dk_model.specs.Verdicts.{HasNoRules};
-ghost use Rattle.dk_parser.specs.Written.{written_form};
-ghost use Rattle.dk_check_run.specs.Outcomes.{shown_name, verdict_after};
+ghost use Rattle.dk_parser.specs.Written.{written_form, written_pattern, written_rule, written_rules};
+ghost use Rattle.dk_check_run.specs.Outcomes.{head_name, shown_name, verdict_after};
 ghost use Rattle.dk_check_run.specs.Theories.{AcceptsWith, Adds, IsOtherVerdict, IsSound, Judges, checked_of, nothing_checked};
 
 use dk_model::{Code, Entry, Fault, Limits, Listed, NoMemory, Signature, Verdict};
-use dk_parser::{Raw, RawForm};
+use dk_parser::{Raw, RawForm, RawPat, RawRule};
 use plain_check::enter_plain;
 use scope_terms::Names;
 use std::alloc::Global;
@@ -20,13 +19,34 @@ pub struct Theory {
     shown: Vec<Listed<u8>>,
 }
 
-// The declared name, for the `ok` line.
-fn shown_name(alloc: Global, form: RawForm) -> Listed<u8>
-    ensures { result ≡ shown_name (written_form form) }
+// The name for the `ok` line: the declared one, or that at the head of the first rule.
+fn shown_name(alloc: Global, form: RawForm) -> Result<Listed<u8>, NoMemory>
+    ensures { IfOk result (λ name. name ≡ shown_name (written_form form)) }
 {
     match form {
-        RawForm::Declare { name, .. } => name,
-        RawForm::Rules(_) => Listed::new(alloc),
+        RawForm::Declare { name, .. } => Ok(name),
+        RawForm::Rules(rules) => first_head(alloc, rules.as_slice()),
+    }
+}
+
+// The name at the head of the first rule.
+fn first_head(alloc: Global, rules: &[RawRule]) -> Result<Listed<u8>, NoMemory>
+    ensures { IfOk result (λ name. name ≡ shown_name (written_rules (map written_rule rules.now))) }
+{
+    match rules {
+        [] => Ok(Listed::new(alloc)),
+        [rule, ..] => head_name(alloc, &rule.left),
+    }
+}
+
+// The name at the head of a left side.
+fn head_name(alloc: Global, left: &RawPat) -> Result<Listed<u8>, NoMemory>
+    ensures { IfOk result (λ name. name ≡ head_name (written_pattern left.now)) }
+{
+    match left {
+        RawPat::Name(name) => name.copy(alloc),
+        RawPat::App(f, _) => head_name(alloc, f),
+        _ => Ok(Listed::new(alloc)),
     }
 }
 
@@ -65,8 +85,11 @@ impl Theory {
             return Verdict::Refused(Code::E08);
         }
         match self.checked_entry(alloc, budget, &raw) {
-            Ok(entry) => match self.add(entry, shown_name(alloc, raw.form)) {
-                Ok(()) => Verdict::Accepted,
+            Ok(entry) => match shown_name(alloc, raw.form) {
+                Ok(name) => match self.add(entry, name) {
+                    Ok(()) => Verdict::Accepted,
+                    Err(_) => Verdict::Memory,
+                },
                 Err(_) => Verdict::Memory,
             },
             Err(verdict) => verdict,
@@ -76,7 +99,6 @@ impl Theory {
     // The entry of the next command where it is accepted, whose name is declared then; else its verdict.
     fn checked_entry(&mut self, alloc: Global, budget: u64, raw: &Raw) -> Result<Entry, Verdict>
         requires few { (checked_of self.old).theory.names.count < 4294967295 }
-        requires no_rules { HasNoRules (checked_of self.old).theory.signature }
         ensures ok { IfOk result (λ e. AcceptsWith (checked_of self.old) budget (written_form raw.now.form) (plain_entry e) (checked_of self.new)) }
         ensures err { IfErr result (λ v. IsOtherVerdict (verdict_after (checked_of self.old).theory budget (written_form raw.now.form)) v) }
         ensures kept { (checked_of self.new).shown ≡ (checked_of self.old).shown }

@@ -1,0 +1,459 @@
+//! Whole reports, and what failing calls of shelf and sink lead to.
+ghost use Rattle.std.specs.Prelude.{◌<◌};
+
+use crate::run;
+use dk_io::{Book, MemShelf, MemSink};
+use std::alloc::Global;
+use std::test::Fail;
+
+// A file's text, the status and the report, under the words `check f.dk`.
+const FILES: [(&str, u8, &str); 57] = [
+    ("", 0, "accepted 0\n"),
+    ("nat : Type.", 0, "ok 1 nat\naccepted 1\n"),
+    (
+        "nat : Type. z : nat. thm t : nat := z.",
+        0,
+        "ok 1 nat\nok 2 z\nok 3 t\naccepted 3\n",
+    ),
+    (
+        "a : Type. b : Type. x : a. thm t : b := x.",
+        1,
+        "ok 1 a\nok 2 b\nok 3 x\nrefused 4 line 1 E21\n",
+    ),
+    ("thm t : Type := Type.", 1, "refused 1 line 1 E21\n"),
+    ("a : Type. a : Type.", 1, "ok 1 a\nrefused 2 line 1 E11\n"),
+    (
+        "{|x y|} : Type. {|x y|} : Type.",
+        1,
+        "ok 1 {|x y|}\nrefused 2 line 1 E11\n",
+    ),
+    ("thm t : a := x. a : Type.", 1, "refused 1 line 1 E10\n"),
+    ("a : Type.\n\nb : c.", 1, "ok 1 a\nrefused 2 line 3 E10\n"),
+    ("a : Type. a.b : Type.", 1, "ok 1 a\nrefused 2 line 1 E02\n"),
+    ("a $ b.", 1, "refused 1 line 1 E01\n"),
+    (".", 1, "refused 1 line 1 E02\n"),
+    ("#NAME m.", 1, "refused 1 line 1 E06\n"),
+    ("x : _.", 1, "refused 1 line 1 E12\n"),
+    ("x : m.a.", 1, "refused 1 line 1 E10\n"),
+    (
+        "nat : Type. z : nat. x : z.",
+        1,
+        "ok 1 nat\nok 2 z\nrefused 3 line 1 E22\n",
+    ),
+    ("nat : Type", 1, "refused 1 line 1 E03\n"),
+    ("nat : Type. (; x", 1, "ok 1 nat\nrefused 2 line 1 E03\n"),
+    ("(; one (; two ;) ;) a : Type.", 0, "ok 1 a\naccepted 1\n"),
+    // The first fault in the file, not a later one.
+    (
+        "a : Type. b : Type. x : a. thm t : b := x. c c.",
+        1,
+        "ok 1 a\nok 2 b\nok 3 x\nrefused 4 line 1 E21\n",
+    ),
+    (
+        "a : Type.\n(; b\n ;) x :\n ).",
+        1,
+        "ok 1 a\nrefused 2 line 3 E02\n",
+    ),
+    ("a : Type.\n\n (; b", 1, "ok 1 a\nrefused 2 line 3 E03\n"),
+    ("a : Type.\n\n $", 1, "ok 1 a\nrefused 2 line 3 E01\n"),
+    ("a : Type.\r\nb : a.\r\n", 0, "ok 1 a\nok 2 b\naccepted 2\n"),
+    ("x : ((Type)).", 0, "ok 1 x\naccepted 1\n"),
+    ("x : (Type.", 1, "refused 1 line 1 E02\n"),
+    ("thm t : Type.", 1, "refused 1 line 1 E02\n"),
+    (
+        "a : Type. thm t : Type := a.",
+        0,
+        "ok 1 a\nok 2 t\naccepted 2\n",
+    ),
+    (
+        "a : Type. thm t : Type := a. x : t.",
+        0,
+        "ok 1 a\nok 2 t\nok 3 x\naccepted 3\n",
+    ),
+    (
+        "a : Type. thm t : Type := a. x : a. thm u : t := x.",
+        1,
+        "ok 1 a\nok 2 t\nok 3 x\nrefused 4 line 1 E21\n",
+    ),
+    (
+        "nat : Type. z : nat. s : nat -> nat. thm t : nat := s (s z).",
+        0,
+        "ok 1 nat\nok 2 z\nok 3 s\nok 4 t\naccepted 4\n",
+    ),
+    (
+        "a : Type. f : x : a -> a. g : (x : a) -> a. x : a. thm t : a := f (g x).",
+        0,
+        "ok 1 a\nok 2 f\nok 3 g\nok 4 x\nok 5 t\naccepted 5\n",
+    ),
+    (
+        "a : Type. x : a. thm t : a := (y : a => y) x.",
+        0,
+        "ok 1 a\nok 2 x\nok 3 t\naccepted 3\n",
+    ),
+    (
+        "nat : Type. z : nat. thm t : nat := z z.",
+        1,
+        "ok 1 nat\nok 2 z\nrefused 3 line 1 E20\n",
+    ),
+    (
+        "a : Type. P : a -> Type. x : a. y : a. p : P x. thm t : P y := p.",
+        1,
+        "ok 1 a\nok 2 P\nok 3 x\nok 4 y\nok 5 p\nrefused 6 line 1 E21\n",
+    ),
+    (
+        "nat : Type. thm t : nat := x : nat => x.",
+        1,
+        "ok 1 nat\nrefused 2 line 1 E24\n",
+    ),
+    (
+        "nat : Type. z : nat. thm t : nat := (x : nat => Type) z.",
+        1,
+        "ok 1 nat\nok 2 z\nrefused 3 line 1 E25\n",
+    ),
+    ("x : Type Type.", 1, "refused 1 line 1 E20\n"),
+    ("x : Type -> Type.", 1, "refused 1 line 1 E22\n"),
+    (
+        "a : Type. def id (x : a) : a := x. c : a. thm t : a := id c.",
+        0,
+        "ok 1 a\nok 2 id\nok 3 c\nok 4 t\naccepted 4\n",
+    ),
+    (
+        "a : Type. def b : Type := a. x : a. thm t : b := x.",
+        0,
+        "ok 1 a\nok 2 b\nok 3 x\nok 4 t\naccepted 4\n",
+    ),
+    (
+        "a : Type. thm b : Type := a. x : a. thm t : b := x.",
+        1,
+        "ok 1 a\nok 2 b\nok 3 x\nrefused 4 line 1 E21\n",
+    ),
+    (
+        "a : Type. x : a. def y := x.",
+        0,
+        "ok 1 a\nok 2 x\nok 3 y\naccepted 3\n",
+    ),
+    ("def id := x => x.", 1, "refused 1 line 1 E23\n"),
+    (
+        "nat : Type. thm t : nat := x => x.",
+        1,
+        "ok 1 nat\nrefused 2 line 1 E24\n",
+    ),
+    (
+        "nat : Type. def f := x : nat => Type.",
+        1,
+        "ok 1 nat\nrefused 2 line 1 E25\n",
+    ),
+    (
+        "a : Type. P : a -> Type. def f (p : P x) (x : a) : a := x.",
+        1,
+        "ok 1 a\nok 2 P\nrefused 3 line 1 E10\n",
+    ),
+    ("a : Type. def f : a := f.", 1, "ok 1 a\nrefused 2 line 1 E10\n"),
+    (
+        "a : Type. def f : Type. x : a. thm t : f := x. [] f --> a.",
+        1,
+        "ok 1 a\nok 2 f\nok 3 x\nrefused 4 line 1 E21\n",
+    ),
+    (
+        "a : Type. def f : Type. x : a. [] f --> a. thm t : f := x.",
+        0,
+        "ok 1 a\nok 2 f\nok 3 x\nok 4 f\nok 5 t\naccepted 5\n",
+    ),
+    (
+        "a : Type. f : (x : a) -> a. def g (x : a) : a := f x. {g_rule} [x : a] g x --> x.",
+        0,
+        "ok 1 a\nok 2 f\nok 3 g\nok 4 g\naccepted 4\n",
+    ),
+    (
+        "nat : Type. z : nat. x : nat. a : Type. b : Type. ca : a. cb : b. def f : nat -> Type. [] f z --> a [n] f n --> b. thm t1 : f z := ca. thm t2 : f x := cb. thm t3 : f z := cb.",
+        1,
+        "ok 1 nat\nok 2 z\nok 3 x\nok 4 a\nok 5 b\nok 6 ca\nok 7 cb\nok 8 f\nok 9 f\nok 10 t1\nok 11 t2\nrefused 12 line 1 E21\n",
+    ),
+    ("[x, x] f x --> x.", 1, "refused 1 line 1 E13\n"),
+    ("z : Type. [] z --> z.", 1, "ok 1 z\nrefused 2 line 1 E30\n"),
+    ("o : Type. [x] x --> o.", 1, "ok 1 o\nrefused 2 line 1 E31\n"),
+    (
+        "o : Type. def f : (o -> o) -> o. [F] f (x => F x x) --> F.",
+        1,
+        "ok 1 o\nok 2 f\nrefused 3 line 1 E32\n",
+    ),
+    (
+        "o : Type. def f : o -> o. [x, y] f x --> y.",
+        1,
+        "ok 1 o\nok 2 f\nrefused 3 line 1 E33\n",
+    ),
+];
+
+fn shelf_of(alloc: Global, text: &str, piece: usize, failing: &[u64]) -> Result<MemShelf, Fail>
+    requires { 0 < piece }
+{
+    let book = Book {
+        name: String::from_str(alloc, "f.dk")?,
+        bytes: Vec::from_slice(alloc, text.as_bytes())?,
+    };
+    let mut books = Vec::new(alloc);
+    books.push(book)?;
+    Ok(MemShelf::new(alloc, books, piece, Vec::from_slice(alloc, failing)?)?)
+}
+
+fn words_of(alloc: Global, words: &[&str]) -> Result<Vec<String>, Fail> {
+    let mut all = Vec::new(alloc);
+    all.push(String::from_str(alloc, "dk_check")?)?;
+    for word in words {
+        all.push(String::from_str(alloc, word)?)?;
+    }
+    Ok(all)
+}
+
+#[test]
+fn reports_each_file(rt: HostRuntime) -> Result<(), Fail> {
+    let alloc = rt.alloc();
+    let words = words_of(alloc, &["check", "f.dk"])?;
+    for (text, status, report) in &FILES {
+        let mut shelf = shelf_of(alloc, text, 4096, &[])?;
+        let mut sink = MemSink::new(alloc, 1000, 4096, Vec::new(alloc))?;
+        let got = run(alloc, words.as_slice(), &mut shelf, &mut sink);
+        assert_eq!(rt; sink.bytes(), report.as_bytes());
+        assert_eq!(rt; got, *status);
+    }
+    Ok(())
+}
+
+// A file's text, the budget, the status and the report.
+const BUDGETS: [(&str, &str, u8, &str); 7] = [
+    (
+        "nat : Type. z : nat. thm t : nat := z.",
+        "--budget=2",
+        0,
+        "ok 1 nat\nok 2 z\nok 3 t\naccepted 3\n",
+    ),
+    (
+        "nat : Type. z : nat. thm t : nat := z.",
+        "--budget=1",
+        6,
+        "ok 1 nat\nok 2 z\nbudget 3 line 1 1\n",
+    ),
+    (
+        "a : Type. def b : Type := a. x : a. thm t : b := x.",
+        "--budget=5",
+        0,
+        "ok 1 a\nok 2 b\nok 3 x\nok 4 t\naccepted 4\n",
+    ),
+    (
+        "a : Type. def b : Type := a. x : a. thm t : b := x.",
+        "--budget=4",
+        6,
+        "ok 1 a\nok 2 b\nok 3 x\nbudget 4 line 1 4\n",
+    ),
+    (
+        "def c : Type. [] c --> c. a : Type. x : a. thm t : c := x.",
+        "--budget=1000",
+        6,
+        "ok 1 c\nok 2 c\nok 3 a\nok 4 x\nbudget 5 line 1 1000\n",
+    ),
+    (NUMBERS, "--budget=55", 0, "ok 1 nat\nok 2 z\nok 3 s\nok 4 plus\nok 5 plus\nok 6 eq\nok 7 refl\nok 8 two\naccepted 8\n"),
+    (NUMBERS, "--budget=54", 6, "ok 1 nat\nok 2 z\nok 3 s\nok 4 plus\nok 5 plus\nok 6 eq\nok 7 refl\nbudget 8 line 9 54\n"),
+];
+
+const NUMBERS: &str = "nat : Type.\nz : nat.\ns : nat -> nat.\ndef plus : nat -> nat -> nat.\n[n] plus z n --> n\n[m, n] plus (s m) n --> s (plus m n).\neq : nat -> nat -> Type.\nrefl : n : nat -> eq n n.\nthm two : eq (plus (s (s z)) (s (s z))) (s (s (s (s z)))) := refl (s (s (s (s z)))).\n";
+
+#[test]
+fn counts_units(rt: HostRuntime) -> Result<(), Fail> {
+    let alloc = rt.alloc();
+    for (text, budget, status, report) in &BUDGETS {
+        let words = words_of(alloc, &["check", budget, "f.dk"])?;
+        let mut shelf = shelf_of(alloc, text, 4096, &[])?;
+        let mut sink = MemSink::new(alloc, 1000, 4096, Vec::new(alloc))?;
+        let got = run(alloc, words.as_slice(), &mut shelf, &mut sink);
+        assert_eq!(rt; sink.bytes(), report.as_bytes());
+        assert_eq!(rt; got, *status);
+    }
+    Ok(())
+}
+
+// What fails under the words: the bytes of a read, the shelf's call that fails, the bytes of a write, the sink's call that
+// fails (0: none), the status and the bytes taken. The shelf's first call is the opening.
+struct Failure {
+    text: &'static str,
+    words: [&'static str; 3],
+    piece: usize,
+    shelf_call: u64,
+    sink_piece: usize,
+    sink_call: u64,
+    status: u8,
+    taken: &'static str,
+}
+
+const TWO: &str = "a : Type.\nb : Type.\n";
+
+const WRONG: &str = "a : Type. b : Type. x : a. thm t : b := x.\n";
+
+const FAILURES: [Failure; 15] = [
+    Failure {
+        text: TWO,
+        words: ["check", "--quiet", "f.dk"],
+        piece: 7,
+        shelf_call: 0,
+        sink_piece: 9,
+        sink_call: 0,
+        status: 0,
+        taken: "accepted 2\n",
+    },
+    Failure {
+        text: TWO,
+        words: ["check", "--budget=1", "f.dk"],
+        piece: 1,
+        shelf_call: 0,
+        sink_piece: 1,
+        sink_call: 0,
+        status: 0,
+        taken: "ok 1 a\nok 2 b\naccepted 2\n",
+    },
+    Failure {
+        text: TWO,
+        words: ["check", "--budget=0", "f.dk"],
+        piece: 1,
+        shelf_call: 0,
+        sink_piece: 99,
+        sink_call: 0,
+        status: 2,
+        taken: "usage: dk_check check [--budget B] [--quiet] FILE\n",
+    },
+    Failure {
+        text: TWO,
+        words: ["check", "--quiet", "--help"],
+        piece: 1,
+        shelf_call: 0,
+        sink_piece: 99,
+        sink_call: 0,
+        status: 2,
+        taken: "usage: dk_check check [--budget B] [--quiet] FILE\n",
+    },
+    Failure {
+        text: TWO,
+        words: ["check", "--quiet", "--quiet"],
+        piece: 1,
+        shelf_call: 0,
+        sink_piece: 99,
+        sink_call: 1,
+        status: 5,
+        taken: "",
+    },
+    Failure {
+        text: TWO,
+        words: ["check", "--budget=9", "g.dk"],
+        piece: 1,
+        shelf_call: 0,
+        sink_piece: 3,
+        sink_call: 0,
+        status: 3,
+        taken: "unopened g.dk\n",
+    },
+    Failure {
+        text: TWO,
+        words: ["check", "--budget=9", "g.dk"],
+        piece: 1,
+        shelf_call: 0,
+        sink_piece: 3,
+        sink_call: 2,
+        status: 5,
+        taken: "uno",
+    },
+    Failure {
+        text: TWO,
+        words: ["check", "--budget=9", "f.dk"],
+        piece: 1,
+        shelf_call: 1,
+        sink_piece: 99,
+        sink_call: 0,
+        status: 3,
+        taken: "unopened f.dk\n",
+    },
+    Failure {
+        text: TWO,
+        words: ["check", "--budget=9", "f.dk"],
+        piece: 1,
+        shelf_call: 11,
+        sink_piece: 99,
+        sink_call: 0,
+        status: 3,
+        taken: "unread 1\n",
+    },
+    Failure {
+        text: TWO,
+        words: ["check", "--budget=9", "f.dk"],
+        piece: 1,
+        shelf_call: 12,
+        sink_piece: 99,
+        sink_call: 0,
+        status: 3,
+        taken: "ok 1 a\nunread 2\n",
+    },
+    Failure {
+        text: TWO,
+        words: ["check", "--budget=9", "f.dk"],
+        piece: 1,
+        shelf_call: 22,
+        sink_piece: 99,
+        sink_call: 0,
+        status: 3,
+        taken: "ok 1 a\nok 2 b\nunread 3\n",
+    },
+    Failure {
+        text: TWO,
+        words: ["check", "--budget=9", "f.dk"],
+        piece: 1,
+        shelf_call: 23,
+        sink_piece: 99,
+        sink_call: 0,
+        status: 0,
+        taken: "ok 1 a\nok 2 b\naccepted 2\n",
+    },
+    Failure {
+        text: TWO,
+        words: ["check", "--budget=9", "f.dk"],
+        piece: 4096,
+        shelf_call: 3,
+        sink_piece: 99,
+        sink_call: 0,
+        status: 3,
+        taken: "ok 1 a\nok 2 b\nunread 3\n",
+    },
+    Failure {
+        text: TWO,
+        words: ["check", "--budget=9", "f.dk"],
+        piece: 4096,
+        shelf_call: 0,
+        sink_piece: 1,
+        sink_call: 6,
+        status: 5,
+        taken: "ok 1 ",
+    },
+    Failure {
+        text: WRONG,
+        words: ["check", "--budget=9", "f.dk"],
+        piece: 4096,
+        shelf_call: 3,
+        sink_piece: 99,
+        sink_call: 0,
+        status: 1,
+        taken: "ok 1 a\nok 2 b\nok 3 x\nrefused 4 line 1 E21\n",
+    },
+];
+
+#[test]
+fn answers_each_failure(rt: HostRuntime) -> Result<(), Fail> {
+    let alloc = rt.alloc();
+    for row in &FAILURES {
+        assert!(rt; row.piece > 0 && row.sink_piece > 0);
+        let words = words_of(alloc, &row.words)?;
+        let mut shelf = shelf_of(alloc, row.text, row.piece, &[row.shelf_call])?;
+        let mut failing = Vec::new(alloc);
+        failing.push(row.sink_call)?;
+        let mut sink = MemSink::new(alloc, 1000, row.sink_piece, failing)?;
+        let status = run(alloc, words.as_slice(), &mut shelf, &mut sink);
+        assert_eq!(rt; sink.bytes(), row.taken.as_bytes());
+        assert_eq!(rt; status, row.status);
+    }
+    Ok(())
+}
