@@ -1,0 +1,24 @@
+-- First-order patterns, and patterns as a list.
+use Rattle.std.specs.Prelude.{Option, Some, None, List, [], ◌∷◌, map, if◌then◌else◌}
+use Rattle.dk_model.specs.Signatures.{Pattern, Patterns, no_patterns, more_patterns, pattern}
+use Rattle.dk_model.specs.Shapes.{is_first_order, are_first_order}
+use Rattle.dk_model.specs.declared.signature.Pat.{Pat}
+
+-- the patterns of a list
+abbrev pub as_patterns : List Pattern → Patterns
+as_patterns [] = no_patterns
+as_patterns (p ∷ ps) = more_patterns p (as_patterns ps)
+
+-- these as plain data
+abbrev pub plain_patterns : List Pat → Patterns
+plain_patterns ps = as_patterns (map pattern ps)
+
+-- the pattern where there is one and it is first-order
+abbrev pub first_order : Option Pattern → Option Pattern
+first_order None = None
+first_order (Some p) = if is_first_order p then Some p else None
+
+-- the patterns where there are some and each is first-order
+abbrev pub all_first_order : Option Patterns → Option Patterns
+all_first_order None = None
+all_first_order (Some ps) = if are_first_order ps then Some ps else None

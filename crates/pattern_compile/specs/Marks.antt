@@ -1,0 +1,28 @@
+-- Marks of rule variables: a list with a Bool for each rule variable of a rule.
+use Rattle.std.specs.Prelude.{ℕ, Option, Some, None, Bool, true, false, ◌&&◌, List, [], ◌∷◌, slice_set, slice_index_or, if◌then◌else◌}
+use Rattle.dk_model.specs.Trees.{Tree, rule_variable, apply, bare, annotated, product}
+
+-- the marks once these are marked too, where each has a mark that wasn't set before
+abbrev pub marked : List Bool → List ℕ → Option (List Bool)
+marked ms [] = Some ms
+marked ms (k ∷ ks) = if slice_index_or ms k true then None else marked (slice_set ms k true) ks
+
+-- the marks where they are set
+abbrev pub if_set : Bool → List Bool → Option (List Bool)
+if_set true ms = Some ms
+if_set false ms = None
+
+-- whether each rule variable of a term is marked
+abbrev pub is_marked : List Bool → Tree → Bool
+is_marked ms (rule_variable k) = slice_index_or ms k false
+is_marked ms (apply f a) = is_marked ms f && is_marked ms a
+is_marked ms (bare b) = is_marked ms b
+is_marked ms (annotated n b) = is_marked ms n && is_marked ms b
+is_marked ms (product a b) = is_marked ms a && is_marked ms b
+is_marked ms t = true
+
+-- the same for annotations
+abbrev pub are_marked : List Bool → List (Option Tree) → Bool
+are_marked ms [] = true
+are_marked ms (None ∷ ns) = are_marked ms ns
+are_marked ms (Some n ∷ ns) = is_marked ms n && are_marked ms ns
