@@ -1,5 +1,5 @@
 -- Marks say which rule variables occur, and whether one occurs twice.
-use Rattle.std.proofs.Common.{◌≡◌, ◌≢◌, ◌∙◌, ap, sym, refl, ℕ, ◌+◌, ◌<◌, ◌≤◌, Bool, true, false, is_some, List, [], ◌∷◌, ◌++◌, length, get_or, set, drop, map, replicate, if◌then◌else◌, eqb, eqb-true, eq-eqb, get_or-set_same, get_or-set_other, arith}
+use Rattle.std.proofs.Common.{◌≡◌, ◌≢◌, ◌∙◌, ap, sym, refl, ℕ, zero, suc, ◌+◌, ◌<◌, ◌≤◌, Bool, true, false, is_some, List, [], ◌∷◌, ◌++◌, length, get_or, set, drop, map, replicate, if◌then◌else◌, eqb, eqb-true, eq-eqb, get_or-set_same, get_or-set_other, arith}
 use Rattle.std.proofs.lemmas.List.{at_drop_more, get_or-replicate, get_or_past, length-replicate, length-set}
 use Rattle.std.specs.Prelude.{Option, Some, None, ◌&&◌, ◌||◌, not}
 use Rattle.dk_model.specs.Trees.{Tree, star, kind, symbol, variable, rule_variable, apply, bare, annotated, product}
@@ -39,29 +39,24 @@ module _ (whole : Option (List Bool)) (ms : List Bool) (ps : List Pat) (i : ℕ)
 
 -- ---- what marks say
 
+clash : (b : Bool) → b ≡ true → b ≡ false → ⊥
+clash b e h = cc
+
 eqb-sym : (a b : ℕ) → eqb a b ≡ eqb b a
-eqb-sym a b = by (eqb a b) refl
+eqb-sym a b = by (eqb a b) (eqb b a) refl refl
   where
-    by : (t : Bool) → eqb a b ≡ t → eqb a b ≡ eqb b a
-    by true e = e ∙ sym (eq-eqb b a (sym (eqb-true a b e)))
-    by false e = e ∙ other (eqb b a) refl e
-
-    other : (t : Bool) → eqb b a ≡ t → eqb a b ≡ false → false ≡ eqb b a
-    other true e h = absurd (clash (eq-eqb a b (sym (eqb-true b a e))) h)
-    other false e h = sym e
-
-    clash : eqb a b ≡ true → eqb a b ≡ false → ⊥
-    clash e h = cc
+    by : (s t : Bool) → eqb a b ≡ s → eqb b a ≡ t → s ≡ t
+    by true true e h = refl
+    by true false e h = absurd (clash (eqb b a) (eq-eqb b a (sym (eqb-true a b e))) h)
+    by false true e h = absurd (clash (eqb a b) (eq-eqb a b (sym (eqb-true b a h))) e)
+    by false false e h = refl
 
 get_set : (ms : List Bool) (k x : ℕ) → k < length ms → get_or (set ms k true) x false ≡ (eqb x k || get_or ms x false)
 get_set ms k x lt = by (eqb x k) refl
   where
     by : (b : Bool) → eqb x k ≡ b → get_or (set ms k true) x false ≡ (b || get_or ms x false)
     by true e = ap (λ (j : ℕ). get_or (set ms k true) j false) (eqb-true x k e) ∙ get_or-set_same ms k true false lt
-    by false e = get_or-set_other ms k x true false (λ same. clash (eq-eqb x k same) e)
-
-    clash : eqb x k ≡ true → eqb x k ≡ false → ⊥
-    clash e h = cc
+    by false e = get_or-set_other ms k x true false (λ same. clash (eqb x k) (eq-eqb x k same) e)
 
 -- none of these is marked
 abbrev are_free : List Bool → List ℕ → Bool

@@ -1,6 +1,7 @@
 -- The shape of a rule, by its first code.
 use Rattle.std.proofs.Common.{◌≡◌, ◌∙◌, ap, sym, refl, ℕ, Bool, true, false, is_some, List, map, replicate, if◌then◌else◌}
 use Rattle.std.specs.Prelude.{Option, Some, None, Result, Ok, Err, ◌&&◌}
+use Rattle.dk_model.specs.Trees.{Tree}
 use Rattle.dk_model.specs.Signatures.{Pattern, Patterns, no_patterns, more_patterns, rule_variable_pattern, wildcard_pattern, guard_pattern, symbol_pattern, variable_pattern, abstraction_pattern, pattern, PlainRule}
 use Rattle.dk_model.specs.Scoping.{PlainScopedRule}
 use Rattle.dk_model.specs.Shapes.{are_distinct, left_head, left_patterns, is_first_order, are_first_order, are_admitted, covers, covers_guards, covers_all_guards, covers_notes, is_covered, patterns_variables, rule_with, shape_with, shape_of}
@@ -98,5 +99,8 @@ module _ (r : PlainScopedRule) where
         shaped c = decided true c
 
 -- a rule from its parts
-pub rule_is : (r : PlainScopedRule) (k : ℕ) (ps : List Pat) (vars : ℕ) (notes : _) (right : _) → vars ≡ r.vars → notes ≡ r.notes → right ≡ r.right → rule_with r k (plain_patterns ps) ≡ (let rule : PlainRule = record { head = k; vars = vars; pats = map pattern ps; notes = notes; right = right } in rule)
-rule_is r k ps vars notes right v n t = rw (v, n, t) (ap (λ (qs : List Pattern). (let rule : PlainRule = record { head = k; vars = r.vars; pats = qs; notes = r.notes; right = r.right } in rule)) (listed_patterns (map pattern ps)))
+pub rule_is : (r : PlainScopedRule) (k : ℕ) (ps qs : List Pat) (notes : List (Option Tree)) (right : Tree) → qs ≡ ps → notes ≡ r.notes → right ≡ r.right → rule_with r k (plain_patterns ps) ≡ (let rule : PlainRule = record { head = k; vars = r.vars; pats = map pattern qs; notes = notes; right = right } in rule)
+rule_is r k ps qs notes right q n t =
+    ap (λ (ds : List Pattern). (let rule : PlainRule = record { head = k; vars = r.vars; pats = ds; notes = r.notes; right = r.right } in rule)) (listed_patterns (map pattern ps) ∙ sym (ap (λ (xs : List Pat). map pattern xs) q))
+    ∙ ap (λ (ns : List (Option Tree)). (let rule : PlainRule = record { head = k; vars = r.vars; pats = map pattern qs; notes = ns; right = r.right } in rule)) (sym n)
+    ∙ ap (λ (u : Tree). (let rule : PlainRule = record { head = k; vars = r.vars; pats = map pattern qs; notes = notes; right = u } in rule)) (sym t)
