@@ -1,6 +1,5 @@
 -- The patterns that are first-order, walked from the last argument to the first.
-use Rattle.std.proofs.Common.{◌≡◌, ◌∙◌, ap, sym, refl, ℕ, ◌+◌, Bool, true, false, List, [], ◌∷◌, ◌++◌, map, reverse, if◌then◌else◌}
-use Rattle.std.proofs.lemmas.List.{reverse-append}
+use Rattle.std.proofs.Common.{◌≡◌, ◌∙◌, ap, sym, refl, ℕ, ◌+◌, Bool, true, false, List, [], ◌∷◌, reverse, if◌then◌else◌}
 use Rattle.std.specs.Prelude.{Option, Some, None, ◌&&◌, nat_lt}
 use Rattle.std.specs.Option.{option_map}
 use Rattle.dk_model.specs.Signatures.{Pattern, Patterns, no_patterns, more_patterns, rule_variable_pattern, wildcard_pattern, guard_pattern, symbol_pattern, variable_pattern, abstraction_pattern, pattern}
@@ -38,17 +37,6 @@ if_none false x e = refl
 and_false : (b : Bool) → (b && false) ≡ false
 and_false true = refl
 and_false false = refl
-
-pub first_some : (o : Option Pattern) (p : Pattern) → first_order o ≡ Some p → o ≡ Some p
-first_some None p e = cc
-first_some (Some q) p e = if_some (is_first_order q) q p e
-
-pub first_good : (o : Option Pattern) (p : Pattern) → first_order o ≡ Some p → is_first_order p ≡ true
-first_good None p e = cc
-first_good (Some q) p e =
-    let same : Some q ≡ Some p = if_some (is_first_order q) q p e in
-    let good : is_first_order q ≡ true = if_true (is_first_order q) q p e in
-    cc
 
 pub all_some : (o : Option Patterns) (ps : Patterns) → all_first_order o ≡ Some ps → o ≡ Some ps
 all_some None ps e = cc
@@ -165,9 +153,6 @@ module _ (vars : ℕ) where
 abbrev pub stacked : List Pat → Patterns
 stacked found = plain_patterns (reverse found)
 
-stacked_push : (found : List Pat) (p : Pat) → stacked (found ++ p ∷ []) ≡ more_patterns (pattern p) (stacked found)
-stacked_push found p = ap plain_patterns (reverse-append found (p ∷ []))
-
 lost_behind : (f : Patterns → Option Patterns) (ps : Patterns) → ((q : Pattern) → all_first_order (f (more_patterns q ps)) ≡ None) → (o : Option Pattern) → all_first_order (applied_to f o ps) ≡ None
 lost_behind f ps h None = refl
 lost_behind f ps h (Some q) = h q
@@ -185,22 +170,9 @@ lost vars (left_apply g b) ps e =
     (pattern_of vars b no_patterns)
 
 module _ (vars : ℕ) (whole : Option Patterns) (f a : PlainLeft) (found : List Pat) (at : whole ≡ left_patterns vars (left_apply f a) (stacked found)) where
-  pub one_more : (p : Pat) (pushed : List Pat) → first_order (pattern_of vars a no_patterns) ≡ Some (pattern p) → pushed ≡ found ++ p ∷ [] → whole ≡ left_patterns vars f (stacked pushed)
-  one_more p pushed e push =
-      at ∙ ap (λ (o : Option Pattern). applied_to (left_patterns vars f) o (stacked found)) (first_some (pattern_of vars a no_patterns) (pattern p) e)
-      ∙ ap (left_patterns vars f) (sym (ap stacked push ∙ stacked_push found p))
-
   pub one_lost : first_order (pattern_of vars a no_patterns) ≡ None → all_first_order whole ≡ None
   one_lost e = ap all_first_order at ∙ by (pattern_of vars a no_patterns) e
     where
       by : (o : Option Pattern) → first_order o ≡ None → all_first_order (applied_to (left_patterns vars f) o (stacked found)) ≡ None
       by None e = refl
       by (Some q) e = lost vars f (more_patterns q (stacked found)) (ap (λ (b : Bool). b && are_first_order (stacked found)) (if_none (is_first_order q) q e))
-
-pub still_good : (vars : ℕ) (a : PlainLeft) (p : Pat) (found pushed : List Pat) → are_first_order (stacked found) ≡ true → first_order (pattern_of vars a no_patterns) ≡ Some (pattern p) → pushed ≡ found ++ p ∷ [] → are_first_order (stacked pushed) ≡ true
-still_good vars a p found pushed good e push =
-    ap are_first_order (ap stacked push ∙ stacked_push found p)
-    ∙ ap (λ (b : Bool). b && are_first_order (stacked found)) (first_good (pattern_of vars a no_patterns) (pattern p) e) ∙ good
-
-pub all_found : (whole : Option Patterns) (found turned : List Pat) → whole ≡ Some (stacked found) → are_first_order (stacked found) ≡ true → turned ≡ reverse found → all_first_order whole ≡ Some (plain_patterns turned)
-all_found whole found turned at good turn = ap all_first_order at ∙ all_kept (stacked found) good ∙ ap (λ (ps : List Pat). Some (plain_patterns ps)) (sym turn)

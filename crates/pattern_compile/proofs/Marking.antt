@@ -1,14 +1,14 @@
 -- Marks say which rule variables occur, and whether one occurs twice.
-use Rattle.std.proofs.Common.{◌≡◌, ◌≢◌, ◌∙◌, ap, sym, refl, ℕ, zero, suc, ◌+◌, ◌<◌, ◌≤◌, Bool, true, false, is_some, List, [], ◌∷◌, ◌++◌, length, get_or, set, drop, map, replicate, if◌then◌else◌, eqb, eqb-true, eq-eqb, get_or-set_same, get_or-set_other, arith}
-use Rattle.std.proofs.lemmas.List.{at_drop_more, get_or-replicate, get_or_past, length-replicate, length-set}
+use Rattle.std.proofs.Common.{◌≡◌, ◌∙◌, ap, sym, refl, ℕ, zero, suc, ◌+◌, ◌<◌, Bool, true, false, is_some, List, [], ◌∷◌, ◌++◌, length, get_or, set, drop, replicate, if◌then◌else◌, eqb, eqb-true, eq-eqb, get_or-set_same, get_or-set_other, arith}
+use Rattle.std.proofs.lemmas.List.{at_drop_more, length-replicate, length-set}
 use Rattle.std.specs.Prelude.{Option, Some, None, ◌&&◌, ◌||◌, not}
 use Rattle.dk_model.specs.Trees.{Tree, star, kind, symbol, variable, rule_variable, apply, bare, annotated, product}
-use Rattle.dk_model.specs.Signatures.{Patterns, pattern}
+use Rattle.dk_model.specs.Signatures.{pattern}
 use Rattle.dk_model.specs.Selection.{is_in}
 use Rattle.dk_model.specs.Shapes.{are_distinct, covers, covers_notes, pattern_variables, patterns_variables}
 use Rattle.dk_model.specs.declared.signature.Pat.{Pat}
 use Rattle.pattern_compile.specs.Admitted.{plain_patterns}
-use Rattle.pattern_compile.specs.Marks.{marked, if_set, is_marked, are_marked}
+use Rattle.pattern_compile.specs.Marks.{marked, is_marked, are_marked}
 use Rattle.pattern_compile.proofs.Below.{Below}
 
 -- ---- marking in turn

@@ -1,6 +1,6 @@
 //! Rules without the annotations of their abstractions.
 ghost use Rattle.std.specs.Prelude.{◌≡◌, IfOk, map};
-ghost use Rattle.dk_model.specs.Signatures.{pattern as plain_pattern, plain_rule};
+ghost use Rattle.dk_model.specs.Signatures.{pattern as plain, plain_rule};
 ghost use Rattle.dk_model.specs.Shapes.{erased_pattern, erased_rule};
 
 use dk_model::{Listed, NoMemory, Pat, Rule};
@@ -9,7 +9,7 @@ use std::alloc::Global;
 /// The pattern whose guards have no annotations.
 #[cycle(erasing)]
 fn erased_pattern(alloc: Global, pattern: &Pat) -> Result<Pat, NoMemory>
-    ensures { IfOk result (λ p. plain_pattern p ≡ erased_pattern (plain_pattern pattern.now)) }
+    ensures { IfOk result (λ p. plain p ≡ erased_pattern (plain pattern.now)) }
 {
     match pattern {
         Pat::Rvar(variable, arguments) => Ok(Pat::Rvar(
@@ -32,7 +32,7 @@ fn erased_pattern(alloc: Global, pattern: &Pat) -> Result<Pat, NoMemory>
 
 #[cycle(erasing)]
 fn erased_patterns(alloc: Global, patterns: &[Pat]) -> Result<Listed<Pat>, NoMemory>
-    ensures { IfOk result (λ ps. map plain_pattern ps ≡ map erased_pattern (map plain_pattern patterns.now)) }
+    ensures { IfOk result (λ ps. map plain ps ≡ map erased_pattern (map plain patterns.now)) }
 {
     let mut erased = Listed::new(alloc);
     for pattern in patterns {

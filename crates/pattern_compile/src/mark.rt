@@ -1,11 +1,9 @@
 //! Marks of the rule variables that occur in a pattern.
-ghost use Rattle.std.specs.Prelude.{◌≡◌, ◌&&◌, [], ◌∷◌, map, replicate, false, IfOk};
+ghost use Rattle.std.specs.Prelude.{◌≡◌, [], ◌∷◌, map, replicate, false, IfOk};
 ghost use Rattle.std.specs.Option.{option_map};
 ghost use Rattle.dk_model.specs.Trees.{tree};
-ghost use Rattle.dk_model.specs.Signatures.{pattern as plain_pattern, maybe_tree};
-ghost use Rattle.dk_model.specs.Shapes.{pattern_variables, patterns_variables};
-ghost use Rattle.pattern_compile.specs.Admitted.{plain_patterns};
-ghost use Rattle.pattern_compile.specs.Marks.{marked, if_set, is_marked, are_marked};
+ghost use Rattle.dk_model.specs.Signatures.{maybe_tree};
+ghost use Rattle.pattern_compile.specs.Marks.{marked, marked_pattern, marked_patterns, if_set, is_marked, are_marked, rule_is_marked};
 
 use dk_model::{NoMemory, Pat, ScopedRule, Term};
 use std::alloc::Global;
@@ -25,7 +23,7 @@ fn mark(marks: &mut [bool], variable: u32) -> bool
 /// Sets the marks of the rule variables of a pattern; false where one was set already.
 #[cycle(marking)]
 fn mark_pattern(marks: &mut [bool], pattern: &Pat) -> bool
-    ensures { marked marks.old (pattern_variables (plain_pattern pattern.now)) ≡ if_set result marks.new }
+    ensures { marked_pattern marks.old pattern.now ≡ if_set result marks.new }
 {
     match pattern {
         Pat::Rvar(variable, _) => mark(marks, *variable),
@@ -40,7 +38,7 @@ fn mark_pattern(marks: &mut [bool], pattern: &Pat) -> bool
 /// The same for each of these in turn.
 #[cycle(marking)]
 fn mark_patterns(marks: &mut [bool], patterns: &[Pat]) -> bool
-    ensures { marked marks.old (patterns_variables (plain_patterns patterns.now)) ≡ if_set result marks.new }
+    ensures { marked_patterns marks.old patterns.now ≡ if_set result marks.new }
 {
     for pattern in patterns {
         if !mark_pattern(marks, pattern) {
@@ -50,13 +48,14 @@ fn mark_patterns(marks: &mut [bool], patterns: &[Pat]) -> bool
     true
 }
 
-/// The marks of the rule variables that occur in the patterns, out of `vars`; None where one occurs twice.
+/// The marks of the rule variables that occur in the patterns, out of `vars`; None where one occurs
+/// twice.
 pub(crate) fn variable_marks(
     alloc: Global,
     vars: u32,
     patterns: &[Pat],
 ) -> Result<Option<Vec<bool>>, NoMemory>
-    ensures { IfOk result (λ ms. marked (replicate vars false) (patterns_variables (plain_patterns patterns.now))
+    ensures { IfOk result (λ ms. marked_patterns (replicate vars false) patterns.now
         ≡ option_map (λ v. v.items) ms) }
 {
     let mut marks = vec![in alloc; false; vars as usize]?;
@@ -103,7 +102,7 @@ fn are_marked(marks: &[bool], notes: &[Option<Term>]) -> bool
 
 /// Whether each rule variable of the right side and of the annotations is marked.
 pub(crate) fn is_covered(marks: &[bool], rule: &ScopedRule) -> bool
-    ensures { result ≡ is_marked marks.now (tree rule.now.right) && are_marked marks.now (map maybe_tree rule.now.notes) }
+    ensures { result ≡ rule_is_marked marks.now rule.now }
 {
     is_marked(marks, &rule.right) && are_marked(marks, rule.notes.as_slice())
 }

@@ -1,10 +1,10 @@
 //! The patterns that a left side stands for.
 ghost use Rattle.std.specs.Prelude.{◌≡◌, IfOk};
 ghost use Rattle.std.specs.Option.{option_map};
-ghost use Rattle.dk_model.specs.Signatures.{no_patterns, pattern as plain_pattern};
+ghost use Rattle.dk_model.specs.Signatures.{pattern as plain_pattern};
 ghost use Rattle.dk_model.specs.Scoping.{plain_left};
-ghost use Rattle.dk_model.specs.Shapes.{left_head, pattern_of, left_patterns};
-ghost use Rattle.pattern_compile.specs.Admitted.{plain_patterns, first_order, all_first_order};
+ghost use Rattle.dk_model.specs.Shapes.{left_head};
+ghost use Rattle.pattern_compile.specs.Admitted.{plain_patterns, first_order_pattern, first_order_patterns};
 
 use dk_model::{Left, Listed, NoMemory, Pat};
 use std::alloc::Global;
@@ -23,11 +23,11 @@ pub(crate) fn head(left: &Left) -> Option<u32>
     }
 }
 
-/// The pattern that a left side stands for, where it is first-order, in a rule with `vars` rule variables.
+/// The pattern that a left side stands for in a rule with `vars` rule variables, where it is
+/// first-order.
 #[cycle(patterns)]
 fn pattern(alloc: Global, vars: u32, left: &Left) -> Result<Option<Pat>, NoMemory>
-    ensures { IfOk result (λ p. first_order (pattern_of vars (plain_left left.now) no_patterns)
-        ≡ option_map plain_pattern p) }
+    ensures { IfOk result (λ p. first_order_pattern vars left.now ≡ option_map plain_pattern p) }
 {
     match left {
         Left::Any => Ok(Some(Pat::Any)),
@@ -57,8 +57,7 @@ pub(crate) fn patterns(
     vars: u32,
     left: &Left,
 ) -> Result<Option<Listed<Pat>>, NoMemory>
-    ensures { IfOk result (λ ps. all_first_order (left_patterns vars (plain_left left.now) no_patterns)
-        ≡ option_map plain_patterns ps) }
+    ensures { IfOk result (λ ps. first_order_patterns vars left.now ≡ option_map plain_patterns ps) }
 {
     let mut found = Vec::new(alloc);
     let mut rest = left;

@@ -2,8 +2,8 @@
 ghost use Rattle.std.specs.Prelude.{◌≡◌, IfOk, map};
 ghost use Rattle.dk_model.specs.Signatures.{maybe_tree, plain_entry, plain_signature};
 ghost use Rattle.dk_model.specs.Scoping.{plain_scoped_rule};
-ghost use Rattle.dk_model.specs.Shapes.{shape_of, shapes_of, is_definable, is_definable_entry};
-ghost use Rattle.pattern_compile.specs.Answers.{GivesRule, GivesRules};
+ghost use Rattle.dk_model.specs.Shapes.{shape_of, is_definable, is_definable_entry};
+ghost use Rattle.pattern_compile.specs.Answers.{GivesRule, GivesRules, command_shapes};
 
 use crate::mark::{is_covered, variable_marks};
 use crate::pattern::{head, patterns};
@@ -85,7 +85,7 @@ pub fn shape_all(
     signature: &Signature,
     rules: &Listed<ScopedRule>,
 ) -> Result<Listed<Rule>, Fault>
-    ensures { GivesRules (shapes_of (plain_signature signature.now) (map plain_scoped_rule rules.now)) result }
+    ensures { GivesRules (command_shapes signature.now rules.now) result }
 {
     let mut shapes = Listed::new(alloc);
     for rule in rules.as_slice() {

@@ -1,4 +1,3 @@
-use Rattle.std.proofs.Common.{◌≡◌}
 use Rattle.pattern_compile.proofs.Rowed.{erased_symbol, erased_variable}
 use Rattle.pattern_compile.proofs.erase.+erasing.Goals as goal
 

@@ -1,4 +1,3 @@
-use Rattle.std.proofs.Common.{◌≡◌}
 use Rattle.pattern_compile.specs.Marks.{if_set}
 use Rattle.pattern_compile.proofs.Rowed.{marked_symbol, marked_variable}
 use Rattle.pattern_compile.proofs.Marking.{mark_goes_on, mark_fails}

@@ -1,7 +1,5 @@
-use Rattle.std.proofs.Common.{◌≡◌, ◌∙◌, ap, sym}
+use Rattle.std.proofs.Common.{◌∙◌, ap, sym}
 use Rattle.std.specs.Prelude.{Ok}
-use Rattle.dk_model.specs.Trees.{tree}
-use Rattle.dk_model.specs.Signatures.{maybe_tree}
 use Rattle.dk_model.specs.Scoping.{plain_scoped_rule}
 use Rattle.pattern_compile.specs.Admitted.{plain_patterns}
 use Rattle.pattern_compile.proofs.Shaping.{repeated, uncovered, shaped, rule_is}
