@@ -4,3 +4,4 @@ pub mod Below
 pub mod Marking
 pub mod Shaping
 pub mod Commands
+pub mod Rows
