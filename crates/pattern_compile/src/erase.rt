@@ -60,8 +60,8 @@ fn erased_rule(alloc: Global, rule: Rule) -> Result<Rule, NoMemory>
     })
 }
 
-/// The rules as an accepted command adds them to the signature: their guards and right sides have no
-/// annotations. The annotations of their contexts stay.
+/// The rules as an accepted command adds them to the signature: their guards and right sides have
+/// no annotations. The annotations of their contexts stay.
 pub fn erase_all(alloc: Global, rules: Listed<Rule>) -> Result<Listed<Rule>, NoMemory>
     ensures { IfOk result (λ rs. map plain_rule rs ≡ map erased_rule (map plain_rule rules)) }
 {

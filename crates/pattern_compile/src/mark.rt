@@ -8,7 +8,7 @@ ghost use Rattle.pattern_compile.specs.Marks.{marked, marked_pattern, marked_pat
 use dk_model::{NoMemory, Pat, ScopedRule, Term};
 use std::alloc::Global;
 
-/// Sets the mark of a rule variable; false where it is set already.
+/// Sets the mark of a rule variable; false where it is set already, or past the marks.
 fn mark(marks: &mut [bool], variable: u32) -> bool
     ensures { marked marks.old (variable ∷ []) ≡ if_set result marks.new }
 {
@@ -20,7 +20,7 @@ fn mark(marks: &mut [bool], variable: u32) -> bool
     true
 }
 
-/// Sets the marks of the rule variables of a pattern; false where one was set already.
+/// Sets the marks of the rule variables of a pattern; false where `mark` is for one of them.
 #[cycle(marking)]
 fn mark_pattern(marks: &mut [bool], pattern: &Pat) -> bool
     ensures { marked_pattern marks.old pattern.now ≡ if_set result marks.new }

@@ -25,9 +25,9 @@ fn copied(alloc: Global, notes: &[Option<Term>]) -> Result<Listed<Option<Term>>,
     Ok(copies)
 }
 
-/// The rule that a scoped rule stands for: E31 where its head isn't a symbol, E32 where an argument isn't
-/// an admitted pattern, E33 where a rule variable is missing in the patterns, in this order. The head may
-/// be any symbol. The rule keeps the annotations of its terms, in memory of its own.
+/// The rule that a scoped rule stands for, or the first of these codes: E31 where its head isn't a
+/// symbol, E32 where an argument isn't an admitted pattern, E33 where a rule variable is missing in
+/// the patterns. The head may be any symbol. The rule keeps all annotations, in memory of its own.
 pub fn shape(alloc: Global, rule: &ScopedRule) -> Result<Rule, Fault>
     ensures { GivesRule (shape_of (plain_scoped_rule rule.now)) result }
 {
@@ -78,8 +78,8 @@ fn is_definable(signature: &Signature, symbol: u32) -> bool
     }
 }
 
-/// The rules of a command over this signature, or the first code of the first rule that has one: those of
-/// `shape`, then E30 where the head wasn't declared by `def`.
+/// The rules of a command over this signature, or the first code of the first rule that has one:
+/// those of `shape`, then E30 where the head wasn't declared by `def`.
 pub fn shape_all(
     alloc: Global,
     signature: &Signature,

@@ -12,7 +12,7 @@ const SUCCESSOR: u32 = 1;
 
 const PLUS: u32 = 2;
 
-/// After `zero : nat. s : nat -> nat. def plus : nat -> nat -> nat.`, whose types no shape looks at.
+/// After `zero : nat. s : nat -> nat. def plus : nat -> nat -> nat.`; no shape looks at types.
 fn signature(alloc: Global) -> Result<Signature, NoMemory> {
     let mut entries = Listed::new(alloc);
     for sort in [SymSort::Static, SymSort::Static, SymSort::Definable] {
@@ -240,7 +240,7 @@ fn is_addition(rule: &Rule, right: &Term) -> bool {
     parts && rule.head == PLUS && rule.vars == 2 && rule.notes.len() == 2 && rule.right.equal(right)
 }
 
-/// `s (plus m n)`, below an abstraction.
+/// `s (plus m n)`.
 fn sum(alloc: Global) -> Result<Term, NoMemory> {
     let function = make_app(alloc, Term::Sym(PLUS), Term::Rvar(0))?;
     make_app(
