@@ -1,28 +1,76 @@
 -- What is spelt so is read so.
-use Rattle.std.proofs.Common.{◌≡◌, ℕ, ◌+◌, true, List, [], ◌∷◌, ◌++◌, refl, ap, ◌∙◌, append_assoc, inl, inr}
-use Rattle.std.specs.Prelude.{Option, Some, None, ◌⊎◌, max}
+use Rattle.std.proofs.Common.{◌≡◌, ℕ, ◌+◌, true, false, List, [], ◌∷◌, ◌++◌, refl, sym, ap, ◌∙◌, append_assoc, inl, inr}
+use Rattle.std.specs.Prelude.{Option, Some, None, ◌⊎◌}
 use Rattle.dk_model.specs.declared.signature.SymSort.{SymSort}
-use Rattle.dk_model.specs.declared.signature.SymSort.TheVariants.{Static, Theorem}
+use Rattle.dk_model.specs.declared.signature.SymSort.TheVariants.{Static, Definable, Theorem}
 use Rattle.dk_lexer.specs.declared.token.Sign.TheVariants as sign
 use Rattle.dk_parser.specs.declared.terminal.Terminal.{Terminal}
 use Rattle.dk_parser.specs.declared.terminal.Terminal.TheVariants as terminal
-use Rattle.dk_parser.specs.Written.{Written, written_qualified, written_star, written_apply, written_arrow, written_product, written_annotated, WrittenForm, written_declare}
-use Rattle.dk_parser.specs.Grammar.{colon, defined, dot, arrow, double_arrow, open_bracket, close_bracket, SpellsBinder, spells_binder, spells_no_binder, SpellsAtom, spells_name, spells_qualified, spells_star, spells_wildcard, spells_brackets, SpellsApplication, spells_head, spells_applied, SpellsTerm, spells_application, spells_arrow, spells_product, spells_bracketed_product, spells_annotated, SpellsForm, spells_declaration, spells_theorem}
-use Rattle.dk_parser.specs.Parsing.{Place, at_front, domain, Slot, due, bindable, applied, bracketed, bracket_frame, arrow_frame, product_frame, annotated_frame, Frames, bottom, TermPart, depth, pushed, binder_term, slot_more, slot_binder, takes_atom, slot_term, in_frames, unwound, unwound_all, next_open, next_close, next_close_term, next_arrow, framed, term_next, term_argument, term_done, slot_ended, Part, command_due, in_type, in_body, PartStep, goes, type_goes, body_goes, body_begins, body_ends, type_ends, part_next}
+use Rattle.dk_parser.specs.Written.{Written, written_qualified, written_star, written_apply, written_arrow, written_product, written_bare, written_annotated, WrittenParam, WrittenForm, written_declare}
+use Rattle.dk_parser.specs.Grammar.{colon, defined, dot, arrow, double_arrow, open_bracket, close_bracket, param, SpellsBinder, spells_binder, spells_no_binder, SpellsAtom, spells_name, spells_qualified, spells_star, spells_wildcard, spells_brackets, SpellsApplication, spells_head, spells_applied, SpellsTerm, spells_application, spells_arrow, spells_product, spells_bracketed_product, spells_bare, spells_annotated, SpellsParams, spells_no_params, spells_params, SpellsForm, spells_static, spells_definable, spells_definition, spells_typed_definition, spells_theorem}
+use Rattle.dk_parser.specs.Parsing.{Place, at_front, domain, Slot, due, bindable, applied, bracketed, bracket_frame, arrow_frame, product_frame, bare_frame, annotated_frame, Frames, bottom, on, TermPart, term_due, pushed, binder_term, slot_more, slot_binder, takes_atom, slot_term, in_frames, unwound, unwound_all, next_open, next_close, next_close_term, next_close_domain, next_arrow, framed, term_next, term_argument, term_done, slot_ended, in_bracket, takes, Head, level_behind, with_param, Purpose, as_param, as_type, as_body, Part, command_due, head_due, binder_due, binder_colon_due, in_term, behind_term, term_goes, term_ends, in_term_next}
 use Rattle.dk_parser.proofs.Machine.{ended, run_by, run}
 
--- a part of a command that a term goes on in
-abbrev pub Steps : (TermPart → Part) → Type 0
-Steps wrap = (p q : TermPart) (x : Terminal) → term_next p x ≡ Some q → (made : ℕ) × (part_next (wrap p) x ≡ goes made (wrap q))
+append_nil : {A : Type 0} (xs : List A) → xs ++ [] ≡ xs
+append_nil [] = refl
+append_nil (x ∷ xs) = ap (λ ys. x ∷ ys) (append_nil xs)
 
-type_steps : (s : SymSort) (n : List ℕ) → Steps (in_type s n)
-type_steps Static n p q (terminal.Sign sign.Dot) e = cc
-type_steps Theorem n p q (terminal.Sign sign.Defined) e = cc
-type_steps s n p q x e = (max (depth q.frames) (term_argument p x), ap (type_goes s n (term_argument p x)) e)
+-- a term that goes on is no whole one in a bracket
+unwound_in : (fs : Frames) (a : Written) (q : TermPart) → unwound fs a ≡ Some q → in_bracket fs ≡ true
+unwound_in (bottom level) a q e = cc
+unwound_in (on d (bracket_frame s) fs) a q e = refl
+unwound_in (on d (arrow_frame b) fs) a q e = unwound_in fs (written_arrow b a) q e
+unwound_in (on d (product_frame v b) fs) a q e = unwound_in fs (written_product v b a) q e
+unwound_in (on d (bare_frame v) fs) a q e = unwound_in fs (written_bare v a) q e
+unwound_in (on d (annotated_frame v b) fs) a q e = unwound_in fs (written_annotated v b a) q e
 
-body_steps : (n : List ℕ) (a : Written) → Steps (in_body n a)
-body_steps n a p q (terminal.Sign sign.Dot) e = cc
-body_steps n a p q x e = (max (depth q.frames) (term_argument p x), ap (body_goes n a (term_argument p x)) e)
+close_term_in : (fs : Frames) (o : Option Written) (q : TermPart) → next_close_term fs o ≡ Some q → in_bracket fs ≡ true
+close_term_in fs None q e = cc
+close_term_in fs (Some a) q e = unwound_in fs a q e
+
+close_domain_in : (fs : Frames) (v : Option (List ℕ)) (a : Written) (q : TermPart) → next_close_domain fs v a ≡ Some q → in_bracket fs ≡ true
+close_domain_in (on d (bracket_frame (due at_front)) fs) v a q e = refl
+close_domain_in fs v a q e = cc
+
+close_in : (fs : Frames) (s : Slot) (q : TermPart) → next_close fs s ≡ Some q → in_bracket fs ≡ true
+close_in fs (applied (domain v) a n) q e = close_domain_in fs v a q e
+close_in fs (applied at_front a n) q e = close_term_in fs (Some a) q e
+close_in fs (bindable v) q e = close_term_in fs (Some (binder_term v)) q e
+close_in fs (due place) q e = cc
+close_in fs (bracketed v a) q e = cc
+
+-- what a term goes on with is a terminal of a term
+pub next_takes : (p q : TermPart) (x : Terminal) → term_next p x ≡ Some q → takes p x ≡ true
+next_takes p q (terminal.Name n) e = refl
+next_takes p q terminal.Wildcard e = refl
+next_takes p q (terminal.Qualified m n) e = refl
+next_takes p q terminal.Star e = refl
+next_takes p q (terminal.Sign sign.OpenBracket) e = refl
+next_takes p q (terminal.Sign sign.CloseBracket) e = close_in p.frames p.slot q e
+next_takes p q (terminal.Sign sign.Colon) e = refl
+next_takes p q (terminal.Sign sign.Arrow) e = refl
+next_takes p q (terminal.Sign sign.DoubleArrow) e = refl
+next_takes p q x e = cc
+
+-- no bracket is open around a whole term
+whole_out : (fs : Frames) (a b : Written) → unwound_all fs a ≡ Some b → in_bracket fs ≡ false
+whole_out (bottom level) a b e = refl
+whole_out (on d (bracket_frame s) fs) a b e = cc
+whole_out (on d (arrow_frame c) fs) a b e = whole_out fs (written_arrow c a) b e
+whole_out (on d (product_frame v c) fs) a b e = whole_out fs (written_product v c a) b e
+whole_out (on d (bare_frame v) fs) a b e = whole_out fs (written_bare v a) b e
+whole_out (on d (annotated_frame v c) fs) a b e = whole_out fs (written_annotated v c a) b e
+
+ended_out : (o : Option Written) (fs : Frames) (b : Written) → slot_ended fs o ≡ Some b → in_bracket fs ≡ false
+ended_out None fs b e = cc
+ended_out (Some a) fs b e = whole_out fs a b e
+
+-- a terminal that ends a whole term
+abbrev Enders : Terminal → Type 0
+Enders x = (p : TermPart) (a : Written) → term_done p ≡ Some a → takes p x ≡ false
+
+close_enders : Enders close_bracket
+close_enders p a e = ended_out (slot_term p.slot) p.frames a e
 
 abbrev pub at : Frames → Slot → TermPart
 at fs s = record { frames = fs; slot = s }
@@ -74,9 +122,9 @@ behind_more place f a s t (inl h) (inr e) = cc (h.1, e.0)
 behind_more place f a s t (inr h) (inr e) = cc (h.1.1, e.0)
 
 -- a term ends behind an application at its front
-behind_term : (a : Written) (t : Slot) → IsBehind at_front a t → slot_term t ≡ Some a
-behind_term a t (inl h) = ap slot_term h.1
-behind_term a t (inr h) = ap slot_term h.1.1 ∙ ap (λ b. Some b) h.1.2
+behind_whole : (a : Written) (t : Slot) → IsBehind at_front a t → slot_term t ≡ Some a
+behind_whole a t (inl h) = ap slot_term h.1
+behind_whole a t (inr h) = ap slot_term h.1.1 ∙ ap (λ b. Some b) h.1.2
 
 behind_arrow : (fs : Frames) (a : Written) (t : Slot) → IsBehind at_front a t → next_arrow fs t ≡ framed (arrow_frame a) fs
 behind_arrow fs a t (inl h) = ap (next_arrow fs) h.1
@@ -101,15 +149,14 @@ binder_next fs x v spells_no_binder = refl
 done_by : (fs : Frames) (o : Option Written) (b a : Written) → o ≡ Some b → unwound_all fs b ≡ Some a → slot_ended fs o ≡ Some a
 done_by fs o b a e h = ap (slot_ended fs) e ∙ h
 
-abbrev declaration : List ℕ → Written → WrittenForm
-declaration n a = written_declare Static n [] (Some a) None
+module _ (purpose : Purpose) where
+  abbrev wrap : TermPart → Part
+  wrap p = in_term purpose p
 
-abbrev theorem : List ℕ → Written → Written → WrittenForm
-theorem n a b = written_declare Theorem n [] (Some a) (Some b)
-
-module _ (wrap : TermPart → Part) (steps : Steps wrap) where
   stepped : (p q : TermPart) (x : Terminal) (rest : List Terminal) → term_next p x ≡ Some q → run (wrap p) (x ∷ rest) ≡ run (wrap q) rest
-  stepped p q x rest e = ap (λ (s : PartStep). run_by s (λ r. run r rest) rest) (steps p q x e).1
+  stepped p q x rest e =
+      ap (λ b. run_by (in_term_next b purpose p x) (λ r. run r rest) rest) (next_takes p q x e)
+      ∙ ap (λ o. run_by (term_goes purpose (term_argument p x) o) (λ r. run r rest) rest) e
 
   record AtomRun (fs : Frames) (s : Slot) (ys : List Terminal) (a : Written) (rest : List Terminal) : Type 0 where
     pub slot : Slot
@@ -181,7 +228,7 @@ module _ (wrap : TermPart → Part) (steps : Steps wrap) where
   application_term : (xs : List Terminal) (a : Written) → ApplicationRuns xs a → TermRuns xs a
   application_term xs a h fs rest =
       let r = h fs at_front rest in
-      record { frames = fs; slot = r.slot; runs = r.runs; last = a; ends_in = behind_term a r.slot r.kind; closes = refl; ends_all = refl }
+      record { frames = fs; slot = r.slot; runs = r.runs; last = a; ends_in = behind_whole a r.slot r.kind; closes = refl; ends_all = refl }
 
   arrow_runs : (xs ys : List Terminal) (a b : Written) → ApplicationRuns xs a → TermRuns ys b → TermRuns (xs ++ arrow ∷ ys) (written_arrow a b)
   arrow_runs xs ys a b h k fs rest =
@@ -223,6 +270,21 @@ module _ (wrap : TermPart → Part) (steps : Steps wrap) where
         runs = ap (λ zs. run (wrap (at fs (due at_front))) (x ∷ colon ∷ zs)) (append_assoc xs (arrow ∷ ys) rest)
             ∙ d.1
             ∙ stepped (at fs (applied (domain v) a d.0)) (at (pushed (product_frame v a) fs) (due at_front)) arrow (ys ++ rest) refl
+            ∙ q.runs;
+        last = q.last;
+        ends_in = q.ends_in;
+        closes = q.closes;
+        ends_all = q.ends_all;
+      }
+
+  bare_runs : (x : Terminal) (v : Option (List ℕ)) (ys : List Terminal) (b : Written) → SpellsBinder x v → TermRuns ys b → TermRuns (x ∷ double_arrow ∷ ys) (written_bare v b)
+  bare_runs x v ys b s k fs rest =
+      let q = k (pushed (bare_frame v) fs) rest in
+      record {
+        frames = q.frames;
+        slot = q.slot;
+        runs = stepped (at fs (due at_front)) (at fs (bindable v)) x (double_arrow ∷ (ys ++ rest)) (binder_next fs x v s)
+            ∙ stepped (at fs (bindable v)) (at (pushed (bare_frame v) fs) (due at_front)) double_arrow (ys ++ rest) refl
             ∙ q.runs;
         last = q.last;
         ends_in = q.ends_in;
@@ -284,29 +346,62 @@ module _ (wrap : TermPart → Part) (steps : Steps wrap) where
     term_runs (spells_arrow {xs} {ys} {a} {b} h k) = arrow_runs xs ys a b (application_runs h) (term_runs k)
     term_runs (spells_product {x} {v} {xs} {ys} {a} {b} s h k) = product_runs x v xs ys a b s (application_runs h) (term_runs k)
     term_runs (spells_bracketed_product {x} {v} {xs} {ys} {a} {b} s h k) = bracketed_runs x v xs ys a b s (application_runs h) (term_runs k)
+    term_runs (spells_bare {x} {v} {ys} {b} s k) = bare_runs x v ys b s (term_runs k)
     term_runs (spells_annotated {x} {v} {xs} {ys} {a} {b} s h k) = annotated_runs x v xs ys a b s (application_runs h) (term_runs k)
 
-  -- a whole term is read as what it spells
-  pub term_complete : {xs : List Terminal} {a : Written} → SpellsTerm xs a → (rest : List Terminal) → (p : TermPart) × (run (wrap (at bottom (due at_front))) (xs ++ rest) ≡ run (wrap p) rest) × (term_done p ≡ Some a)
-  term_complete {xs} {a} h rest =
-      let r = term_runs h bottom rest in
-      (at r.frames r.slot, r.runs, done_by r.frames (slot_term r.slot) r.last a r.ends_in r.ends_all)
+  -- a whole term and the terminal that ends it
+  pub term_complete : {xs : List Terminal} {a : Written} → SpellsTerm xs a → (level : ℕ) (x : Terminal) (rest : List Terminal) → Enders x → run (in_term purpose (term_due level)) (xs ++ x ∷ rest) ≡ run_by (behind_term purpose a x) (λ q. run q rest) rest
+  term_complete {xs} {a} h level x rest enders =
+      let r = term_runs h (bottom level) (x ∷ rest) in
+      let p = at r.frames r.slot in
+      let done : term_done p ≡ Some a = done_by r.frames (slot_term r.slot) r.last a r.ends_in r.ends_all in
+      r.runs
+      ∙ ap (λ b. run_by (in_term_next b purpose p x) (λ q. run q rest) rest) (enders p a done)
+      ∙ ap (λ o. run_by (term_ends purpose x o) (λ q. run q rest) rest) done
+
+-- a parameter is read as what it spells
+binder_complete : (h : Head) (x : Terminal) (v : Option (List ℕ)) (rest : List Terminal) → SpellsBinder x v → run (binder_due h) (x ∷ rest) ≡ run (binder_colon_due h v) rest
+binder_complete h x v rest spells_binder = refl
+binder_complete h x v rest spells_no_binder = refl
+
+param_complete : (h : Head) {x : Terminal} {v : Option (List ℕ)} {xs : List Terminal} {a : Written} → SpellsBinder x v → SpellsTerm xs a → (rest : List Terminal) → run (head_due h) (open_bracket ∷ x ∷ colon ∷ (xs ++ close_bracket ∷ rest)) ≡ run (head_due (with_param h v a)) rest
+param_complete h {x} {v} {xs} {a} s k rest =
+    binder_complete h x v (colon ∷ (xs ++ close_bracket ∷ rest)) s
+    ∙ term_complete (as_param h v) k (level_behind h + 1) close_bracket rest close_enders
+
+abbrev head_of : SymSort → List ℕ → List WrittenParam → Head
+head_of s n ps = record { sort = s; name = n; params = ps }
+
+params_complete : (s : SymSort) (n : List ℕ) (ps : List WrittenParam) {xs : List Terminal} {qs : List WrittenParam} → SpellsParams xs qs → (rest : List Terminal) → run (head_due (head_of s n ps)) (xs ++ rest) ≡ run (head_due (head_of s n (ps ++ qs))) rest
+params_complete s n ps spells_no_params rest = ap (λ qs. run (head_due (head_of s n qs)) rest) (sym (append_nil ps))
+params_complete s n ps (spells_params {x} {v} {xs} {ys} {a} {ps = qs} b k h) rest =
+    ap (λ zs. run (head_due (head_of s n ps)) (open_bracket ∷ x ∷ colon ∷ zs)) (append_assoc xs (close_bracket ∷ ys) rest)
+    ∙ param_complete (head_of s n ps) b k (ys ++ rest)
+    ∙ params_complete s n (ps ++ param v a ∷ []) h rest
+    ∙ ap (λ qs. run (head_due (head_of s n qs)) rest) (append_assoc ps (param v a ∷ []) qs)
+
+type_complete : (h : Head) {xs : List Terminal} {a : Written} → SpellsTerm xs a → (x : Terminal) (rest : List Terminal) → Enders x → run (head_due h) (colon ∷ (xs ++ x ∷ rest)) ≡ run_by (behind_term (as_type h) a x) (λ q. run q rest) rest
+type_complete h k x rest enders = term_complete (as_type h) k (level_behind h) x rest enders
+
+body_complete : (h : Head) (typ : Option Written) {xs : List Terminal} {b : Written} → SpellsTerm xs b → run (in_term (as_body h typ) (term_due (level_behind h))) (xs ++ dot ∷ []) ≡ ended (written_declare h.sort h.name h.params typ (Some b)) []
+body_complete h typ k = term_complete (as_body h typ) k (level_behind h) dot [] (λ p a e. refl)
 
 -- a command is read as what it spells
-declaration_complete : (n : List ℕ) (a : Written) (p : TermPart) → term_done p ≡ Some a → run (in_type Static n p) (dot ∷ []) ≡ ended (declaration n a) []
-declaration_complete n a p e = ap (λ (o : Option Written). run_by (type_ends n o) (λ q. run q []) []) e
-
-body_complete : (n : List ℕ) (a b : Written) (p : TermPart) → term_done p ≡ Some b → run (in_body n a p) (dot ∷ []) ≡ ended (theorem n a b) []
-body_complete n a b p e = ap (λ (o : Option Written). run_by (body_ends n a o) (λ q. run q []) []) e
-
-theorem_complete : (n : List ℕ) (a : Written) (p : TermPart) (rest : List Terminal) → term_done p ≡ Some a → run (in_type Theorem n p) (defined ∷ rest) ≡ run (in_body n a (at bottom (due at_front))) rest
-theorem_complete n a p rest e = ap (λ (o : Option Written). run_by (body_begins n o) (λ q. run q rest) rest) e
-
 pub complete : {xs : List Terminal} {form : WrittenForm} → SpellsForm xs form → run command_due xs ≡ ended form []
-complete (spells_declaration {n} {xs} {a} h) =
-    let t = term_complete (in_type Static n) (type_steps Static n) h (dot ∷ []) in
-    t.1 ∙ declaration_complete n a t.0 t.2
-complete (spells_theorem {n} {xs} {ys} {a} {b} h k) =
-    let t = term_complete (in_type Theorem n) (type_steps Theorem n) h (defined ∷ (ys ++ dot ∷ [])) in
-    let u = term_complete (in_body n a) (body_steps n a) k (dot ∷ []) in
-    t.1 ∙ theorem_complete n a t.0 (ys ++ dot ∷ []) t.2 ∙ u.1 ∙ body_complete n a b u.0 u.2
+complete (spells_static {n} {xs} {ys} {ps} {a} h k) =
+    params_complete Static n [] h (colon ∷ (ys ++ dot ∷ []))
+    ∙ type_complete (head_of Static n ps) k dot [] (λ p a e. refl)
+complete (spells_definable {n} {xs} {ys} {ps} {a} h k) =
+    params_complete Definable n [] h (colon ∷ (ys ++ dot ∷ []))
+    ∙ type_complete (head_of Definable n ps) k dot [] (λ p a e. refl)
+complete (spells_definition {n} {xs} {ys} {ps} {b} h k) =
+    params_complete Definable n [] h (defined ∷ (ys ++ dot ∷ []))
+    ∙ body_complete (head_of Definable n ps) None k
+complete (spells_typed_definition {n} {xs} {ys} {zs} {ps} {a} {b} h k j) =
+    params_complete Definable n [] h (colon ∷ (ys ++ defined ∷ (zs ++ dot ∷ [])))
+    ∙ type_complete (head_of Definable n ps) k defined (zs ++ dot ∷ []) (λ p a e. refl)
+    ∙ body_complete (head_of Definable n ps) (Some a) j
+complete (spells_theorem {n} {xs} {ys} {zs} {ps} {a} {b} h k j) =
+    params_complete Theorem n [] h (colon ∷ (ys ++ defined ∷ (zs ++ dot ∷ [])))
+    ∙ type_complete (head_of Theorem n ps) k defined (zs ++ dot ∷ []) (λ p a e. refl)
+    ∙ body_complete (head_of Theorem n ps) (Some a) j

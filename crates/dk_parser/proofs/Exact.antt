@@ -239,7 +239,7 @@ module _ (limits : Limits) where
   exact_ends front p t us form is w e later =
       let other = not_profile_ends p form (terminal_of t) e in
       let spelt : SpellsForm (terminals (front ++ t ∷ [])) form = subst (λ xs. SpellsForm xs form) (sym (terminals_more front t)) (sound (terminals front) p (terminal_of t) form is e) in
-      let deep : load (terminals front) (terminal_of t) ≤ limits.levels = subst (λ n. n ≤ limits.levels) (sym (end_load (terminals front) p (terminal_of t) form e)) (nothing_within limits.levels) in
+      let deep : load (terminals front) (terminal_of t) ≤ limits.levels = subst (λ n. n ≤ limits.levels) (sym (end_load (terminals front) p (terminal_of t) form is e)) (nothing_within limits.levels) in
       let w_next : IsWithin limits.levels (terminals (front ++ t ∷ [])) = subst (IsWithin limits.levels) (sym (terminals_more front t)) (within_more limits.levels (terminals front) (terminal_of t) w deep) in
       subst (λ ts. Reads limits ts (read_from (state_at limits (first_begun front) p) (t ∷ us))) (append_assoc front (t ∷ []) us)
       (subst (Reads limits ((front ++ t ∷ []) ++ us)) (sym (ends_read limits front p t us form other e))
@@ -282,7 +282,7 @@ step_run front p t us is = ap (run command_due) (terminals_append front (t ∷ u
 
 begins_goes : (s : PartStep) (xs : List Terminal) (p : Part) (x : Terminal) (limit : ℕ) → run command_due xs ≡ going p → limit < load xs x → Begins (xs ++ x ∷ []) → part_next p x ≡ s → (made : ℕ) × (q : Part) × (part_next p x ≡ goes made q)
 begins_goes (goes made q) xs p x limit is d b e = (made, q, e)
-begins_goes (ends form) xs p x limit is d b e = absurd (none_below limit (subst (λ n. limit < n) (end_load xs p x form e) d))
+begins_goes (ends form) xs p x limit is d b e = absurd (none_below limit (subst (λ n. limit < n) (end_load xs p x form is e) d))
 begins_goes refuses xs p x limit is d b e = absurd (refused_begins xs p x is e b)
 
 refuses_step : (s : PartStep) (xs : List Terminal) (p : Part) (x : Terminal) → run command_due xs ≡ going p → (Begins (xs ++ x ∷ []) → ⊥) → part_next p x ≡ s → part_next p x ≡ refuses

@@ -4,9 +4,9 @@ use Rattle.std.specs.Prelude.{Option, Some, None}
 use Rattle.dk_lexer.specs.declared.token.Sign.TheVariants as sign
 use Rattle.dk_parser.specs.declared.terminal.Terminal.{Terminal}
 use Rattle.dk_parser.specs.declared.terminal.Terminal.TheVariants as terminal
-use Rattle.dk_parser.specs.Written.{Written, written_qualified, written_star, written_apply, written_arrow, written_product, written_annotated}
-use Rattle.dk_parser.specs.Grammar.{colon, arrow, double_arrow, open_bracket, close_bracket, SpellsBinder, spells_binder, spells_no_binder, SpellsAtom, spells_name, spells_qualified, spells_star, spells_wildcard, spells_brackets, SpellsApplication, spells_head, spells_applied, SpellsTerm, spells_application, spells_arrow, spells_product, spells_bracketed_product, spells_annotated}
-use Rattle.dk_parser.specs.Parsing.{at_front, domain, Slot, due, bindable, applied, bracketed, Frame, bracket_frame, arrow_frame, product_frame, annotated_frame, Frames, bottom, on, TermPart, pushed, binder_term, slot_more, slot_binder, takes_atom, slot_term, in_frames, unwound, unwound_all, next_open, next_close, next_close_term, next_close_domain, next_colon, next_arrow, next_double_arrow, framed, term_next, term_done, slot_ended}
+use Rattle.dk_parser.specs.Written.{Written, written_qualified, written_star, written_apply, written_arrow, written_product, written_bare, written_annotated}
+use Rattle.dk_parser.specs.Grammar.{colon, arrow, double_arrow, open_bracket, close_bracket, SpellsBinder, spells_binder, spells_no_binder, SpellsAtom, spells_name, spells_qualified, spells_star, spells_wildcard, spells_brackets, SpellsApplication, spells_head, spells_applied, SpellsTerm, spells_application, spells_arrow, spells_product, spells_bracketed_product, spells_bare, spells_annotated}
+use Rattle.dk_parser.specs.Parsing.{at_front, domain, Slot, due, bindable, applied, bracketed, Frame, bracket_frame, arrow_frame, product_frame, bare_frame, annotated_frame, Frames, bottom, on, TermPart, pushed, binder_term, slot_more, slot_binder, takes_atom, slot_term, in_frames, unwound, unwound_all, next_open, next_close, next_close_term, next_close_domain, next_colon, next_arrow, next_double_arrow, framed, term_next, term_done, slot_ended}
 use Rattle.dk_parser.proofs.Complete.{at, atom_more}
 
 append_nil : (xs : List Terminal) → xs ++ [] ≡ xs
@@ -34,10 +34,11 @@ abbrev SpellsFrame : List Terminal → Frame → Type 0
 SpellsFrame vs (bracket_frame s) = (ws : List Terminal) × (vs ≡ ws ++ open_bracket ∷ []) × SpellsSlot ws s × (takes_atom s ≡ true)
 SpellsFrame vs (arrow_frame a) = (zs : List Terminal) (b : Written) → SpellsTerm zs b → SpellsTerm (vs ++ zs) (written_arrow a b)
 SpellsFrame vs (product_frame v a) = (zs : List Terminal) (b : Written) → SpellsTerm zs b → SpellsTerm (vs ++ zs) (written_product v a b)
+SpellsFrame vs (bare_frame v) = (zs : List Terminal) (b : Written) → SpellsTerm zs b → SpellsTerm (vs ++ zs) (written_bare v b)
 SpellsFrame vs (annotated_frame v a) = (zs : List Terminal) (b : Written) → SpellsTerm zs b → SpellsTerm (vs ++ zs) (written_annotated v a b)
 
 abbrev SpellsFrames : List Terminal → Frames → Type 0
-SpellsFrames ys bottom = ys ≡ []
+SpellsFrames ys (bottom level) = ys ≡ []
 SpellsFrames ys (on d f fs) = (us : List Terminal) × (vs : List Terminal) × (ys ≡ us ++ vs) × SpellsFrames us fs × SpellsFrame vs f
 
 -- these terminals of a term lead to this part of it
@@ -48,8 +49,8 @@ pub record ReachedTerm (xs : List Terminal) (p : TermPart) : Type 0 where
   pub frames : SpellsFrames before p.frames
   pub slot : SpellsSlot here p.slot
 
-pub nothing_reached : ReachedTerm [] (at bottom (due at_front))
-nothing_reached = record { before = []; here = []; is = refl; frames = refl; slot = refl }
+pub nothing_reached : (level : ℕ) → ReachedTerm [] (at (bottom level) (due at_front))
+nothing_reached level = record { before = []; here = []; is = refl; frames = refl; slot = refl }
 
 some_slot : (s t : Slot) → Some s ≡ Some t → s ≡ t
 some_slot s t e = cc
@@ -124,6 +125,10 @@ product_frames x v ws us a e h k zs b t =
     subst (λ ts. SpellsTerm ((ts ++ arrow ∷ []) ++ zs) (written_product v a b)) (sym e)
     (subst (λ ts. SpellsTerm (x ∷ colon ∷ ts) (written_product v a b)) (sym (append_assoc us (arrow ∷ []) zs)) (spells_product h k t))
 
+bare_frames : (x : Terminal) (v : Option (List ℕ)) (ws : List Terminal) → ws ≡ x ∷ [] → SpellsBinder x v → SpellsFrame (ws ++ double_arrow ∷ []) (bare_frame v)
+bare_frames x v ws e h zs b t =
+    subst (λ ts. SpellsTerm ((ts ++ double_arrow ∷ []) ++ zs) (written_bare v b)) (sym e) (spells_bare h t)
+
 annotated_frames : (x : Terminal) (v : Option (List ℕ)) (ws us : List Terminal) (a : Written) → ws ≡ x ∷ colon ∷ us → SpellsBinder x v → SpellsApplication us a → SpellsFrame (ws ++ double_arrow ∷ []) (annotated_frame v a)
 annotated_frames x v ws us a e h k zs b t =
     subst (λ ts. SpellsTerm ((ts ++ double_arrow ∷ []) ++ zs) (written_annotated v a b)) (sym e)
@@ -153,7 +158,7 @@ bracket_reached (Some r) s xs us ws zs fs a q is k h t m e =
     })
 
 unwound_reached : (fs : Frames) (xs ys zs : List Terminal) (a : Written) (q : TermPart) → xs ≡ ys ++ zs → SpellsFrames ys fs → SpellsTerm zs a → unwound fs a ≡ Some q → ReachedTerm (xs ++ close_bracket ∷ []) q
-unwound_reached bottom xs ys zs a q is k t e = cc
+unwound_reached (bottom level) xs ys zs a q is k t e = cc
 unwound_reached (on d (bracket_frame s) fs) xs ys zs a q is k t e =
     let f = k.4 in
     bracket_reached (slot_more s a) s xs k.0 f.0 zs fs a q (is ∙ behind ys zs (k.0 ++ (f.0 ++ open_bracket ∷ [])) (k.2 ∙ ap (λ vs. k.0 ++ vs) f.1)) k.3 f.2 t refl e
@@ -161,6 +166,8 @@ unwound_reached (on d (arrow_frame b) fs) xs ys zs a q is k t e =
     unwound_reached fs xs k.0 (k.1 ++ zs) (written_arrow b a) q (is ∙ behind ys zs (k.0 ++ k.1) k.2 ∙ append_assoc k.0 k.1 zs) k.3 (k.4 zs a t) e
 unwound_reached (on d (product_frame v b) fs) xs ys zs a q is k t e =
     unwound_reached fs xs k.0 (k.1 ++ zs) (written_product v b a) q (is ∙ behind ys zs (k.0 ++ k.1) k.2 ∙ append_assoc k.0 k.1 zs) k.3 (k.4 zs a t) e
+unwound_reached (on d (bare_frame v) fs) xs ys zs a q is k t e =
+    unwound_reached fs xs k.0 (k.1 ++ zs) (written_bare v a) q (is ∙ behind ys zs (k.0 ++ k.1) k.2 ∙ append_assoc k.0 k.1 zs) k.3 (k.4 zs a t) e
 unwound_reached (on d (annotated_frame v b) fs) xs ys zs a q is k t e =
     unwound_reached fs xs k.0 (k.1 ++ zs) (written_annotated v b a) q (is ∙ behind ys zs (k.0 ++ k.1) k.2 ∙ append_assoc k.0 k.1 zs) k.3 (k.4 zs a t) e
 
@@ -215,6 +222,7 @@ arrow_reached (applied (domain v) a n) fs xs ys ws q is k h e = framed_reached x
 arrow_reached (bracketed v a) fs xs ys ws q is k h e = framed_reached xs ys ws arrow (product_frame v a) fs q is k (bracketed_frames h.0 v ws h.1 a h.2 h.3 h.4) e
 
 double_arrow_reached : (s : Slot) (fs : Frames) (xs ys ws : List Terminal) (q : TermPart) → xs ≡ ys ++ ws → SpellsFrames ys fs → SpellsSlot ws s → next_double_arrow fs s ≡ Some q → ReachedTerm (xs ++ double_arrow ∷ []) q
+double_arrow_reached (bindable v) fs xs ys ws q is k h e = framed_reached xs ys ws double_arrow (bare_frame v) fs q is k (bare_frames h.0 v ws h.1 h.2) e
 double_arrow_reached (applied (domain v) a n) fs xs ys ws q is k h e = framed_reached xs ys ws double_arrow (annotated_frame v a) fs q is k (annotated_frames h.0 v ws h.1 a h.2 h.3 h.4) e
 double_arrow_reached s fs xs ys ws q is k h e = cc
 
@@ -233,12 +241,14 @@ term_reached xs p x q h e = cc
 
 -- a term that may end here is spelt
 unwound_all_sound : (fs : Frames) (ys zs : List Terminal) (a b : Written) → SpellsFrames ys fs → SpellsTerm zs a → unwound_all fs a ≡ Some b → SpellsTerm (ys ++ zs) b
-unwound_all_sound bottom ys zs a b k t e = subst (SpellsTerm (ys ++ zs)) (some_term a b e) (subst (λ us. SpellsTerm us a) (sym (behind ys zs [] k)) t)
+unwound_all_sound (bottom level) ys zs a b k t e = subst (SpellsTerm (ys ++ zs)) (some_term a b e) (subst (λ us. SpellsTerm us a) (sym (behind ys zs [] k)) t)
 unwound_all_sound (on d (bracket_frame s) fs) ys zs a b k t e = cc
 unwound_all_sound (on d (arrow_frame c) fs) ys zs a b k t e =
     subst (λ us. SpellsTerm us b) (sym (behind ys zs (k.0 ++ k.1) k.2 ∙ append_assoc k.0 k.1 zs)) (unwound_all_sound fs k.0 (k.1 ++ zs) (written_arrow c a) b k.3 (k.4 zs a t) e)
 unwound_all_sound (on d (product_frame v c) fs) ys zs a b k t e =
     subst (λ us. SpellsTerm us b) (sym (behind ys zs (k.0 ++ k.1) k.2 ∙ append_assoc k.0 k.1 zs)) (unwound_all_sound fs k.0 (k.1 ++ zs) (written_product v c a) b k.3 (k.4 zs a t) e)
+unwound_all_sound (on d (bare_frame v) fs) ys zs a b k t e =
+    subst (λ us. SpellsTerm us b) (sym (behind ys zs (k.0 ++ k.1) k.2 ∙ append_assoc k.0 k.1 zs)) (unwound_all_sound fs k.0 (k.1 ++ zs) (written_bare v a) b k.3 (k.4 zs a t) e)
 unwound_all_sound (on d (annotated_frame v c) fs) ys zs a b k t e =
     subst (λ us. SpellsTerm us b) (sym (behind ys zs (k.0 ++ k.1) k.2 ∙ append_assoc k.0 k.1 zs)) (unwound_all_sound fs k.0 (k.1 ++ zs) (written_annotated v c a) b k.3 (k.4 zs a t) e)
 
@@ -295,7 +305,7 @@ record CompletedIn (ys zs : List Terminal) : Type 0 where
   pub spelt : SpellsTerm (ys ++ (zs ++ rest)) term
 
 frames_begun : (fs : Frames) (ys zs : List Terminal) (a : Written) → SpellsFrames ys fs → SpellsTerm zs a → CompletedIn ys zs
-frames_begun bottom ys zs a k t = record { rest = []; term = a; spelt = subst (λ us. SpellsTerm us a) (sym (behind ys (zs ++ []) [] k ∙ append_nil zs)) t }
+frames_begun (bottom level) ys zs a k t = record { rest = []; term = a; spelt = subst (λ us. SpellsTerm us a) (sym (behind ys (zs ++ []) [] k ∙ append_nil zs)) t }
 frames_begun (on d (bracket_frame s) fs) ys zs a k t =
     let f = k.4 in
     let m = atom_more s a f.3 in
@@ -312,6 +322,9 @@ frames_begun (on d (arrow_frame b) fs) ys zs a k t =
     record { rest = r.rest; term = r.term; spelt = subst (λ us. SpellsTerm us r.term) (frame_begun k.0 k.1 zs r.rest ys k.2) r.spelt }
 frames_begun (on d (product_frame v b) fs) ys zs a k t =
     let r = frames_begun fs k.0 (k.1 ++ zs) (written_product v b a) k.3 (k.4 zs a t) in
+    record { rest = r.rest; term = r.term; spelt = subst (λ us. SpellsTerm us r.term) (frame_begun k.0 k.1 zs r.rest ys k.2) r.spelt }
+frames_begun (on d (bare_frame v) fs) ys zs a k t =
+    let r = frames_begun fs k.0 (k.1 ++ zs) (written_bare v a) k.3 (k.4 zs a t) in
     record { rest = r.rest; term = r.term; spelt = subst (λ us. SpellsTerm us r.term) (frame_begun k.0 k.1 zs r.rest ys k.2) r.spelt }
 frames_begun (on d (annotated_frame v b) fs) ys zs a k t =
     let r = frames_begun fs k.0 (k.1 ++ zs) (written_annotated v b a) k.3 (k.4 zs a t) in

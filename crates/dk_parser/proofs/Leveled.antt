@@ -1,318 +1,469 @@
 -- The load of a terminal is the one that the step to the next part gives.
-use Rattle.std.proofs.Common.{◌≡◌, ℕ, ◌+◌, List, [], ◌∷◌, ◌++◌, refl, sym, ap, ◌∙◌, subst, arith}
-use Rattle.std.specs.Prelude.{Bool, true, false, Option, Some, None, max}
+use Rattle.std.proofs.Common.{◌≡◌, ℕ, suc, ◌+◌, List, [], ◌∷◌, ◌++◌, refl, sym, ap, ◌∙◌, subst, arith}
+use Rattle.std.specs.Prelude.{Bool, true, false, Option, Some, None, length, max}
+use Rattle.std.proofs.lemmas.Bool.Decides.{nat_tests}
 use Rattle.dk_model.specs.declared.signature.SymSort.{SymSort}
 use Rattle.dk_model.specs.declared.signature.SymSort.TheVariants.{Static, Definable, Theorem}
 use Rattle.dk_lexer.specs.declared.token.Sign.TheVariants as sign
 use Rattle.dk_parser.specs.declared.terminal.Terminal.{Terminal}
 use Rattle.dk_parser.specs.declared.terminal.Terminal.TheVariants as terminal
-use Rattle.dk_parser.specs.Written.{Written, written_qualified, written_star, written_apply, written_arrow, written_product, written_annotated, WrittenForm}
-use Rattle.dk_parser.specs.Levels.{empty_group, Groups, no_groups, closed, grouped, groups_from, groups, arrows_of, level_of, argument_in, load}
-use Rattle.dk_parser.specs.Parsing.{at_front, domain, Slot, due, bindable, applied, bracketed, Frame, bracket_frame, arrow_frame, product_frame, annotated_frame, Frames, bottom, on, TermPart, depth, pushed, binder_term, atoms, slot_more, slot_binder, takes_atom, in_frames, unwound, next_open, next_close, next_close_term, next_close_domain, next_colon, next_arrow, next_double_arrow, framed, term_next, term_argument, term_done, Part, command_due, name_due, colon_due, in_type, in_body, goes, ends, refuses, type_goes, type_ends, body_begins, body_goes, body_ends, part_next}
+use Rattle.dk_parser.specs.Written.{Written, written_qualified, written_star, written_apply, written_arrow, written_product, written_bare, written_annotated, WrittenParam, WrittenForm}
+use Rattle.dk_parser.specs.Grammar.{dot, param}
+use Rattle.dk_parser.specs.Levels.{Group, empty_group, Groups, closed, grouped, Side, in_head, behind_head, Standing, at_start, params_closed, side_at_colon, stands, standing_from, standing, arrows_of, level_of, argument_in, load}
+use Rattle.dk_parser.specs.Parsing.{at_front, domain, Slot, due, bindable, applied, bracketed, Frame, bracket_frame, arrow_frame, product_frame, bare_frame, annotated_frame, Frames, bottom, on, TermPart, depth, pushed, binder_term, atoms, slot_more, slot_binder, takes_atom, in_frames, unwound, next_open, next_close, next_close_term, next_close_domain, next_colon, next_arrow, next_double_arrow, framed, term_next, term_argument, term_done, in_bracket, takes, Head, level_behind, with_param, Purpose, as_param, as_type, as_body, Part, command_due, name_due, head_due, binder_due, binder_colon_due, in_term, PartStep, goes, ends, refuses, body_due, body_behind_head, body_behind_type, dot_behind_type, behind_term, term_goes, term_ends, in_term_next, head_next, part_next}
 use Rattle.dk_parser.proofs.Machine.{going, run, follow}
-use Rattle.dk_parser.proofs.Complete.{at}
-use Rattle.dk_parser.proofs.Reached.{goes_no_end, body_no_end, begins_no_end}
+use Rattle.dk_parser.proofs.Complete.{at, next_takes}
 
--- the groups of a part of a term, with so many arrows and atoms more in the innermost
-abbrev groups_of : Frames → ℕ → ℕ → Groups
-groups_of bottom k n = record { inner = record { arrows = k; atoms = n }; outer = [] }
-groups_of (on d (bracket_frame s) fs) k n = record { inner = record { arrows = k; atoms = n }; outer = (groups_of fs 0 (atoms s + 1)).inner ∷ (groups_of fs 0 (atoms s + 1)).outer }
-groups_of (on d (arrow_frame a) fs) k n = groups_of fs (k + 1) n
-groups_of (on d (product_frame v a) fs) k n = groups_of fs (k + 1) n
-groups_of (on d (annotated_frame v a) fs) k n = groups_of fs (k + 1) n
+-- a term in these groups, behind so many parameters
+module _ (params : ℕ) (under : List Group) where
+  -- the groups of a part of a term in these groups, with so many arrows and atoms more in the innermost
+  abbrev groups_of : Frames → ℕ → ℕ → Groups
+  groups_of (bottom level) k n = record { inner = record { arrows = k; atoms = n }; outer = under }
+  groups_of (on d (bracket_frame s) fs) k n = record { inner = record { arrows = k; atoms = n }; outer = (groups_of fs 0 (atoms s + 1)).inner ∷ (groups_of fs 0 (atoms s + 1)).outer }
+  groups_of (on d (arrow_frame a) fs) k n = groups_of fs (k + 1) n
+  groups_of (on d (product_frame v a) fs) k n = groups_of fs (k + 1) n
+  groups_of (on d (bare_frame v) fs) k n = groups_of fs (k + 1) n
+  groups_of (on d (annotated_frame v a) fs) k n = groups_of fs (k + 1) n
 
--- the frames count themselves
-abbrev Counted : Frames → Type 0
-Counted bottom = Unit {0}
-Counted (on d f fs) = (d ≡ depth fs + 1) × Counted fs
+  -- the frames count the levels
+  abbrev Counted : Frames → Type 0
+  Counted (bottom level) = level ≡ params + arrows_of under
+  Counted (on d f fs) = (d ≡ depth fs + 1) × Counted fs
 
-abbrev part_groups : TermPart → Groups
-part_groups p = groups_of p.frames 0 (atoms p.slot)
+  abbrev part_groups : TermPart → Groups
+  part_groups p = groups_of p.frames 0 (atoms p.slot)
 
-atoms_more : (fs : Frames) (k n : ℕ) → record { inner = record { arrows = (groups_of fs k n).inner.arrows; atoms = (groups_of fs k n).inner.atoms + 1 }; outer = (groups_of fs k n).outer } ≡ groups_of fs k (n + 1)
-atoms_more bottom k n = refl
-atoms_more (on d (bracket_frame s) fs) k n = refl
-atoms_more (on d (arrow_frame a) fs) k n = atoms_more fs (k + 1) n
-atoms_more (on d (product_frame v a) fs) k n = atoms_more fs (k + 1) n
-atoms_more (on d (annotated_frame v a) fs) k n = atoms_more fs (k + 1) n
+  atoms_more : (fs : Frames) (k n : ℕ) → record { inner = record { arrows = (groups_of fs k n).inner.arrows; atoms = (groups_of fs k n).inner.atoms + 1 }; outer = (groups_of fs k n).outer } ≡ groups_of fs k (n + 1)
+  atoms_more (bottom level) k n = refl
+  atoms_more (on d (bracket_frame s) fs) k n = refl
+  atoms_more (on d (arrow_frame a) fs) k n = atoms_more fs (k + 1) n
+  atoms_more (on d (product_frame v a) fs) k n = atoms_more fs (k + 1) n
+  atoms_more (on d (bare_frame v) fs) k n = atoms_more fs (k + 1) n
+  atoms_more (on d (annotated_frame v a) fs) k n = atoms_more fs (k + 1) n
 
-atoms_over : (fs : Frames) (k n : ℕ) → record { inner = record { arrows = (groups_of fs k n).inner.arrows; atoms = 0 }; outer = (groups_of fs k n).outer } ≡ groups_of fs k 0
-atoms_over bottom k n = refl
-atoms_over (on d (bracket_frame s) fs) k n = refl
-atoms_over (on d (arrow_frame a) fs) k n = atoms_over fs (k + 1) n
-atoms_over (on d (product_frame v a) fs) k n = atoms_over fs (k + 1) n
-atoms_over (on d (annotated_frame v a) fs) k n = atoms_over fs (k + 1) n
+  atoms_over : (fs : Frames) (k n : ℕ) → record { inner = record { arrows = (groups_of fs k n).inner.arrows; atoms = 0 }; outer = (groups_of fs k n).outer } ≡ groups_of fs k 0
+  atoms_over (bottom level) k n = refl
+  atoms_over (on d (bracket_frame s) fs) k n = refl
+  atoms_over (on d (arrow_frame a) fs) k n = atoms_over fs (k + 1) n
+  atoms_over (on d (product_frame v a) fs) k n = atoms_over fs (k + 1) n
+  atoms_over (on d (bare_frame v) fs) k n = atoms_over fs (k + 1) n
+  atoms_over (on d (annotated_frame v a) fs) k n = atoms_over fs (k + 1) n
 
-arrows_more : (fs : Frames) (k n : ℕ) → record { inner = record { arrows = (groups_of fs k n).inner.arrows + 1; atoms = 0 }; outer = (groups_of fs k n).outer } ≡ groups_of fs (k + 1) 0
-arrows_more bottom k n = refl
-arrows_more (on d (bracket_frame s) fs) k n = refl
-arrows_more (on d (arrow_frame a) fs) k n = arrows_more fs (k + 1) n
-arrows_more (on d (product_frame v a) fs) k n = arrows_more fs (k + 1) n
-arrows_more (on d (annotated_frame v a) fs) k n = arrows_more fs (k + 1) n
+  arrows_more : (fs : Frames) (k n : ℕ) → record { inner = record { arrows = (groups_of fs k n).inner.arrows + 1; atoms = 0 }; outer = (groups_of fs k n).outer } ≡ groups_of fs (k + 1) 0
+  arrows_more (bottom level) k n = refl
+  arrows_more (on d (bracket_frame s) fs) k n = refl
+  arrows_more (on d (arrow_frame a) fs) k n = arrows_more fs (k + 1) n
+  arrows_more (on d (product_frame v a) fs) k n = arrows_more fs (k + 1) n
+  arrows_more (on d (bare_frame v) fs) k n = arrows_more fs (k + 1) n
+  arrows_more (on d (annotated_frame v a) fs) k n = arrows_more fs (k + 1) n
 
-inner_atoms : (fs : Frames) (k n : ℕ) → (groups_of fs k n).inner.atoms ≡ n
-inner_atoms bottom k n = refl
-inner_atoms (on d (bracket_frame s) fs) k n = refl
-inner_atoms (on d (arrow_frame a) fs) k n = inner_atoms fs (k + 1) n
-inner_atoms (on d (product_frame v a) fs) k n = inner_atoms fs (k + 1) n
-inner_atoms (on d (annotated_frame v a) fs) k n = inner_atoms fs (k + 1) n
+  inner_atoms : (fs : Frames) (k n : ℕ) → (groups_of fs k n).inner.atoms ≡ n
+  inner_atoms (bottom level) k n = refl
+  inner_atoms (on d (bracket_frame s) fs) k n = refl
+  inner_atoms (on d (arrow_frame a) fs) k n = inner_atoms fs (k + 1) n
+  inner_atoms (on d (product_frame v a) fs) k n = inner_atoms fs (k + 1) n
+  inner_atoms (on d (bare_frame v) fs) k n = inner_atoms fs (k + 1) n
+  inner_atoms (on d (annotated_frame v a) fs) k n = inner_atoms fs (k + 1) n
 
-level_bracket : (k arrows rest depth_fs d : ℕ) → d ≡ depth_fs + 1 → arrows + rest ≡ depth_fs + 0 → k + ((arrows + 1) + rest) ≡ d + k
-level_bracket k arrows rest depth_fs d e h = omega arith
+  level_bracket : (base k arrows rest depth_fs d : ℕ) → d ≡ depth_fs + 1 → base + (arrows + rest) ≡ depth_fs + 0 → base + (k + ((arrows + 1) + rest)) ≡ d + k
+  level_bracket base k arrows rest depth_fs d e h = omega arith
 
-level_arrow : (k level depth_fs d : ℕ) → d ≡ depth_fs + 1 → level ≡ depth_fs + (k + 1) → level ≡ d + k
-level_arrow k level depth_fs d e h = omega arith
+  level_arrow : (k level depth_fs d : ℕ) → d ≡ depth_fs + 1 → level ≡ depth_fs + (k + 1) → level ≡ d + k
+  level_arrow k level depth_fs d e h = omega arith
 
-level_bottom : (k : ℕ) → k + 0 ≡ 0 + k
-level_bottom k = omega arith
+  level_bottom : (base rest level k : ℕ) → level ≡ base + rest → base + (k + rest) ≡ level + k
+  level_bottom base rest level k e = omega arith
 
--- the level is the number of the frames
-level_depth : (fs : Frames) (k n : ℕ) → Counted fs → level_of (groups_of fs k n) ≡ depth fs + k
-level_depth bottom k n c = level_bottom k
-level_depth (on d (bracket_frame s) fs) k n c =
-    level_bracket k (groups_of fs 0 (atoms s + 1)).inner.arrows (arrows_of (groups_of fs 0 (atoms s + 1)).outer) (depth fs) d c.0 (level_depth fs 0 (atoms s + 1) c.1)
-level_depth (on d (arrow_frame a) fs) k n c = level_arrow k _ (depth fs) d c.0 (level_depth fs (k + 1) n c.1)
-level_depth (on d (product_frame v a) fs) k n c = level_arrow k _ (depth fs) d c.0 (level_depth fs (k + 1) n c.1)
-level_depth (on d (annotated_frame v a) fs) k n c = level_arrow k _ (depth fs) d c.0 (level_depth fs (k + 1) n c.1)
+  abbrev group_level : Groups → ℕ
+  group_level gs = params + (gs.inner.arrows + arrows_of gs.outer)
 
-nothing_more : (n : ℕ) → n + 0 ≡ n
-nothing_more n = omega arith
+  -- the level is the one that the frames count
+  level_depth : (fs : Frames) (k n : ℕ) → Counted fs → group_level (groups_of fs k n) ≡ depth fs + k
+  level_depth (bottom level) k n c = level_bottom params (arrows_of under) level k c
+  level_depth (on d (bracket_frame s) fs) k n c =
+      level_bracket params k (groups_of fs 0 (atoms s + 1)).inner.arrows (arrows_of (groups_of fs 0 (atoms s + 1)).outer) (depth fs) d c.0 (level_depth fs 0 (atoms s + 1) c.1)
+  level_depth (on d (arrow_frame a) fs) k n c = level_arrow k _ (depth fs) d c.0 (level_depth fs (k + 1) n c.1)
+  level_depth (on d (product_frame v a) fs) k n c = level_arrow k _ (depth fs) d c.0 (level_depth fs (k + 1) n c.1)
+  level_depth (on d (bare_frame v) fs) k n c = level_arrow k _ (depth fs) d c.0 (level_depth fs (k + 1) n c.1)
+  level_depth (on d (annotated_frame v a) fs) k n c = level_arrow k _ (depth fs) d c.0 (level_depth fs (k + 1) n c.1)
 
-part_depth : (p : TermPart) → Counted p.frames → level_of (part_groups p) ≡ depth p.frames
-part_depth p c = level_depth p.frames 0 (atoms p.slot) c ∙ nothing_more (depth p.frames)
+  nothing_more : (n : ℕ) → n + 0 ≡ n
+  nothing_more n = omega arith
 
-argument_same : (p : TermPart) (x : Terminal) → argument_in (part_groups p) x ≡ term_argument p x
-argument_same p (terminal.Name n) = inner_atoms p.frames 0 (atoms p.slot)
-argument_same p (terminal.Qualified m n) = inner_atoms p.frames 0 (atoms p.slot)
-argument_same p terminal.Star = inner_atoms p.frames 0 (atoms p.slot)
-argument_same p terminal.Wildcard = inner_atoms p.frames 0 (atoms p.slot)
-argument_same p (terminal.Sign sign.OpenBracket) = inner_atoms p.frames 0 (atoms p.slot)
-argument_same p x = refl
+  part_depth : (p : TermPart) → Counted p.frames → group_level (part_groups p) ≡ depth p.frames
+  part_depth p c = level_depth p.frames 0 (atoms p.slot) c ∙ nothing_more (depth p.frames)
 
--- these are the groups of a part
-record IsGrouped (gs : Groups) (q : TermPart) : Type 0 where
-  pub same : gs ≡ part_groups q
-  pub counted : Counted q.frames
+  -- these are the groups of a part
+  record IsGrouped (gs : Groups) (q : TermPart) : Type 0 where
+    pub same : gs ≡ part_groups q
+    pub counted : Counted q.frames
 
-grouped_at : (gs : Groups) (p q : TermPart) → Some p ≡ Some q → IsGrouped gs p → IsGrouped gs q
-grouped_at gs p q e h =
-    let same : p ≡ q = cc in
-    subst (IsGrouped gs) same h
+  grouped_at : (gs : Groups) (p q : TermPart) → Some p ≡ Some q → IsGrouped gs p → IsGrouped gs q
+  grouped_at gs p q e h =
+      let same : p ≡ q = cc in
+      subst (IsGrouped gs) same h
 
-slot_atoms : (s t : Slot) (a : Written) → slot_more s a ≡ Some t → atoms s + 1 ≡ atoms t
-slot_atoms (due place) t a e =
-    let same : applied place a 1 ≡ t = cc in
-    ap atoms same
-slot_atoms (bindable v) t a e =
-    let same : applied at_front (written_apply (binder_term v) a) 2 ≡ t = cc in
-    ap atoms same
-slot_atoms (applied place f n) t a e =
-    let same : applied place (written_apply f a) (n + 1) ≡ t = cc in
-    ap atoms same
-slot_atoms (bracketed v b) t a e = cc
+  slot_atoms : (s t : Slot) (a : Written) → slot_more s a ≡ Some t → atoms s + 1 ≡ atoms t
+  slot_atoms (due place) t a e =
+      let same : applied place a 1 ≡ t = cc in
+      ap atoms same
+  slot_atoms (bindable v) t a e =
+      let same : applied at_front (written_apply (binder_term v) a) 2 ≡ t = cc in
+      ap atoms same
+  slot_atoms (applied place f n) t a e =
+      let same : applied place (written_apply f a) (n + 1) ≡ t = cc in
+      ap atoms same
+  slot_atoms (bracketed v b) t a e = cc
 
-binder_atoms : (s t : Slot) (v : Option (List ℕ)) → slot_binder s v ≡ Some t → atoms s + 1 ≡ atoms t
-binder_atoms (due at_front) t v e =
-    let same : bindable v ≡ t = cc in
-    ap atoms same
-binder_atoms (due (domain w)) t v e = slot_atoms (due (domain w)) t (binder_term v) e
-binder_atoms (bindable w) t v e = slot_atoms (bindable w) t (binder_term v) e
-binder_atoms (applied place f n) t v e = slot_atoms (applied place f n) t (binder_term v) e
-binder_atoms (bracketed w b) t v e = cc
+  binder_atoms : (s t : Slot) (v : Option (List ℕ)) → slot_binder s v ≡ Some t → atoms s + 1 ≡ atoms t
+  binder_atoms (due at_front) t v e =
+      let same : bindable v ≡ t = cc in
+      ap atoms same
+  binder_atoms (due (domain w)) t v e = slot_atoms (due (domain w)) t (binder_term v) e
+  binder_atoms (bindable w) t v e = slot_atoms (bindable w) t (binder_term v) e
+  binder_atoms (applied place f n) t v e = slot_atoms (applied place f n) t (binder_term v) e
+  binder_atoms (bracketed w b) t v e = cc
 
--- an atom
-atom_grouped : (o : Option Slot) (fs : Frames) (n : ℕ) (q : TermPart) → Counted fs → ((t : Slot) → o ≡ Some t → n + 1 ≡ atoms t) → in_frames fs o ≡ Some q →
-    IsGrouped (record { inner = record { arrows = (groups_of fs 0 n).inner.arrows; atoms = (groups_of fs 0 n).inner.atoms + 1 }; outer = (groups_of fs 0 n).outer }) q
-atom_grouped None fs n q c h e = cc
-atom_grouped (Some t) fs n q c h e =
-    grouped_at _ (at fs t) q e (record { same = atoms_more fs 0 n ∙ ap (groups_of fs 0) (h t refl); counted = c })
+  -- an atom
+  atom_grouped : (o : Option Slot) (fs : Frames) (n : ℕ) (q : TermPart) → Counted fs → ((t : Slot) → o ≡ Some t → n + 1 ≡ atoms t) → in_frames fs o ≡ Some q →
+      IsGrouped (record { inner = record { arrows = (groups_of fs 0 n).inner.arrows; atoms = (groups_of fs 0 n).inner.atoms + 1 }; outer = (groups_of fs 0 n).outer }) q
+  atom_grouped None fs n q c h e = cc
+  atom_grouped (Some t) fs n q c h e =
+      grouped_at _ (at fs t) q e (record { same = atoms_more fs 0 n ∙ ap (groups_of fs 0) (h t refl); counted = c })
 
--- a frame
-arrow_grouped : (f : Frame) (fs : Frames) (n : ℕ) (q : TermPart) → Counted fs → ((d : ℕ) → groups_of (on d f fs) 0 0 ≡ groups_of fs 1 0) → framed f fs ≡ Some q →
-    IsGrouped (record { inner = record { arrows = (groups_of fs 0 n).inner.arrows + 1; atoms = 0 }; outer = (groups_of fs 0 n).outer }) q
-arrow_grouped f fs n q c h e =
-    grouped_at _ (at (pushed f fs) (due at_front)) q e (record { same = arrows_more fs 0 n ∙ sym (h (depth fs + 1)); counted = (refl, c) })
+  -- a frame
+  arrow_grouped : (f : Frame) (fs : Frames) (n : ℕ) (q : TermPart) → Counted fs → ((d : ℕ) → groups_of (on d f fs) 0 0 ≡ groups_of fs 1 0) → framed f fs ≡ Some q →
+      IsGrouped (record { inner = record { arrows = (groups_of fs 0 n).inner.arrows + 1; atoms = 0 }; outer = (groups_of fs 0 n).outer }) q
+  arrow_grouped f fs n q c h e =
+      grouped_at _ (at (pushed f fs) (due at_front)) q e (record { same = arrows_more fs 0 n ∙ sym (h (depth fs + 1)); counted = (refl, c) })
 
-open_grouped : (b : Bool) (s : Slot) (fs : Frames) (q : TermPart) → Counted fs → next_open b fs s ≡ Some q →
-    IsGrouped (record { inner = empty_group; outer = record { arrows = (groups_of fs 0 (atoms s)).inner.arrows; atoms = (groups_of fs 0 (atoms s)).inner.atoms + 1 } ∷ (groups_of fs 0 (atoms s)).outer }) q
-open_grouped true s fs q c e =
-    grouped_at _ (at (pushed (bracket_frame s) fs) (due at_front)) q e
-    (record { same = ap (λ (gs : Groups). record { inner = empty_group; outer = gs.inner ∷ gs.outer }) (atoms_more fs 0 (atoms s)); counted = (refl, c) })
-open_grouped false s fs q c e = cc
+  open_grouped : (b : Bool) (s : Slot) (fs : Frames) (q : TermPart) → Counted fs → next_open b fs s ≡ Some q →
+      IsGrouped (record { inner = empty_group; outer = record { arrows = (groups_of fs 0 (atoms s)).inner.arrows; atoms = (groups_of fs 0 (atoms s)).inner.atoms + 1 } ∷ (groups_of fs 0 (atoms s)).outer }) q
+  open_grouped true s fs q c e =
+      grouped_at _ (at (pushed (bracket_frame s) fs) (due at_front)) q e
+      (record { same = ap (λ (gs : Groups). record { inner = empty_group; outer = gs.inner ∷ gs.outer }) (atoms_more fs 0 (atoms s)); counted = (refl, c) })
+  open_grouped false s fs q c e = cc
 
--- a bracket that closes
-abbrev out : Groups → Groups
-out gs = closed gs gs.outer
+  -- a bracket that closes
+  abbrev out : Groups → Groups
+  out gs = closed gs gs.outer
 
-bracket_grouped : (o : Option Slot) (s : Slot) (fs : Frames) (k n : ℕ) (d : ℕ) (q : TermPart) → Counted fs → ((t : Slot) → o ≡ Some t → atoms s + 1 ≡ atoms t) → in_frames fs o ≡ Some q → IsGrouped (out (groups_of (on d (bracket_frame s) fs) k n)) q
-bracket_grouped None s fs k n d q c h e = cc
-bracket_grouped (Some t) s fs k n d q c h e =
-    grouped_at _ (at fs t) q e (record { same = ap (groups_of fs 0) (h t refl); counted = c })
+  bracket_grouped : (o : Option Slot) (s : Slot) (fs : Frames) (k n : ℕ) (d : ℕ) (q : TermPart) → Counted fs → ((t : Slot) → o ≡ Some t → atoms s + 1 ≡ atoms t) → in_frames fs o ≡ Some q → IsGrouped (out (groups_of (on d (bracket_frame s) fs) k n)) q
+  bracket_grouped None s fs k n d q c h e = cc
+  bracket_grouped (Some t) s fs k n d q c h e =
+      grouped_at _ (at fs t) q e (record { same = ap (groups_of fs 0) (h t refl); counted = c })
 
-unwound_grouped : (fs : Frames) (a : Written) (k n : ℕ) (q : TermPart) → Counted fs → unwound fs a ≡ Some q → IsGrouped (out (groups_of fs k n)) q
-unwound_grouped bottom a k n q c e = cc
-unwound_grouped (on d (bracket_frame s) fs) a k n q c e = bracket_grouped (slot_more s a) s fs k n d q c.1 (λ t h. slot_atoms s t a h) e
-unwound_grouped (on d (arrow_frame b) fs) a k n q c e = unwound_grouped fs (written_arrow b a) (k + 1) n q c.1 e
-unwound_grouped (on d (product_frame v b) fs) a k n q c e = unwound_grouped fs (written_product v b a) (k + 1) n q c.1 e
-unwound_grouped (on d (annotated_frame v b) fs) a k n q c e = unwound_grouped fs (written_annotated v b a) (k + 1) n q c.1 e
+  unwound_grouped : (fs : Frames) (a : Written) (k n : ℕ) (q : TermPart) → Counted fs → unwound fs a ≡ Some q → IsGrouped (out (groups_of fs k n)) q
+  unwound_grouped (bottom level) a k n q c e = cc
+  unwound_grouped (on d (bracket_frame s) fs) a k n q c e = bracket_grouped (slot_more s a) s fs k n d q c.1 (λ t h. slot_atoms s t a h) e
+  unwound_grouped (on d (arrow_frame b) fs) a k n q c e = unwound_grouped fs (written_arrow b a) (k + 1) n q c.1 e
+  unwound_grouped (on d (product_frame v b) fs) a k n q c e = unwound_grouped fs (written_product v b a) (k + 1) n q c.1 e
+  unwound_grouped (on d (bare_frame v) fs) a k n q c e = unwound_grouped fs (written_bare v a) (k + 1) n q c.1 e
+  unwound_grouped (on d (annotated_frame v b) fs) a k n q c e = unwound_grouped fs (written_annotated v b a) (k + 1) n q c.1 e
 
-closed_grouped : (o : Option Written) (fs : Frames) (n : ℕ) (q : TermPart) → Counted fs → next_close_term fs o ≡ Some q → IsGrouped (out (groups_of fs 0 n)) q
-closed_grouped None fs n q c e = cc
-closed_grouped (Some a) fs n q c e = unwound_grouped fs a 0 n q c e
+  closed_grouped : (o : Option Written) (fs : Frames) (n : ℕ) (q : TermPart) → Counted fs → next_close_term fs o ≡ Some q → IsGrouped (out (groups_of fs 0 n)) q
+  closed_grouped None fs n q c e = cc
+  closed_grouped (Some a) fs n q c e = unwound_grouped fs a 0 n q c e
 
-domain_grouped : (fs : Frames) (v : Option (List ℕ)) (a : Written) (n : ℕ) (q : TermPart) → Counted fs → next_close_domain fs v a ≡ Some q → IsGrouped (out (groups_of fs 0 n)) q
-domain_grouped (on d (bracket_frame (due at_front)) fs) v a n q c e =
-    grouped_at _ (at fs (bracketed v a)) q e (record { same = refl; counted = c.1 })
-domain_grouped fs v a n q c e = cc
+  domain_grouped : (fs : Frames) (v : Option (List ℕ)) (a : Written) (n : ℕ) (q : TermPart) → Counted fs → next_close_domain fs v a ≡ Some q → IsGrouped (out (groups_of fs 0 n)) q
+  domain_grouped (on d (bracket_frame (due at_front)) fs) v a n q c e =
+      grouped_at _ (at fs (bracketed v a)) q e (record { same = refl; counted = c.1 })
+  domain_grouped fs v a n q c e = cc
 
-close_grouped : (s : Slot) (fs : Frames) (q : TermPart) → Counted fs → next_close fs s ≡ Some q → IsGrouped (out (groups_of fs 0 (atoms s))) q
-close_grouped (applied (domain v) a n) fs q c e = domain_grouped fs v a n q c e
-close_grouped (applied at_front a n) fs q c e = closed_grouped (Some a) fs n q c e
-close_grouped (bindable v) fs q c e = closed_grouped (Some (binder_term v)) fs 1 q c e
-close_grouped (due place) fs q c e = cc
-close_grouped (bracketed v a) fs q c e = cc
+  close_grouped : (s : Slot) (fs : Frames) (q : TermPart) → Counted fs → next_close fs s ≡ Some q → IsGrouped (out (groups_of fs 0 (atoms s))) q
+  close_grouped (applied (domain v) a n) fs q c e = domain_grouped fs v a n q c e
+  close_grouped (applied at_front a n) fs q c e = closed_grouped (Some a) fs n q c e
+  close_grouped (bindable v) fs q c e = closed_grouped (Some (binder_term v)) fs 1 q c e
+  close_grouped (due place) fs q c e = cc
+  close_grouped (bracketed v a) fs q c e = cc
 
-colon_grouped : (s : Slot) (fs : Frames) (q : TermPart) → Counted fs → next_colon fs s ≡ Some q →
-    IsGrouped (record { inner = record { arrows = (groups_of fs 0 (atoms s)).inner.arrows; atoms = 0 }; outer = (groups_of fs 0 (atoms s)).outer }) q
-colon_grouped (bindable v) fs q c e = grouped_at _ (at fs (due (domain v))) q e (record { same = atoms_over fs 0 1; counted = c })
-colon_grouped s fs q c e = cc
+  colon_grouped : (s : Slot) (fs : Frames) (q : TermPart) → Counted fs → next_colon fs s ≡ Some q →
+      IsGrouped (record { inner = record { arrows = (groups_of fs 0 (atoms s)).inner.arrows; atoms = 0 }; outer = (groups_of fs 0 (atoms s)).outer }) q
+  colon_grouped (bindable v) fs q c e = grouped_at _ (at fs (due (domain v))) q e (record { same = atoms_over fs 0 1; counted = c })
+  colon_grouped s fs q c e = cc
 
-next_arrow_grouped : (s : Slot) (fs : Frames) (q : TermPart) → Counted fs → next_arrow fs s ≡ Some q →
-    IsGrouped (record { inner = record { arrows = (groups_of fs 0 (atoms s)).inner.arrows + 1; atoms = 0 }; outer = (groups_of fs 0 (atoms s)).outer }) q
-next_arrow_grouped (due place) fs q c e = cc
-next_arrow_grouped (bindable v) fs q c e = arrow_grouped (arrow_frame (binder_term v)) fs 1 q c (λ d. refl) e
-next_arrow_grouped (applied at_front a n) fs q c e = arrow_grouped (arrow_frame a) fs n q c (λ d. refl) e
-next_arrow_grouped (applied (domain v) a n) fs q c e = arrow_grouped (product_frame v a) fs n q c (λ d. refl) e
-next_arrow_grouped (bracketed v a) fs q c e = arrow_grouped (product_frame v a) fs 1 q c (λ d. refl) e
+  next_arrow_grouped : (s : Slot) (fs : Frames) (q : TermPart) → Counted fs → next_arrow fs s ≡ Some q →
+      IsGrouped (record { inner = record { arrows = (groups_of fs 0 (atoms s)).inner.arrows + 1; atoms = 0 }; outer = (groups_of fs 0 (atoms s)).outer }) q
+  next_arrow_grouped (due place) fs q c e = cc
+  next_arrow_grouped (bindable v) fs q c e = arrow_grouped (arrow_frame (binder_term v)) fs 1 q c (λ d. refl) e
+  next_arrow_grouped (applied at_front a n) fs q c e = arrow_grouped (arrow_frame a) fs n q c (λ d. refl) e
+  next_arrow_grouped (applied (domain v) a n) fs q c e = arrow_grouped (product_frame v a) fs n q c (λ d. refl) e
+  next_arrow_grouped (bracketed v a) fs q c e = arrow_grouped (product_frame v a) fs 1 q c (λ d. refl) e
 
-next_double_grouped : (s : Slot) (fs : Frames) (q : TermPart) → Counted fs → next_double_arrow fs s ≡ Some q →
-    IsGrouped (record { inner = record { arrows = (groups_of fs 0 (atoms s)).inner.arrows + 1; atoms = 0 }; outer = (groups_of fs 0 (atoms s)).outer }) q
-next_double_grouped (applied (domain v) a n) fs q c e = arrow_grouped (annotated_frame v a) fs n q c (λ d. refl) e
-next_double_grouped s fs q c e = cc
+  next_double_grouped : (s : Slot) (fs : Frames) (q : TermPart) → Counted fs → next_double_arrow fs s ≡ Some q →
+      IsGrouped (record { inner = record { arrows = (groups_of fs 0 (atoms s)).inner.arrows + 1; atoms = 0 }; outer = (groups_of fs 0 (atoms s)).outer }) q
+  next_double_grouped (bindable v) fs q c e = arrow_grouped (bare_frame v) fs 1 q c (λ d. refl) e
+  next_double_grouped (applied (domain v) a n) fs q c e = arrow_grouped (annotated_frame v a) fs n q c (λ d. refl) e
+  next_double_grouped s fs q c e = cc
 
--- one terminal more of a term
-term_grouped : (p q : TermPart) (x : Terminal) → Counted p.frames → term_next p x ≡ Some q → IsGrouped (grouped (part_groups p) x) q
-term_grouped p q (terminal.Name n) c e = atom_grouped (slot_binder p.slot (Some n)) p.frames (atoms p.slot) q c (λ t h. binder_atoms p.slot t (Some n) h) e
-term_grouped p q terminal.Wildcard c e = atom_grouped (slot_binder p.slot None) p.frames (atoms p.slot) q c (λ t h. binder_atoms p.slot t None h) e
-term_grouped p q (terminal.Qualified m n) c e = atom_grouped (slot_more p.slot (written_qualified m n)) p.frames (atoms p.slot) q c (λ t h. slot_atoms p.slot t (written_qualified m n) h) e
-term_grouped p q terminal.Star c e = atom_grouped (slot_more p.slot written_star) p.frames (atoms p.slot) q c (λ t h. slot_atoms p.slot t written_star h) e
-term_grouped p q (terminal.Sign sign.OpenBracket) c e = open_grouped (takes_atom p.slot) p.slot p.frames q c e
-term_grouped p q (terminal.Sign sign.CloseBracket) c e = close_grouped p.slot p.frames q c e
-term_grouped p q (terminal.Sign sign.Colon) c e = colon_grouped p.slot p.frames q c e
-term_grouped p q (terminal.Sign sign.Arrow) c e = next_arrow_grouped p.slot p.frames q c e
-term_grouped p q (terminal.Sign sign.DoubleArrow) c e = next_double_grouped p.slot p.frames q c e
-term_grouped p q x c e = cc
+  -- one terminal more of a term
+  term_grouped : (p q : TermPart) (x : Terminal) → Counted p.frames → term_next p x ≡ Some q → IsGrouped (grouped (part_groups p) x) q
+  term_grouped p q (terminal.Name n) c e = atom_grouped (slot_binder p.slot (Some n)) p.frames (atoms p.slot) q c (λ t h. binder_atoms p.slot t (Some n) h) e
+  term_grouped p q terminal.Wildcard c e = atom_grouped (slot_binder p.slot None) p.frames (atoms p.slot) q c (λ t h. binder_atoms p.slot t None h) e
+  term_grouped p q (terminal.Qualified m n) c e = atom_grouped (slot_more p.slot (written_qualified m n)) p.frames (atoms p.slot) q c (λ t h. slot_atoms p.slot t (written_qualified m n) h) e
+  term_grouped p q terminal.Star c e = atom_grouped (slot_more p.slot written_star) p.frames (atoms p.slot) q c (λ t h. slot_atoms p.slot t written_star h) e
+  term_grouped p q (terminal.Sign sign.OpenBracket) c e = open_grouped (takes_atom p.slot) p.slot p.frames q c e
+  term_grouped p q (terminal.Sign sign.CloseBracket) c e = close_grouped p.slot p.frames q c e
+  term_grouped p q (terminal.Sign sign.Colon) c e = colon_grouped p.slot p.frames q c e
+  term_grouped p q (terminal.Sign sign.Arrow) c e = next_arrow_grouped p.slot p.frames q c e
+  term_grouped p q (terminal.Sign sign.DoubleArrow) c e = next_double_grouped p.slot p.frames q c e
+  term_grouped p q x c e = cc
 
--- the groups of a part of a command
-abbrev PartGroups : Groups → Part → Type 0
-PartGroups gs (in_type s n p) = IsGrouped gs p
-PartGroups gs (in_body n a p) = IsGrouped gs p
-PartGroups gs (colon_due s n) = gs ≡ record { inner = record { arrows = 0; atoms = 1 }; outer = [] }
-PartGroups gs name_due = gs ≡ no_groups
-PartGroups gs command_due = gs ≡ no_groups
+abbrev standing_in : ℕ → Side → Groups → Standing
+standing_in params side gs = record { params = params; side = side; groups = gs }
 
--- the load of a terminal behind these groups
-abbrev load_in : Groups → Terminal → ℕ
-load_in gs x = max (level_of (grouped gs x)) (argument_in gs x)
+-- the parameters that have closed, the side and the groups around a term
+abbrev params_of : Purpose → ℕ
+params_of (as_param h v) = level_behind h
+params_of (as_type h) = level_behind h
+params_of (as_body h typ) = level_behind h
+
+abbrev side_of : Purpose → Side
+side_of (as_param h v) = in_head
+side_of (as_type h) = behind_head
+side_of (as_body h typ) = behind_head
+
+abbrev name_group : ℕ → Group
+name_group n = record { arrows = 0; atoms = n + 1 }
+
+abbrev param_group : ℕ → List Group
+param_group n = record { arrows = 0; atoms = (n + 1) + 1 } ∷ []
+
+abbrev under_of : Purpose → List Group
+under_of (as_param h v) = param_group (level_behind h)
+under_of (as_type h) = []
+under_of (as_body h typ) = []
+
+abbrev term_groups : Purpose → TermPart → Groups
+term_groups purpose p = part_groups (params_of purpose) (under_of purpose) p
+
+abbrev CountedIn : Purpose → Frames → Type 0
+CountedIn purpose fs = Counted (params_of purpose) (under_of purpose) fs
+
+-- this is where a part of a command stands
+abbrev StandsAt : Standing → Part → Type 0
+StandsAt st command_due = st ≡ at_start
+StandsAt st (name_due s) = st ≡ at_start
+StandsAt st (head_due h) = st ≡ standing_in (level_behind h) in_head (record { inner = name_group (level_behind h); outer = [] })
+StandsAt st (binder_due h) = st ≡ standing_in (level_behind h) in_head (record { inner = empty_group; outer = param_group (level_behind h) })
+StandsAt st (binder_colon_due h v) = st ≡ standing_in (level_behind h) in_head (record { inner = record { arrows = 0; atoms = 1 }; outer = param_group (level_behind h) })
+StandsAt st (in_term purpose p) = (st ≡ standing_in (params_of purpose) (side_of purpose) (term_groups purpose p)) × CountedIn purpose p.frames
+
+-- the load of a terminal that stands behind this
+abbrev load_in : Standing → Terminal → ℕ
+load_in st x = max (level_of (stands st x)) (argument_in st x)
 
 -- what a step leaves, and the load of its terminal
-record Stepped (gs : Groups) (x : Terminal) (made : ℕ) (q : Part) : Type 0 where
-  pub next : PartGroups (grouped gs x) q
-  pub load_is : load_in gs x ≡ made
+abbrev Stepped : Standing → Terminal → PartStep → Type 0
+Stepped st x (goes made q) = StandsAt (stands st x) q × (load_in st x ≡ made)
+Stepped st x (ends form) = x ≡ dot
+Stepped st x refuses = Unit {0}
 
-stepped_at : (gs : Groups) (x : Terminal) (m n : ℕ) (p q : Part) → goes m p ≡ goes n q → Stepped gs x m p → Stepped gs x n q
-stepped_at gs x m n p q e h =
-    let parts : p ≡ q = cc in
-    let loads : m ≡ n = cc in
-    subst (λ q. Stepped gs x n q) parts (subst (λ n. Stepped gs x n p) loads h)
+stepped_from : (st at_it : Standing) (x : Terminal) (s : PartStep) → st ≡ at_it → Stepped at_it x s → Stepped st x s
+stepped_from st at_it x s e h = subst (λ (st : Standing). Stepped st x s) (sym e) h
 
-from_no_groups : (gs : Groups) (x : Terminal) (made : ℕ) (q : Part) → gs ≡ no_groups → Stepped no_groups x made q → Stepped gs x made q
-from_no_groups gs x made q e h = subst (λ gs. Stepped gs x made q) (sym e) h
+-- Terms
 
-term_load : (gs : Groups) (p q : TermPart) (x : Terminal) → IsGrouped gs p → IsGrouped (grouped gs x) q → load_in gs x ≡ max (depth q.frames) (term_argument p x)
-term_load gs p q x h k =
-    ap (λ l. max l (argument_in gs x)) (ap level_of k.same ∙ part_depth q k.counted)
-    ∙ ap (max (depth q.frames)) (ap (λ gs. argument_in gs x) h.same ∙ argument_same p x)
+closed_two : (side : Side) (g : Group) (gs : List Group) (m : ℕ) → (gs ≡ [] → ⊥) → params_closed side (g ∷ gs) m ≡ m
+closed_two in_head g [] m h = absurd (h refl)
+closed_two in_head g (f ∷ gs) m h = refl
+closed_two behind_head g gs m h = refl
 
-next_groups : (gs : Groups) (p q : TermPart) (x : Terminal) → IsGrouped gs p → term_next p x ≡ Some q → IsGrouped (grouped gs x) q
-next_groups gs p q x h e = subst (λ gs. IsGrouped (grouped gs x) q) (sym h.same) (term_grouped p q x h.counted e)
+some_under : (params : ℕ) (g : Group) (gs : List Group) (fs : Frames) (k n : ℕ) → (groups_of params (g ∷ gs) fs k n).outer ≡ [] → ⊥
+some_under params g gs (bottom level) k n e = cc
+some_under params g gs (on d (bracket_frame s) fs) k n e = cc
+some_under params g gs (on d (arrow_frame a) fs) k n e = some_under params g gs fs (k + 1) n e
+some_under params g gs (on d (product_frame v a) fs) k n e = some_under params g gs fs (k + 1) n e
+some_under params g gs (on d (bare_frame v) fs) k n e = some_under params g gs fs (k + 1) n e
+some_under params g gs (on d (annotated_frame v a) fs) k n e = some_under params g gs fs (k + 1) n e
 
-type_stepped : (gs : Groups) (s : SymSort) (n : List ℕ) (p : TermPart) (x : Terminal) (o : Option TermPart) (made : ℕ) (q : Part) → IsGrouped gs p → term_next p x ≡ o → type_goes s n (term_argument p x) o ≡ goes made q → Stepped gs x made q
-type_stepped gs s n p x None made q h e r = cc
-type_stepped gs s n p x (Some t) made q h e r =
-    let k = next_groups gs p t x h e in
-    stepped_at gs x _ made (in_type s n t) q r (record { next = k; load_is = term_load gs p t x h k })
+-- a bracket within a parameter closes no parameter
+inner_closed : (params : ℕ) (g : Group) (gs : List Group) (fs : Frames) (k n : ℕ) (side : Side) (m : ℕ) → in_bracket fs ≡ true → params_closed side (groups_of params (g ∷ gs) fs k n).outer m ≡ m
+inner_closed params g gs (bottom level) k n side m e = cc
+inner_closed params g gs (on d (bracket_frame s) fs) k n side m e =
+    closed_two side (groups_of params (g ∷ gs) fs 0 (atoms s + 1)).inner (groups_of params (g ∷ gs) fs 0 (atoms s + 1)).outer m (some_under params g gs fs 0 (atoms s + 1))
+inner_closed params g gs (on d (arrow_frame a) fs) k n side m e = inner_closed params g gs fs (k + 1) n side m e
+inner_closed params g gs (on d (product_frame v a) fs) k n side m e = inner_closed params g gs fs (k + 1) n side m e
+inner_closed params g gs (on d (bare_frame v) fs) k n side m e = inner_closed params g gs fs (k + 1) n side m e
+inner_closed params g gs (on d (annotated_frame v a) fs) k n side m e = inner_closed params g gs fs (k + 1) n side m e
 
-body_stepped : (gs : Groups) (n : List ℕ) (a : Written) (p : TermPart) (x : Terminal) (o : Option TermPart) (made : ℕ) (q : Part) → IsGrouped gs p → term_next p x ≡ o → body_goes n a (term_argument p x) o ≡ goes made q → Stepped gs x made q
-body_stepped gs n a p x None made q h e r = cc
-body_stepped gs n a p x (Some t) made q h e r =
-    let k = next_groups gs p t x h e in
-    stepped_at gs x _ made (in_body n a t) q r (record { next = k; load_is = term_load gs p t x h k })
+colon_in_head : (gs : List Group) → (gs ≡ [] → ⊥) → side_at_colon in_head gs ≡ in_head
+colon_in_head [] h = absurd (h refl)
+colon_in_head (g ∷ gs) h = refl
 
-begun_stepped : (gs : Groups) (n : List ℕ) (o : Option Written) (made : ℕ) (q : Part) → body_begins n o ≡ goes made q → Stepped gs (terminal.Sign sign.Defined) made q
-begun_stepped gs n None made q e = cc
-begun_stepped gs n (Some a) made q e =
-    stepped_at gs (terminal.Sign sign.Defined) 0 made (in_body n a (at bottom (due at_front))) q e (record { next = record { same = refl; counted = tt }; load_is = refl })
+params_stay : (purpose : Purpose) (p : TermPart) → in_bracket p.frames ≡ true → params_closed (side_of purpose) (term_groups purpose p).outer (params_of purpose) ≡ params_of purpose
+params_stay (as_param h v) p e = inner_closed (level_behind h) (record { arrows = 0; atoms = (level_behind h + 1) + 1 }) [] p.frames 0 (atoms p.slot) in_head (level_behind h) e
+params_stay (as_type h) p e = refl
+params_stay (as_body h typ) p e = refl
 
-type_ended : (n : List ℕ) (o : Option Written) (made : ℕ) (q : Part) → type_ends n o ≡ goes made q → ⊥
-type_ended n None made q e = cc
-type_ended n (Some a) made q e = cc
+side_stays : (purpose : Purpose) (p : TermPart) → side_at_colon (side_of purpose) (term_groups purpose p).outer ≡ side_of purpose
+side_stays (as_param h v) p = colon_in_head (term_groups (as_param h v) p).outer (some_under (level_behind h) (record { arrows = 0; atoms = (level_behind h + 1) + 1 }) [] p.frames 0 (atoms p.slot))
+side_stays (as_type h) p = refl
+side_stays (as_body h typ) p = refl
 
-body_ended : (n : List ℕ) (a : Written) (o : Option Written) (made : ℕ) (q : Part) → body_ends n a o ≡ goes made q → ⊥
-body_ended n a None made q e = cc
-body_ended n a (Some b) made q e = cc
+-- a terminal of a term changes its groups alone
+term_stands : (purpose : Purpose) (p q : TermPart) (x : Terminal) → term_next p x ≡ Some q → stands (standing_in (params_of purpose) (side_of purpose) (term_groups purpose p)) x ≡ standing_in (params_of purpose) (side_of purpose) (grouped (term_groups purpose p) x)
+term_stands purpose p q (terminal.Sign sign.CloseBracket) e =
+    ap (λ n. standing_in n (side_of purpose) (grouped (term_groups purpose p) (terminal.Sign sign.CloseBracket))) (params_stay purpose p (next_takes p q (terminal.Sign sign.CloseBracket) e))
+term_stands purpose p q (terminal.Sign sign.Colon) e =
+    ap (λ side. standing_in (params_of purpose) side (grouped (term_groups purpose p) (terminal.Sign sign.Colon))) (side_stays purpose p)
+term_stands purpose p q (terminal.Sign sign.Defined) e = cc
+term_stands purpose p q (terminal.Sign sign.Dot) e = cc
+term_stands purpose p q x e = refl
+
+argument_same : (purpose : Purpose) (p : TermPart) (x : Terminal) → argument_in (standing_in (params_of purpose) (side_of purpose) (term_groups purpose p)) x ≡ term_argument p x
+argument_same purpose p (terminal.Name n) = inner_atoms (params_of purpose) (under_of purpose) p.frames 0 (atoms p.slot)
+argument_same purpose p (terminal.Qualified m n) = inner_atoms (params_of purpose) (under_of purpose) p.frames 0 (atoms p.slot)
+argument_same purpose p terminal.Star = inner_atoms (params_of purpose) (under_of purpose) p.frames 0 (atoms p.slot)
+argument_same purpose p terminal.Wildcard = inner_atoms (params_of purpose) (under_of purpose) p.frames 0 (atoms p.slot)
+argument_same purpose p (terminal.Sign sign.OpenBracket) = inner_atoms (params_of purpose) (under_of purpose) p.frames 0 (atoms p.slot)
+argument_same purpose p x = refl
+
+term_stepped : (o : Option TermPart) (purpose : Purpose) (p : TermPart) (x : Terminal) → CountedIn purpose p.frames → term_next p x ≡ o → Stepped (standing_in (params_of purpose) (side_of purpose) (term_groups purpose p)) x (term_goes purpose (term_argument p x) o)
+term_stepped None purpose p x c e = tt
+term_stepped (Some q) purpose p x c e =
+    let k = term_grouped (params_of purpose) (under_of purpose) p q x c e in
+    let s = term_stands purpose p q x e ∙ ap (standing_in (params_of purpose) (side_of purpose)) k.same in
+    ((s, k.counted), ap (λ l. max l (argument_in (standing_in (params_of purpose) (side_of purpose) (term_groups purpose p)) x)) (ap level_of s ∙ part_depth (params_of purpose) (under_of purpose) q k.counted) ∙ ap (max (depth q.frames)) (argument_same purpose p x))
+
+-- Steps of a command
+
+max_same : (n : ℕ) → max n n ≡ n
+max_same n = grind (arith, nat_tests)
+
+max_none : (n : ℕ) → max n 0 ≡ n
+max_none n = grind (arith, nat_tests)
+
+max_first : (n : ℕ) → max (n + 1) 1 ≡ n + 1
+max_first n = grind (arith, nat_tests)
+
+nothing_behind : (n : ℕ) → n ≡ n + 0
+nothing_behind n = omega arith
+
+max_level : (n : ℕ) → max (n + 0) 0 ≡ n
+max_level n = grind (arith, nat_tests)
+
+body_stepped : (h : Head) (typ : Option Written) (gs : Groups) (side : Side) → Stepped (standing_in (level_behind h) side gs) (terminal.Sign sign.Defined) (body_due h typ)
+body_stepped h typ gs side = ((refl, nothing_behind (level_behind h)), max_level (level_behind h))
+
+body_behind_type_stepped : (s : SymSort) (h : Head) (a : Written) (gs : Groups) → Stepped (standing_in (level_behind h) behind_head gs) (terminal.Sign sign.Defined) (body_behind_type s h a)
+body_behind_type_stepped Static h a gs = tt
+body_behind_type_stepped s h a gs = body_stepped h (Some a) gs behind_head
+
+body_behind_head_stepped : (s : SymSort) (h : Head) (gs : Groups) → Stepped (standing_in (level_behind h) in_head gs) (terminal.Sign sign.Defined) (body_behind_head s h)
+body_behind_head_stepped Definable h gs = body_stepped h None gs in_head
+body_behind_head_stepped s h gs = tt
+
+dot_stepped : (s : SymSort) (h : Head) (a : Written) (st : Standing) → Stepped st (terminal.Sign sign.Dot) (dot_behind_type s h a)
+dot_stepped Theorem h a st = tt
+dot_stepped s h a st = refl
+
+suc_more : (m n : ℕ) → m ≡ n + 1 → suc m ≡ suc n + 1
+suc_more m n h = omega arith
+
+one_more : (ps : List WrittenParam) (p : WrittenParam) → length (ps ++ p ∷ []) ≡ length ps + 1
+one_more [] p = refl
+one_more (q ∷ ps) p =
+    let h = one_more ps p in
+    suc_more (length (ps ++ p ∷ [])) (length ps) h
+
+-- outside of its brackets, a term's groups are those around it
+outer_under : (params : ℕ) (under : List Group) (fs : Frames) (k n : ℕ) → in_bracket fs ≡ false → (groups_of params under fs k n).outer ≡ under
+outer_under params under (bottom level) k n e = refl
+outer_under params under (on d (bracket_frame s) fs) k n e = cc
+outer_under params under (on d (arrow_frame a) fs) k n e = outer_under params under fs (k + 1) n e
+outer_under params under (on d (product_frame v a) fs) k n e = outer_under params under fs (k + 1) n e
+outer_under params under (on d (bare_frame v) fs) k n e = outer_under params under fs (k + 1) n e
+outer_under params under (on d (annotated_frame v a) fs) k n e = outer_under params under fs (k + 1) n e
+
+abbrev head_standing : ℕ → Standing
+head_standing n = standing_in n in_head (record { inner = name_group n; outer = [] })
+
+param_stands : (n : ℕ) (gs : Groups) → gs.outer ≡ param_group n → stands (standing_in n in_head gs) (terminal.Sign sign.CloseBracket) ≡ head_standing (n + 1)
+param_stands n gs e = ap (λ outer. standing_in (params_closed in_head outer n) in_head (closed gs outer)) e
+
+param_stepped : (h : Head) (v : Option (List ℕ)) (a : Written) (gs : Groups) → gs.outer ≡ param_group (level_behind h) → Stepped (standing_in (level_behind h) in_head gs) (terminal.Sign sign.CloseBracket) (goes (level_behind h + 1) (head_due (with_param h v a)))
+param_stepped h v a gs e =
+    let s = param_stands (level_behind h) gs e in
+    (s ∙ ap head_standing (sym (one_more h.params (param v a))), ap (λ (st : Standing). max (level_of st) 0) s ∙ max_level (level_behind h + 1))
+
+behind_stepped : (purpose : Purpose) (p : TermPart) (a : Written) (x : Terminal) → takes p x ≡ false → Stepped (standing_in (params_of purpose) (side_of purpose) (term_groups purpose p)) x (behind_term purpose a x)
+behind_stepped (as_param h v) p a (terminal.Sign sign.CloseBracket) e =
+    param_stepped h v a (term_groups (as_param h v) p) (outer_under (level_behind h) (param_group (level_behind h)) p.frames 0 (atoms p.slot) e)
+behind_stepped (as_type h) p a (terminal.Sign sign.Dot) e = dot_stepped h.sort h a (standing_in (level_behind h) behind_head (term_groups (as_type h) p))
+behind_stepped (as_type h) p a (terminal.Sign sign.Defined) e = body_behind_type_stepped h.sort h a (term_groups (as_type h) p)
+behind_stepped (as_body h typ) p b (terminal.Sign sign.Dot) e = refl
+behind_stepped purpose p a x e = tt
+
+ends_stepped : (o : Option Written) (purpose : Purpose) (p : TermPart) (x : Terminal) → takes p x ≡ false → Stepped (standing_in (params_of purpose) (side_of purpose) (term_groups purpose p)) x (term_ends purpose x o)
+ends_stepped None purpose p x e = tt
+ends_stepped (Some a) purpose p x e = behind_stepped purpose p a x e
+
+in_term_stepped : (b : Bool) (purpose : Purpose) (p : TermPart) (x : Terminal) → CountedIn purpose p.frames → takes p x ≡ b → Stepped (standing_in (params_of purpose) (side_of purpose) (term_groups purpose p)) x (in_term_next b purpose p x)
+in_term_stepped true purpose p x c e = term_stepped (term_next p x) purpose p x c refl
+in_term_stepped false purpose p x c e = ends_stepped (term_done p) purpose p x e
+
+head_stepped : (h : Head) (x : Terminal) → Stepped (head_standing (level_behind h)) x (head_next h x)
+head_stepped h (terminal.Sign sign.OpenBracket) = (refl, max_same (level_behind h + 1))
+head_stepped h (terminal.Sign sign.Colon) = ((refl, nothing_behind (level_behind h)), max_level (level_behind h))
+head_stepped h (terminal.Sign sign.Defined) = body_behind_head_stepped h.sort h (record { inner = name_group (level_behind h); outer = [] })
+head_stepped h x = tt
 
 -- one terminal more of a command
-part_stepped : (gs : Groups) (p q : Part) (made : ℕ) (x : Terminal) → PartGroups gs p → part_next p x ≡ goes made q → Stepped gs x made q
-part_stepped gs command_due q made (terminal.Name n) h e = stepped_at gs (terminal.Name n) 0 made (colon_due Static n) q e (from_no_groups gs (terminal.Name n) 0 (colon_due Static n) h (record { next = refl; load_is = refl }))
-part_stepped gs command_due q made terminal.Thm h e = stepped_at gs terminal.Thm 0 made name_due q e (from_no_groups gs terminal.Thm 0 name_due h (record { next = refl; load_is = refl }))
-part_stepped gs command_due q made x h e = cc
-part_stepped gs name_due q made (terminal.Name n) h e = stepped_at gs (terminal.Name n) 0 made (colon_due Theorem n) q e (from_no_groups gs (terminal.Name n) 0 (colon_due Theorem n) h (record { next = refl; load_is = refl }))
-part_stepped gs name_due q made x h e = cc
-part_stepped gs (colon_due s n) q made (terminal.Sign sign.Colon) h e =
-    stepped_at gs (terminal.Sign sign.Colon) 0 made (in_type s n (at bottom (due at_front))) q e
-    (subst (λ gs. Stepped gs (terminal.Sign sign.Colon) 0 (in_type s n (at bottom (due at_front)))) (sym h) (record { next = record { same = refl; counted = tt }; load_is = refl }))
-part_stepped gs (colon_due s n) q made x h e = cc
-part_stepped gs (in_type Static n p) q made (terminal.Sign sign.Dot) h e = absurd (type_ended n (term_done p) made q e)
-part_stepped gs (in_type Theorem n p) q made (terminal.Sign sign.Defined) h e = begun_stepped gs n (term_done p) made q e
-part_stepped gs (in_type s n p) q made x h e = type_stepped gs s n p x (term_next p x) made q h refl e
-part_stepped gs (in_body n a p) q made (terminal.Sign sign.Dot) h e = absurd (body_ended n a (term_done p) made q e)
-part_stepped gs (in_body n a p) q made x h e = body_stepped gs n a p x (term_next p x) made q h refl e
+part_stepped : (st : Standing) (p : Part) (x : Terminal) → StandsAt st p → Stepped st x (part_next p x)
+part_stepped st command_due (terminal.Name n) e = stepped_from st at_start (terminal.Name n) (part_next command_due (terminal.Name n)) e (refl, refl)
+part_stepped st command_due terminal.Def e = stepped_from st at_start terminal.Def (part_next command_due terminal.Def) e (refl, refl)
+part_stepped st command_due terminal.Thm e = stepped_from st at_start terminal.Thm (part_next command_due terminal.Thm) e (refl, refl)
+part_stepped st command_due x e = tt
+part_stepped st (name_due s) (terminal.Name n) e = stepped_from st at_start (terminal.Name n) (part_next (name_due s) (terminal.Name n)) e (refl, refl)
+part_stepped st (name_due s) x e = tt
+part_stepped st (head_due h) x e = stepped_from st (head_standing (level_behind h)) x (head_next h x) e (head_stepped h x)
+part_stepped st (binder_due h) (terminal.Name n) e =
+    stepped_from st (standing_in (level_behind h) in_head (record { inner = empty_group; outer = param_group (level_behind h) })) (terminal.Name n) (part_next (binder_due h) (terminal.Name n)) e (refl, max_none (level_behind h + 1))
+part_stepped st (binder_due h) terminal.Wildcard e =
+    stepped_from st (standing_in (level_behind h) in_head (record { inner = empty_group; outer = param_group (level_behind h) })) terminal.Wildcard (part_next (binder_due h) terminal.Wildcard) e (refl, max_none (level_behind h + 1))
+part_stepped st (binder_due h) x e = tt
+part_stepped st (binder_colon_due h v) (terminal.Sign sign.Colon) e =
+    stepped_from st (standing_in (level_behind h) in_head (record { inner = record { arrows = 0; atoms = 1 }; outer = param_group (level_behind h) })) (terminal.Sign sign.Colon) (part_next (binder_colon_due h v) (terminal.Sign sign.Colon)) e ((refl, refl), max_none (level_behind h + 1))
+part_stepped st (binder_colon_due h v) x e = tt
+part_stepped st (in_term purpose p) x h =
+    stepped_from st (standing_in (params_of purpose) (side_of purpose) (term_groups purpose p)) x (in_term_next (takes p x) purpose p x) h.0 (in_term_stepped (takes p x) purpose p x h.1 refl)
 
-groups_from_more : (gs : Groups) (xs : List Terminal) (x : Terminal) → groups_from gs (xs ++ x ∷ []) ≡ grouped (groups_from gs xs) x
-groups_from_more gs [] x = refl
-groups_from_more gs (y ∷ xs) x = groups_from_more (grouped gs y) xs x
+standing_more : (st : Standing) (xs : List Terminal) (x : Terminal) → standing_from st (xs ++ x ∷ []) ≡ stands (standing_from st xs) x
+standing_more st [] x = refl
+standing_more st (y ∷ xs) x = standing_more (stands st y) xs x
 
-keeps_groups : (xs : List Terminal) (p q : Part) (made : ℕ) (x : Terminal) → PartGroups (groups xs) p → part_next p x ≡ goes made q → PartGroups (groups (xs ++ x ∷ [])) q
-keeps_groups xs p q made x h e =
-    subst (λ gs. PartGroups gs q) (sym (groups_from_more no_groups xs x)) (part_stepped (groups xs) p q made x h e).next
+keeps_standing : (xs : List Terminal) (p q : Part) (made : ℕ) (x : Terminal) → StandsAt (standing xs) p → part_next p x ≡ goes made q → StandsAt (standing (xs ++ x ∷ [])) q
+keeps_standing xs p q made x h e =
+    let s : Stepped (standing xs) x (goes made q) = subst (Stepped (standing xs) x) e (part_stepped (standing xs) p x h) in
+    subst (λ st. StandsAt st q) (sym (standing_more at_start xs x)) s.0
+
+stands_at : (xs : List Terminal) (p : Part) → run command_due xs ≡ going p → StandsAt (standing xs) p
+stands_at xs p is = follow (λ xs p. StandsAt (standing xs) p) keeps_standing refl xs p is
 
 -- the load of a terminal is the one that the step gives
 pub loaded : (xs : List Terminal) (p q : Part) (made : ℕ) (x : Terminal) → run command_due xs ≡ going p → part_next p x ≡ goes made q → load xs x ≡ made
 loaded xs p q made x is e =
-    (part_stepped (groups xs) p q made x (follow (λ xs p. PartGroups (groups xs) p) keeps_groups refl xs p is) e).load_is
+    let s : Stepped (standing xs) x (goes made q) = subst (Stepped (standing xs) x) e (part_stepped (standing xs) p x (stands_at xs p is)) in
+    s.1
 
 -- what ends a command has no load
-pub end_load : (xs : List Terminal) (p : Part) (x : Terminal) (form : WrittenForm) → part_next p x ≡ ends form → load xs x ≡ 0
-end_load xs command_due (terminal.Name n) form e = cc
-end_load xs command_due terminal.Thm form e = cc
-end_load xs command_due x form e = cc
-end_load xs name_due (terminal.Name n) form e = cc
-end_load xs name_due x form e = cc
-end_load xs (colon_due s n) (terminal.Sign sign.Colon) form e = cc
-end_load xs (colon_due s n) x form e = cc
-end_load xs (in_type Static n p) (terminal.Sign sign.Dot) form e = refl
-end_load xs (in_type Theorem n p) (terminal.Sign sign.Defined) form e = absurd (begins_no_end n (term_done p) form e)
-end_load xs (in_type s n p) x form e = absurd (goes_no_end (term_next p x) (term_argument p x) s n form e)
-end_load xs (in_body n a p) (terminal.Sign sign.Dot) form e = refl
-end_load xs (in_body n a p) x form e = absurd (body_no_end (term_next p x) (term_argument p x) n a form e)
+pub end_load : (xs : List Terminal) (p : Part) (x : Terminal) (form : WrittenForm) → run command_due xs ≡ going p → part_next p x ≡ ends form → load xs x ≡ 0
+end_load xs p x form is e =
+    let s : Stepped (standing xs) x (ends form) = subst (Stepped (standing xs) x) e (part_stepped (standing xs) p x (stands_at xs p is)) in
+    ap (load xs) s
+
+profile_behind : (purpose : Purpose) (o : Option Written) → term_ends purpose terminal.Profile o ≡ refuses
+profile_behind purpose None = refl
+profile_behind (as_param h v) (Some a) = refl
+profile_behind (as_type h) (Some a) = refl
+profile_behind (as_body h typ) (Some a) = refl
 
 -- a word outside the profile is no part of a command
 pub profile_refused : (p : Part) → part_next p terminal.Profile ≡ refuses
 profile_refused command_due = refl
-profile_refused name_due = refl
-profile_refused (colon_due s n) = refl
-profile_refused (in_type Static n p) = refl
-profile_refused (in_type Definable n p) = refl
-profile_refused (in_type Theorem n p) = refl
-profile_refused (in_body n a p) = refl
+profile_refused (name_due s) = refl
+profile_refused (head_due h) = refl
+profile_refused (binder_due h) = refl
+profile_refused (binder_colon_due h v) = refl
+profile_refused (in_term purpose p) = profile_behind purpose (term_done p)

@@ -1,159 +1,330 @@
--- The terminals that lead to a part of a command.
-use Rattle.std.proofs.Common.{◌≡◌, ℕ, List, [], ◌∷◌, ◌++◌, refl, sym, ap, ◌∙◌, subst, append_assoc}
+-- The terminals that lead to a part of a command, and what may stand behind them.
+use Rattle.std.proofs.Common.{◌≡◌, ℕ, ◌+◌, Bool, true, false, List, [], ◌∷◌, ◌++◌, refl, sym, ap, ◌∙◌, subst, append_assoc}
 use Rattle.std.specs.Prelude.{Option, Some, None}
 use Rattle.dk_model.specs.declared.signature.SymSort.{SymSort}
-use Rattle.dk_model.specs.declared.signature.SymSort.TheVariants.{Static, Theorem}
+use Rattle.dk_model.specs.declared.signature.SymSort.TheVariants.{Static, Definable, Theorem}
 use Rattle.dk_lexer.specs.declared.token.Sign.TheVariants as sign
 use Rattle.dk_parser.specs.declared.terminal.Terminal.{Terminal}
 use Rattle.dk_parser.specs.declared.terminal.Terminal.TheVariants as terminal
-use Rattle.dk_parser.specs.Written.{Written, written_star, WrittenForm, written_declare}
-use Rattle.dk_parser.specs.Grammar.{colon, defined, dot, SpellsTerm, SpellsForm, spells_star, spells_head, spells_application, spells_declaration, spells_theorem, IsBegun}
-use Rattle.dk_parser.specs.Parsing.{TermPart, term_next, term_argument, term_done, Part, command_due, name_due, colon_due, in_type, in_body, goes, ends, type_goes, type_ends, body_begins, body_goes, body_ends, part_next}
+use Rattle.dk_parser.specs.Written.{Written, written_star, WrittenParam, WrittenForm, written_declare}
+use Rattle.dk_parser.specs.Grammar.{colon, defined, dot, open_bracket, close_bracket, param, SpellsBinder, spells_binder, spells_no_binder, SpellsTerm, SpellsParams, spells_no_params, spells_params, SpellsForm, spells_star, spells_head, spells_application, spells_static, spells_definable, spells_definition, spells_typed_definition, spells_theorem, IsBegun}
+use Rattle.dk_parser.specs.Parsing.{TermPart, term_due, term_next, term_argument, term_done, takes, Head, level_behind, with_param, Purpose, as_param, as_type, as_body, Part, command_due, name_due, head_due, binder_due, binder_colon_due, in_term, PartStep, goes, ends, refuses, body_due, term_goes, term_ends, in_term_next, behind_term, dot_behind_type, body_behind_type, body_behind_head, head_next, part_next}
 use Rattle.dk_parser.proofs.Machine.{going, run, follow}
 use Rattle.dk_parser.proofs.Language.{ReachedTerm, nothing_reached, term_reached, term_sound, term_begun}
 
-pub data Reached : List Terminal → Part → Type 0 where
-  reached_nothing : Reached [] command_due
-  reached_theorem : Reached (terminal.Thm ∷ []) name_due
-  reached_name : {n : List ℕ} → Reached (terminal.Name n ∷ []) (colon_due Static n)
-  reached_theorem_name : {n : List ℕ} → Reached (terminal.Thm ∷ terminal.Name n ∷ []) (colon_due Theorem n)
-  reached_type : {n : List ℕ} {ys : List Terminal} {p : TermPart} → ReachedTerm ys p → Reached (terminal.Name n ∷ colon ∷ ys) (in_type Static n p)
-  reached_theorem_type : {n : List ℕ} {ys : List Terminal} {p : TermPart} → ReachedTerm ys p → Reached (terminal.Thm ∷ terminal.Name n ∷ colon ∷ ys) (in_type Theorem n p)
-  reached_body : {n : List ℕ} {ts ys : List Terminal} {a : Written} {p : TermPart} → SpellsTerm ts a → ReachedTerm ys p → Reached (terminal.Thm ∷ terminal.Name n ∷ colon ∷ (ts ++ defined ∷ ys)) (in_body n a p)
+append_nil : (xs : List Terminal) → xs ++ [] ≡ xs
+append_nil [] = refl
+append_nil (x ∷ xs) = ap (λ ys. x ∷ ys) (append_nil xs)
 
--- the next part is this one
-to_part : {xs : List Terminal} {p q : Part} (m n : ℕ) → goes m p ≡ goes n q → Reached xs p → Reached xs q
-to_part {xs} {p} {q} m n e h =
-    let same : p ≡ q = cc in
-    subst (Reached xs) same h
+-- What may stand behind a part
 
-type_reached : (n : List ℕ) (ys : List Terminal) (p : TermPart) (x : Terminal) (o : Option TermPart) (made : ℕ) (q : Part) → ReachedTerm ys p → term_next p x ≡ o → type_goes Static n (term_argument p x) o ≡ goes made q → Reached (terminal.Name n ∷ colon ∷ (ys ++ x ∷ [])) q
-type_reached n ys p x None made q h e s = cc
-type_reached n ys p x (Some r) made q h e s = to_part _ _ s (reached_type (term_reached ys p x r h e))
+-- behind the type of a declaration
+pub data TypeRest : SymSort → List ℕ → List WrittenParam → Written → List Terminal → WrittenForm → Type 0 where
+  static_alone : {n : List ℕ} {ps : List WrittenParam} {a : Written} → TypeRest Static n ps a (dot ∷ []) (written_declare Static n ps (Some a) None)
+  definable_alone : {n : List ℕ} {ps : List WrittenParam} {a : Written} → TypeRest Definable n ps a (dot ∷ []) (written_declare Definable n ps (Some a) None)
+  definable_body : {n : List ℕ} {ps : List WrittenParam} {a b : Written} {ys : List Terminal} → SpellsTerm ys b → TypeRest Definable n ps a (defined ∷ (ys ++ dot ∷ [])) (written_declare Definable n ps (Some a) (Some b))
+  theorem_body : {n : List ℕ} {ps : List WrittenParam} {a b : Written} {ys : List Terminal} → SpellsTerm ys b → TypeRest Theorem n ps a (defined ∷ (ys ++ dot ∷ [])) (written_declare Theorem n ps (Some a) (Some b))
 
-theorem_reached : (n : List ℕ) (ys : List Terminal) (p : TermPart) (x : Terminal) (o : Option TermPart) (made : ℕ) (q : Part) → ReachedTerm ys p → term_next p x ≡ o → type_goes Theorem n (term_argument p x) o ≡ goes made q → Reached (terminal.Thm ∷ terminal.Name n ∷ colon ∷ (ys ++ x ∷ [])) q
-theorem_reached n ys p x None made q h e s = cc
-theorem_reached n ys p x (Some r) made q h e s = to_part _ _ s (reached_theorem_type (term_reached ys p x r h e))
+-- behind the name and these parameters
+pub data HeadRest : SymSort → List ℕ → List WrittenParam → List Terminal → WrittenForm → Type 0 where
+  head_type : {s : SymSort} {n : List ℕ} {ps : List WrittenParam} {a : Written} {ys zs : List Terminal} {form : WrittenForm} → SpellsTerm ys a → TypeRest s n ps a zs form → HeadRest s n ps (colon ∷ (ys ++ zs)) form
+  head_body : {n : List ℕ} {ps : List WrittenParam} {b : Written} {ys : List Terminal} → SpellsTerm ys b → HeadRest Definable n ps (defined ∷ (ys ++ dot ∷ [])) (written_declare Definable n ps None (Some b))
+  head_param : {s : SymSort} {n : List ℕ} {ps : List WrittenParam} {x : Terminal} {v : Option (List ℕ)} {a : Written} {ys zs : List Terminal} {form : WrittenForm} → SpellsBinder x v → SpellsTerm ys a → HeadRest s n (ps ++ param v a ∷ []) zs form → HeadRest s n ps (open_bracket ∷ x ∷ colon ∷ (ys ++ close_bracket ∷ zs)) form
 
-body_begun : (n : List ℕ) (ys : List Terminal) (p : TermPart) (o : Option Written) (made : ℕ) (q : Part) → ReachedTerm ys p → term_done p ≡ o → body_begins n o ≡ goes made q → Reached (terminal.Thm ∷ terminal.Name n ∷ colon ∷ (ys ++ defined ∷ [])) q
-body_begun n ys p None made q h e s = cc
-body_begun n ys p (Some a) made q h e s = to_part _ _ s (reached_body (term_sound ys p a h e) nothing_reached)
+abbrev BehindHead : Head → List Terminal → WrittenForm → Type 0
+BehindHead h = HeadRest h.sort h.name h.params
 
-body_reached : (n : List ℕ) (ts ys : List Terminal) (a : Written) (p : TermPart) (x : Terminal) (o : Option TermPart) (made : ℕ) (q : Part) → SpellsTerm ts a → ReachedTerm ys p → term_next p x ≡ o → body_goes n a (term_argument p x) o ≡ goes made q → Reached (terminal.Thm ∷ terminal.Name n ∷ colon ∷ ((ts ++ defined ∷ ys) ++ x ∷ [])) q
-body_reached n ts ys a p x None made q k h e s = cc
-body_reached n ts ys a p x (Some r) made q k h e s =
-    subst (λ zs. Reached (terminal.Thm ∷ terminal.Name n ∷ colon ∷ zs) q) (sym (append_assoc ts (defined ∷ ys) (x ∷ [])))
-    (to_part _ _ s (reached_body k (term_reached ys p x r h e)))
+-- behind a whole term
+abbrev pub Behind : Purpose → Written → List Terminal → WrittenForm → Type 0
+Behind (as_param h v) a zs form = (rest : List Terminal) × (zs ≡ close_bracket ∷ rest) × BehindHead (with_param h v a) rest form
+Behind (as_type h) a zs form = TypeRest h.sort h.name h.params a zs form
+Behind (as_body h typ) b zs form = (zs ≡ dot ∷ []) × (form ≡ written_declare h.sort h.name h.params typ (Some b))
 
-type_ended : (n : List ℕ) (o : Option Written) (made : ℕ) (q : Part) → type_ends n o ≡ goes made q → ⊥
-type_ended n None made q e = cc
-type_ended n (Some a) made q e = cc
+-- a term, and what is behind it
+pub record TermBehind (purpose : Purpose) (zs : List Terminal) (form : WrittenForm) : Type 0 where
+  pub ys : List Terminal
+  pub rest : List Terminal
+  pub term : Written
+  pub is : zs ≡ ys ++ rest
+  pub spelt : SpellsTerm ys term
+  pub behind : Behind purpose term rest form
 
-body_ended : (n : List ℕ) (a : Written) (o : Option Written) (made : ℕ) (q : Part) → body_ends n a o ≡ goes made q → ⊥
-body_ended n a None made q e = cc
-body_ended n a (Some b) made q e = cc
+-- behind the binder of a parameter
+pub record ColonBehind (h : Head) (v : Option (List ℕ)) (zs : List Terminal) (form : WrittenForm) : Type 0 where
+  pub rest : List Terminal
+  pub is : zs ≡ colon ∷ rest
+  pub term : TermBehind (as_param h v) rest form
+
+pub record BinderBehind (h : Head) (zs : List Terminal) (form : WrittenForm) : Type 0 where
+  pub x : Terminal
+  pub v : Option (List ℕ)
+  pub rest : List Terminal
+  pub is : zs ≡ x ∷ rest
+  pub spelt : SpellsBinder x v
+  pub colon_behind : ColonBehind h v rest form
+
+pub record NameBehind (s : SymSort) (zs : List Terminal) (form : WrittenForm) : Type 0 where
+  pub n : List ℕ
+  pub rest : List Terminal
+  pub is : zs ≡ terminal.Name n ∷ rest
+  pub head : HeadRest s n [] rest form
+
+-- these terminals lead on to whatever may stand behind
+abbrev pub Leads : List Terminal → (List Terminal → WrittenForm → Type 0) → Type 0
+Leads xs R = (zs : List Terminal) (form : WrittenForm) → R zs form → SpellsForm (xs ++ zs) form
+
+-- these lead to a part of a term
+pub record ReachedIn (xs : List Terminal) (purpose : Purpose) (p : TermPart) : Type 0 where
+  pub before : List Terminal
+  pub here : List Terminal
+  pub is : xs ≡ before ++ here
+  pub term : ReachedTerm here p
+  pub leads : Leads before (TermBehind purpose)
+
+-- these lead to a part of a command
+abbrev pub Reached : List Terminal → Part → Type 0
+Reached xs command_due = xs ≡ []
+Reached xs (name_due s) = Leads xs (NameBehind s)
+Reached xs (head_due h) = Leads xs (BehindHead h)
+Reached xs (binder_due h) = Leads xs (BinderBehind h)
+Reached xs (binder_colon_due h v) = Leads xs (ColonBehind h v)
+Reached xs (in_term purpose p) = ReachedIn xs purpose p
+
+-- one terminal more, that what is behind begins with
+lead_more : (R S : List Terminal → WrittenForm → Type 0) (xs : List Terminal) (x : Terminal) → Leads xs R → ((zs : List Terminal) (form : WrittenForm) → S zs form → R (x ∷ zs) form) → Leads (xs ++ x ∷ []) S
+lead_more R S xs x h step zs form s = subst (λ ys. SpellsForm ys form) (sym (append_assoc xs (x ∷ []) zs)) (h (x ∷ zs) form (step zs form s))
+
+-- The heads
+
+abbrev start : SymSort → List ℕ → List Terminal
+start Static n = terminal.Name n ∷ []
+start Definable n = terminal.Def ∷ terminal.Name n ∷ []
+start Theorem n = terminal.Thm ∷ terminal.Name n ∷ []
+
+params_more : {xs : List Terminal} {ps : List WrittenParam} {x : Terminal} {v : Option (List ℕ)} {ys : List Terminal} {a : Written} → SpellsParams xs ps → SpellsBinder x v → SpellsTerm ys a → SpellsParams (xs ++ (open_bracket ∷ x ∷ colon ∷ (ys ++ close_bracket ∷ []))) (ps ++ param v a ∷ [])
+params_more spells_no_params b t = spells_params b t spells_no_params
+params_more {x = x} {v = v} {ys = ys} {a = a} (spells_params {x = y} {v = w} {xs = us} {ys = vs} {a = c} {ps = ps} d u h) b t =
+    subst (λ zs. SpellsParams (open_bracket ∷ y ∷ colon ∷ zs) (param w c ∷ (ps ++ param v a ∷ []))) (sym (append_assoc us (close_bracket ∷ vs) (open_bracket ∷ x ∷ colon ∷ (ys ++ close_bracket ∷ []))))
+    (spells_params d u (params_more h b t))
+
+param_lists : (xs ys zs : List Terminal) (x : Terminal) → (xs ++ (open_bracket ∷ x ∷ colon ∷ (ys ++ close_bracket ∷ []))) ++ zs ≡ xs ++ (open_bracket ∷ x ∷ colon ∷ (ys ++ close_bracket ∷ zs))
+param_lists xs ys zs x = simp append_assoc
+
+type_spelt : {s : SymSort} {n : List ℕ} {ps : List WrittenParam} {a : Written} {ys zs : List Terminal} {form : WrittenForm} → SpellsTerm ys a → TypeRest s n ps a zs form → {xs : List Terminal} → SpellsParams xs ps → SpellsForm (start s n ++ (xs ++ colon ∷ (ys ++ zs))) form
+type_spelt t static_alone h = spells_static h t
+type_spelt t definable_alone h = spells_definable h t
+type_spelt t (definable_body u) h = spells_typed_definition h t u
+type_spelt t (theorem_body u) h = spells_theorem h t u
+
+-- what stands behind a head makes a command of it
+head_spelt : {s : SymSort} {n : List ℕ} {ps : List WrittenParam} {zs : List Terminal} {form : WrittenForm} → HeadRest s n ps zs form → (xs : List Terminal) → SpellsParams xs ps → SpellsForm (start s n ++ (xs ++ zs)) form
+head_spelt (head_type t r) xs h = type_spelt t r h
+head_spelt (head_body t) xs h = spells_definition h t
+head_spelt {s} {n} {ps} (head_param {x} {v} {a} {ys} {zs} {form} b t r) xs h =
+    subst (λ us. SpellsForm (start s n ++ us) form) (param_lists xs ys zs x)
+    (head_spelt r (xs ++ (open_bracket ∷ x ∷ colon ∷ (ys ++ close_bracket ∷ []))) (params_more h b t))
+
+-- Terms in a command
+
+begin_term : (xs : List Terminal) (purpose : Purpose) (level : ℕ) → Leads xs (TermBehind purpose) → ReachedIn xs purpose (term_due level)
+begin_term xs purpose level h = record { before = xs; here = []; is = sym (append_nil xs); term = nothing_reached level; leads = h }
+
+term_more : (xs : List Terminal) (purpose : Purpose) (p q : TermPart) (x : Terminal) → ReachedIn xs purpose p → term_next p x ≡ Some q → ReachedIn (xs ++ x ∷ []) purpose q
+term_more xs purpose p q x h e = record {
+  before = h.before;
+  here = h.here ++ x ∷ [];
+  is = ap (λ ys. ys ++ x ∷ []) h.is ∙ append_assoc h.before h.here (x ∷ []);
+  term = term_reached h.here p x q h.term e;
+  leads = h.leads;
+}
+
+term_leads : (xs : List Terminal) (purpose : Purpose) (p : TermPart) (a : Written) → ReachedIn xs purpose p → term_done p ≡ Some a → Leads xs (Behind purpose a)
+term_leads xs purpose p a h e zs form b =
+    subst (λ ys. SpellsForm ys form) (sym (ap (λ ys. ys ++ zs) h.is ∙ append_assoc h.before h.here zs))
+    (h.leads (h.here ++ zs) form (record { ys = h.here; rest = zs; term = a; is = refl; spelt = term_sound h.here p a h.term e; behind = b }))
+
+-- One terminal more
+
+-- what a step makes of these terminals
+abbrev Made : List Terminal → PartStep → Type 0
+Made xs (goes made q) = Reached xs q
+Made xs (ends form) = SpellsForm xs form
+Made xs refuses = Unit {0}
+
+body_step : (h : Head) (typ : Option Written) (x : Terminal) (zs : List Terminal) (form : WrittenForm) (R : List Terminal → WrittenForm → Type 0) → ((ys : List Terminal) (b : Written) → SpellsTerm ys b → R (x ∷ (ys ++ dot ∷ [])) (written_declare h.sort h.name h.params typ (Some b))) → TermBehind (as_body h typ) zs form → R (x ∷ zs) form
+body_step h typ x zs form R step t =
+    subst (λ us. R (x ∷ us) form) (sym (t.is ∙ ap (λ rest. t.ys ++ rest) t.behind.0))
+    (subst (R (x ∷ (t.ys ++ dot ∷ []))) (sym t.behind.1) (step t.ys t.term t.spelt))
+
+made_body : (h : Head) (typ : Option Written) (xs : List Terminal) (x : Terminal) (R : List Terminal → WrittenForm → Type 0) → Leads xs R → ((ys : List Terminal) (b : Written) → SpellsTerm ys b → R (x ∷ (ys ++ dot ∷ [])) (written_declare h.sort h.name h.params typ (Some b))) → Made (xs ++ x ∷ []) (body_due h typ)
+made_body h typ xs x R l step =
+    begin_term (xs ++ x ∷ []) (as_body h typ) (level_behind h)
+    (lead_more R (TermBehind (as_body h typ)) xs x l (λ zs form t. body_step h typ x zs form R step t))
+
+declared_as : {s r : SymSort} (n : List ℕ) (ps : List WrittenParam) (typ body : Option Written) → s ≡ r → written_declare r n ps typ body ≡ written_declare s n ps typ body
+declared_as n ps typ body e = ap (λ s. written_declare s n ps typ body) (sym e)
+
+made_body_behind_head : (s : SymSort) (h : Head) (xs : List Terminal) → h.sort ≡ s → Leads xs (HeadRest s h.name h.params) → Made (xs ++ defined ∷ []) (body_behind_head s h)
+made_body_behind_head Static h xs e l = tt
+made_body_behind_head Definable h xs e l =
+    made_body h None xs defined (HeadRest Definable h.name h.params) l
+    (λ ys b t. subst (HeadRest Definable h.name h.params (defined ∷ (ys ++ dot ∷ []))) (declared_as h.name h.params None (Some b) e) (head_body t))
+made_body_behind_head Theorem h xs e l = tt
+
+made_body_behind_type : (s : SymSort) (h : Head) (a : Written) (xs : List Terminal) → h.sort ≡ s → Leads xs (TypeRest s h.name h.params a) → Made (xs ++ defined ∷ []) (body_behind_type s h a)
+made_body_behind_type Static h a xs e l = tt
+made_body_behind_type Definable h a xs e l =
+    made_body h (Some a) xs defined (TypeRest Definable h.name h.params a) l
+    (λ ys b t. subst (TypeRest Definable h.name h.params a (defined ∷ (ys ++ dot ∷ []))) (declared_as h.name h.params (Some a) (Some b) e) (definable_body t))
+made_body_behind_type Theorem h a xs e l =
+    made_body h (Some a) xs defined (TypeRest Theorem h.name h.params a) l
+    (λ ys b t. subst (TypeRest Theorem h.name h.params a (defined ∷ (ys ++ dot ∷ []))) (declared_as h.name h.params (Some a) (Some b) e) (theorem_body t))
+
+made_dot_behind_type : (s : SymSort) (h : Head) (a : Written) (xs : List Terminal) → Leads xs (TypeRest s h.name h.params a) → Made (xs ++ dot ∷ []) (dot_behind_type s h a)
+made_dot_behind_type Static h a xs l = l (dot ∷ []) (written_declare Static h.name h.params (Some a) None) static_alone
+made_dot_behind_type Definable h a xs l = l (dot ∷ []) (written_declare Definable h.name h.params (Some a) None) definable_alone
+made_dot_behind_type Theorem h a xs l = tt
+
+made_behind : (purpose : Purpose) (a : Written) (x : Terminal) (xs : List Terminal) → Leads xs (Behind purpose a) → Made (xs ++ x ∷ []) (behind_term purpose a x)
+made_behind (as_param h v) a (terminal.Sign sign.CloseBracket) xs l = lead_more (Behind (as_param h v) a) (BehindHead (with_param h v a)) xs close_bracket l (λ zs form r. (zs, refl, r))
+made_behind (as_type h) a (terminal.Sign sign.Dot) xs l = made_dot_behind_type h.sort h a xs l
+made_behind (as_type h) a (terminal.Sign sign.Defined) xs l = made_body_behind_type h.sort h a xs refl l
+made_behind (as_body h typ) b (terminal.Sign sign.Dot) xs l = l (dot ∷ []) (written_declare h.sort h.name h.params typ (Some b)) (refl, refl)
+made_behind purpose a x xs l = tt
+
+made_goes : (o : Option TermPart) (purpose : Purpose) (p : TermPart) (x : Terminal) (xs : List Terminal) → ReachedIn xs purpose p → term_next p x ≡ o → Made (xs ++ x ∷ []) (term_goes purpose (term_argument p x) o)
+made_goes None purpose p x xs h e = tt
+made_goes (Some q) purpose p x xs h e = term_more xs purpose p q x h e
+
+made_ends : (o : Option Written) (purpose : Purpose) (p : TermPart) (x : Terminal) (xs : List Terminal) → ReachedIn xs purpose p → term_done p ≡ o → Made (xs ++ x ∷ []) (term_ends purpose x o)
+made_ends None purpose p x xs h e = tt
+made_ends (Some a) purpose p x xs h e = made_behind purpose a x xs (term_leads xs purpose p a h e)
+
+made_in_term : (b : Bool) (purpose : Purpose) (p : TermPart) (x : Terminal) (xs : List Terminal) → ReachedIn xs purpose p → Made (xs ++ x ∷ []) (in_term_next b purpose p x)
+made_in_term true purpose p x xs h = made_goes (term_next p x) purpose p x xs h refl
+made_in_term false purpose p x xs h = made_ends (term_done p) purpose p x xs h refl
+
+param_is : (h : Head) (zs : List Terminal) (form : WrittenForm) → BinderBehind h zs form → HeadRest h.sort h.name h.params (open_bracket ∷ zs) form
+param_is h zs form b =
+    let t = b.colon_behind.term in
+    let all : zs ≡ b.x ∷ colon ∷ (t.ys ++ close_bracket ∷ t.behind.0) = b.is ∙ ap (λ us. b.x ∷ us) (b.colon_behind.is ∙ ap (λ us. colon ∷ us) (t.is ∙ ap (λ us. t.ys ++ us) t.behind.1)) in
+    subst (λ us. HeadRest h.sort h.name h.params (open_bracket ∷ us) form) (sym all) (head_param b.spelt t.spelt t.behind.2)
+
+type_is : (h : Head) (zs : List Terminal) (form : WrittenForm) → TermBehind (as_type h) zs form → HeadRest h.sort h.name h.params (colon ∷ zs) form
+type_is h zs form t = subst (λ us. HeadRest h.sort h.name h.params (colon ∷ us) form) (sym t.is) (head_type t.spelt t.behind)
+
+made_head : (h : Head) (x : Terminal) (xs : List Terminal) → Leads xs (BehindHead h) → Made (xs ++ x ∷ []) (head_next h x)
+made_head h (terminal.Sign sign.OpenBracket) xs l = lead_more (BehindHead h) (BinderBehind h) xs open_bracket l (param_is h)
+made_head h (terminal.Sign sign.Colon) xs l = begin_term (xs ++ colon ∷ []) (as_type h) (level_behind h) (lead_more (BehindHead h) (TermBehind (as_type h)) xs colon l (type_is h))
+made_head h (terminal.Sign sign.Defined) xs l = made_body_behind_head h.sort h xs refl l
+made_head h x xs l = tt
+
+named_is : (s : SymSort) (zs : List Terminal) (form : WrittenForm) (first : List Terminal) → ((n : List ℕ) → start s n ≡ first ++ terminal.Name n ∷ []) → NameBehind s zs form → SpellsForm (first ++ zs) form
+named_is s zs form first e r =
+    subst (λ us. SpellsForm us form)
+    (ap (λ us. us ++ r.rest) (e r.n) ∙ append_assoc first (terminal.Name r.n ∷ []) r.rest ∙ ap (λ us. first ++ us) (sym r.is))
+    (head_spelt r.head [] spells_no_params)
 
 -- one terminal more
-reached_next : {xs : List Terminal} {p : Part} → Reached xs p → (made : ℕ) (q : Part) (x : Terminal) → part_next p x ≡ goes made q → Reached (xs ++ x ∷ []) q
-reached_next reached_nothing made q (terminal.Name n) e = to_part _ _ e reached_name
-reached_next reached_nothing made q terminal.Thm e = to_part _ _ e reached_theorem
-reached_next reached_nothing made q x e = cc
-reached_next reached_theorem made q (terminal.Name n) e = to_part _ _ e reached_theorem_name
-reached_next reached_theorem made q x e = cc
-reached_next reached_name made q (terminal.Sign sign.Colon) e = to_part _ _ e (reached_type nothing_reached)
-reached_next reached_name made q x e = cc
-reached_next reached_theorem_name made q (terminal.Sign sign.Colon) e = to_part _ _ e (reached_theorem_type nothing_reached)
-reached_next reached_theorem_name made q x e = cc
-reached_next (reached_type {n} {ys} {p} h) made q (terminal.Sign sign.Dot) e = absurd (type_ended n (term_done p) made q e)
-reached_next (reached_type {n} {ys} {p} h) made q x e = type_reached n ys p x (term_next p x) made q h refl e
-reached_next (reached_theorem_type {n} {ys} {p} h) made q (terminal.Sign sign.Defined) e = body_begun n ys p (term_done p) made q h refl e
-reached_next (reached_theorem_type {n} {ys} {p} h) made q x e = theorem_reached n ys p x (term_next p x) made q h refl e
-reached_next (reached_body {n} {ts} {ys} {a} {p} k h) made q (terminal.Sign sign.Dot) e = absurd (body_ended n a (term_done p) made q e)
-reached_next (reached_body {n} {ts} {ys} {a} {p} k h) made q x e = body_reached n ts ys a p x (term_next p x) made q k h refl e
+made : (p : Part) (x : Terminal) (xs : List Terminal) → Reached xs p → Made (xs ++ x ∷ []) (part_next p x)
+made command_due (terminal.Name n) xs h = λ zs form r. subst (λ us. SpellsForm ((us ++ terminal.Name n ∷ []) ++ zs) form) (sym h) (head_spelt r [] spells_no_params)
+made command_due terminal.Def xs h = λ zs form r. subst (λ us. SpellsForm ((us ++ terminal.Def ∷ []) ++ zs) form) (sym h) (named_is Definable zs form (terminal.Def ∷ []) (λ n. refl) r)
+made command_due terminal.Thm xs h = λ zs form r. subst (λ us. SpellsForm ((us ++ terminal.Thm ∷ []) ++ zs) form) (sym h) (named_is Theorem zs form (terminal.Thm ∷ []) (λ n. refl) r)
+made command_due x xs h = tt
+made (name_due s) (terminal.Name n) xs l = lead_more (NameBehind s) (HeadRest s n []) xs (terminal.Name n) l (λ zs form r. record { n = n; rest = zs; is = refl; head = r })
+made (name_due s) x xs l = tt
+made (head_due h) x xs l = made_head h x xs l
+made (binder_due h) (terminal.Name n) xs l = lead_more (BinderBehind h) (ColonBehind h (Some n)) xs (terminal.Name n) l (λ zs form c. record { x = terminal.Name n; v = Some n; rest = zs; is = refl; spelt = spells_binder; colon_behind = c })
+made (binder_due h) terminal.Wildcard xs l = lead_more (BinderBehind h) (ColonBehind h None) xs terminal.Wildcard l (λ zs form c. record { x = terminal.Wildcard; v = None; rest = zs; is = refl; spelt = spells_no_binder; colon_behind = c })
+made (binder_due h) x xs l = tt
+made (binder_colon_due h v) (terminal.Sign sign.Colon) xs l = begin_term (xs ++ colon ∷ []) (as_param h v) (level_behind h + 1) (lead_more (ColonBehind h v) (TermBehind (as_param h v)) xs colon l (λ zs form t. record { rest = zs; is = refl; term = t }))
+made (binder_colon_due h v) x xs l = tt
+made (in_term purpose p) x xs h = made_in_term (takes p x) purpose p x xs h
 
 -- what leads to a part
 pub reached : (xs : List Terminal) (p : Part) → run command_due xs ≡ going p → Reached xs p
-reached xs p is = follow Reached (λ ys p q made x h e. reached_next h made q x e) reached_nothing xs p is
-
-form_at : {xs : List Terminal} {f form : WrittenForm} → ends f ≡ ends form → SpellsForm xs f → SpellsForm xs form
-form_at {xs} {f} {form} e h =
-    let same : f ≡ form = cc in
-    subst (SpellsForm xs) same h
-
-type_spelt : (n : List ℕ) (ys : List Terminal) (p : TermPart) (o : Option Written) (form : WrittenForm) → ReachedTerm ys p → term_done p ≡ o → type_ends n o ≡ ends form → SpellsForm (terminal.Name n ∷ colon ∷ (ys ++ dot ∷ [])) form
-type_spelt n ys p None form h e s = cc
-type_spelt n ys p (Some a) form h e s = form_at s (spells_declaration (term_sound ys p a h e))
-
-body_spelt : (n : List ℕ) (ts ys : List Terminal) (a : Written) (p : TermPart) (o : Option Written) (form : WrittenForm) → SpellsTerm ts a → ReachedTerm ys p → term_done p ≡ o → body_ends n a o ≡ ends form → SpellsForm (terminal.Thm ∷ terminal.Name n ∷ colon ∷ ((ts ++ defined ∷ ys) ++ dot ∷ [])) form
-body_spelt n ts ys a p None form k h e s = cc
-body_spelt n ts ys a p (Some b) form k h e s =
-    subst (λ zs. SpellsForm (terminal.Thm ∷ terminal.Name n ∷ colon ∷ zs) form) (sym (append_assoc ts (defined ∷ ys) (dot ∷ [])))
-    (form_at s (spells_theorem k (term_sound ys p b h e)))
-
-pub goes_no_end : (o : Option TermPart) (argument : ℕ) (s : SymSort) (n : List ℕ) (form : WrittenForm) → type_goes s n argument o ≡ ends form → ⊥
-goes_no_end None argument s n form e = cc
-goes_no_end (Some p) argument s n form e = cc
-
-pub body_no_end : (o : Option TermPart) (argument : ℕ) (n : List ℕ) (a : Written) (form : WrittenForm) → body_goes n a argument o ≡ ends form → ⊥
-body_no_end None argument n a form e = cc
-body_no_end (Some p) argument n a form e = cc
-
-pub begins_no_end : (n : List ℕ) (o : Option Written) (form : WrittenForm) → body_begins n o ≡ ends form → ⊥
-begins_no_end n None form e = cc
-begins_no_end n (Some a) form e = cc
-
--- a terminal that ends a command
-spelt_by : {xs : List Terminal} {p : Part} → Reached xs p → (form : WrittenForm) (x : Terminal) → part_next p x ≡ ends form → SpellsForm (xs ++ x ∷ []) form
-spelt_by reached_nothing form (terminal.Name n) e = cc
-spelt_by reached_nothing form terminal.Thm e = cc
-spelt_by reached_nothing form x e = cc
-spelt_by reached_theorem form (terminal.Name n) e = cc
-spelt_by reached_theorem form x e = cc
-spelt_by reached_name form (terminal.Sign sign.Colon) e = cc
-spelt_by reached_name form x e = cc
-spelt_by reached_theorem_name form (terminal.Sign sign.Colon) e = cc
-spelt_by reached_theorem_name form x e = cc
-spelt_by (reached_type {n} {ys} {p} h) form (terminal.Sign sign.Dot) e = type_spelt n ys p (term_done p) form h refl e
-spelt_by (reached_type {n} {ys} {p} h) form x e = absurd (goes_no_end (term_next p x) (term_argument p x) Static n form e)
-spelt_by (reached_theorem_type {n} {ys} {p} h) form (terminal.Sign sign.Defined) e = absurd (begins_no_end n (term_done p) form e)
-spelt_by (reached_theorem_type {n} {ys} {p} h) form x e = absurd (goes_no_end (term_next p x) (term_argument p x) Theorem n form e)
-spelt_by (reached_body {n} {ts} {ys} {a} {p} k h) form (terminal.Sign sign.Dot) e = body_spelt n ts ys a p (term_done p) form k h refl e
-spelt_by (reached_body {n} {ts} {ys} {a} {p} k h) form x e = absurd (body_no_end (term_next p x) (term_argument p x) n a form e)
+reached xs p is = follow Reached (λ ys p q made_load x h e. subst (Made (ys ++ x ∷ [])) e (made p x ys h)) refl xs p is
 
 -- what is read is spelt so
 pub sound : (xs : List Terminal) (p : Part) (x : Terminal) (form : WrittenForm) → run command_due xs ≡ going p → part_next p x ≡ ends form → SpellsForm (xs ++ x ∷ []) form
-sound xs p x form is e = spelt_by (reached xs p is) form x e
+sound xs p x form is e = subst (Made (xs ++ x ∷ [])) e (made p x xs (reached xs p is))
 
--- more of a command is due
-due_more : (xs zs : List Terminal) (y : Terminal) (form : WrittenForm) → SpellsForm (xs ++ (zs ++ y ∷ [])) form → IsBegun xs
-due_more xs [] y form h = (y, [], form, h)
-due_more xs (z ∷ zs) y form h = (z, zs ++ y ∷ [], form, h)
+-- More of a command is due
 
 a_term : SpellsTerm (terminal.Star ∷ []) written_star
 a_term = spells_application (spells_head spells_star)
 
-begun_by : {xs : List Terminal} {p : Part} → Reached xs p → IsBegun xs
-begun_by reached_nothing = (terminal.Name [], colon ∷ terminal.Star ∷ dot ∷ [], _, spells_declaration a_term)
-begun_by reached_theorem = (terminal.Name [], colon ∷ terminal.Star ∷ defined ∷ terminal.Star ∷ dot ∷ [], _, spells_theorem a_term a_term)
-begun_by reached_name = (colon, terminal.Star ∷ dot ∷ [], _, spells_declaration a_term)
-begun_by reached_theorem_name = (colon, terminal.Star ∷ defined ∷ terminal.Star ∷ dot ∷ [], _, spells_theorem a_term a_term)
-begun_by (reached_type {n} {ys} {p} h) =
-    let t = term_begun ys p h in
-    due_more (terminal.Name n ∷ colon ∷ ys) t.0 dot _
-    (subst (λ zs. SpellsForm (terminal.Name n ∷ colon ∷ zs) (written_declare Static n [] (Some t.1) None)) (append_assoc ys t.0 (dot ∷ [])) (spells_declaration t.2))
-begun_by (reached_theorem_type {n} {ys} {p} h) =
-    let t = term_begun ys p h in
-    due_more (terminal.Thm ∷ terminal.Name n ∷ colon ∷ ys) (t.0 ++ defined ∷ terminal.Star ∷ []) dot _
-    (subst (λ zs. SpellsForm (terminal.Thm ∷ terminal.Name n ∷ colon ∷ zs) (written_declare Theorem n [] (Some t.1) (Some written_star)))
-    (append_assoc ys t.0 (defined ∷ terminal.Star ∷ dot ∷ []) ∙ ap (λ zs. ys ++ zs) (sym (append_assoc t.0 (defined ∷ terminal.Star ∷ []) (dot ∷ []))))
-    (spells_theorem t.2 a_term))
-begun_by (reached_body {n} {ts} {ys} {a} {p} k h) =
-    let t = term_begun ys p h in
-    due_more (terminal.Thm ∷ terminal.Name n ∷ colon ∷ (ts ++ defined ∷ ys)) t.0 dot _
-    (subst (λ zs. SpellsForm (terminal.Thm ∷ terminal.Name n ∷ colon ∷ zs) (written_declare Theorem n [] (Some a) (Some t.1)))
-    (ap (λ zs. ts ++ defined ∷ zs) (append_assoc ys t.0 (dot ∷ [])) ∙ sym (append_assoc ts (defined ∷ ys) (t.0 ++ dot ∷ [])))
-    (spells_theorem k t.2))
+-- something may stand behind
+record Due (R : List Terminal → WrittenForm → Type 0) : Type 0 where
+  pub first : Terminal
+  pub rest : List Terminal
+  pub form : WrittenForm
+  pub is : R (first ∷ rest) form
+
+type_due : (s : SymSort) (n : List ℕ) (ps : List WrittenParam) (a : Written) → Due (TypeRest s n ps a)
+type_due Static n ps a = record { first = dot; rest = []; form = written_declare Static n ps (Some a) None; is = static_alone }
+type_due Definable n ps a = record { first = dot; rest = []; form = written_declare Definable n ps (Some a) None; is = definable_alone }
+type_due Theorem n ps a = record { first = defined; rest = terminal.Star ∷ dot ∷ []; form = written_declare Theorem n ps (Some a) (Some written_star); is = theorem_body a_term }
+
+head_rest : (s : SymSort) (n : List ℕ) (ps : List WrittenParam) → Due (HeadRest s n ps)
+head_rest s n ps =
+    let t = type_due s n ps written_star in
+    record { first = colon; rest = terminal.Star ∷ t.first ∷ t.rest; form = t.form; is = head_type a_term t.is }
+
+due_behind : (purpose : Purpose) (a : Written) → Due (Behind purpose a)
+due_behind (as_param h v) a =
+    let r = head_rest h.sort h.name (h.params ++ param v a ∷ []) in
+    record { first = close_bracket; rest = r.first ∷ r.rest; form = r.form; is = (r.first ∷ r.rest, refl, r.is) }
+due_behind (as_type h) a = type_due h.sort h.name h.params a
+due_behind (as_body h typ) b = record { first = dot; rest = []; form = written_declare h.sort h.name h.params typ (Some b); is = (refl, refl) }
+
+term_begins : (purpose : Purpose) → Due (TermBehind purpose)
+term_begins purpose =
+    let r = due_behind purpose written_star in
+    record { first = terminal.Star; rest = r.first ∷ r.rest; form = r.form; is = record { ys = terminal.Star ∷ []; rest = r.first ∷ r.rest; term = written_star; is = refl; spelt = a_term; behind = r.is } }
+
+colon_begins : (h : Head) (v : Option (List ℕ)) → Due (ColonBehind h v)
+colon_begins h v =
+    let r = term_begins (as_param h v) in
+    record { first = colon; rest = r.first ∷ r.rest; form = r.form; is = record { rest = r.first ∷ r.rest; is = refl; term = r.is } }
+
+binder_begins : (h : Head) → Due (BinderBehind h)
+binder_begins h =
+    let r = colon_begins h None in
+    record { first = terminal.Wildcard; rest = r.first ∷ r.rest; form = r.form; is = record { x = terminal.Wildcard; v = None; rest = r.first ∷ r.rest; is = refl; spelt = spells_no_binder; colon_behind = r.is } }
+
+name_begins : (s : SymSort) → Due (NameBehind s)
+name_begins s =
+    let r = head_rest s [] [] in
+    record { first = terminal.Name []; rest = r.first ∷ r.rest; form = r.form; is = record { n = []; rest = r.first ∷ r.rest; is = refl; head = r.is } }
+
+due_begun : (xs : List Terminal) (R : List Terminal → WrittenForm → Type 0) → Leads xs R → Due R → IsBegun xs
+due_begun xs R l d = (d.first, d.rest, d.form, l (d.first ∷ d.rest) d.form d.is)
+
+due_more : (xs zs : List Terminal) (y : Terminal) (rest : List Terminal) (form : WrittenForm) → SpellsForm (xs ++ (zs ++ y ∷ rest)) form → IsBegun xs
+due_more xs [] y rest form h = (y, rest, form, h)
+due_more xs (z ∷ zs) y rest form h = (z, zs ++ y ∷ rest, form, h)
+
+term_lists : (xs before here zs rest : List Terminal) → xs ≡ before ++ here → before ++ ((here ++ zs) ++ rest) ≡ xs ++ (zs ++ rest)
+term_lists xs before here zs rest e =
+    ap (λ us. before ++ us) (append_assoc here zs rest) ∙ sym (append_assoc before here (zs ++ rest)) ∙ ap (λ us. us ++ (zs ++ rest)) (sym e)
+
+term_due_more : (xs : List Terminal) (purpose : Purpose) (p : TermPart) → ReachedIn xs purpose p → IsBegun xs
+term_due_more xs purpose p h =
+    let t = term_begun h.here p h.term in
+    let r = due_behind purpose t.1 in
+    due_more xs t.0 r.first r.rest r.form
+    (subst (λ us. SpellsForm us r.form) (term_lists xs h.before h.here t.0 (r.first ∷ r.rest) h.is)
+    (h.leads ((h.here ++ t.0) ++ r.first ∷ r.rest) r.form (record { ys = h.here ++ t.0; rest = r.first ∷ r.rest; term = t.1; is = refl; spelt = t.2; behind = r.is })))
+
+begun_by : (p : Part) (xs : List Terminal) → Reached xs p → IsBegun xs
+begun_by command_due xs h = (terminal.Name [], colon ∷ terminal.Star ∷ dot ∷ [], written_declare Static [] [] (Some written_star) None, subst (λ us. SpellsForm (us ++ (terminal.Name [] ∷ colon ∷ terminal.Star ∷ dot ∷ [])) (written_declare Static [] [] (Some written_star) None)) (sym h) (spells_static spells_no_params a_term))
+begun_by (name_due s) xs l = due_begun xs (NameBehind s) l (name_begins s)
+begun_by (head_due h) xs l = due_begun xs (BehindHead h) l (head_rest h.sort h.name h.params)
+begun_by (binder_due h) xs l = due_begun xs (BinderBehind h) l (binder_begins h)
+begun_by (binder_colon_due h v) xs l = due_begun xs (ColonBehind h v) l (colon_begins h v)
+begun_by (in_term purpose p) xs h = term_due_more xs purpose p h
 
 -- terminals that lead to a part begin a command
 pub begins : (xs : List Terminal) (p : Part) → run command_due xs ≡ going p → IsBegun xs
-begins xs p is = begun_by (reached xs p is)
+begins xs p is = begun_by p xs (reached xs p is)

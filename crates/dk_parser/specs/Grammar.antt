@@ -1,12 +1,12 @@
 -- The grammar: which terminals spell which commands (Dedukti manual, syntax; docs/grammar.md).
 use Rattle.std.specs.Prelude.{◌≡◌, ℕ, List, [], ◌∷◌, ◌++◌, Option, Some, None, map}
-use Rattle.dk_model.specs.declared.signature.SymSort.TheVariants.{Static, Theorem}
+use Rattle.dk_model.specs.declared.signature.SymSort.TheVariants.{Static, Definable, Theorem}
 use Rattle.dk_lexer.specs.declared.token.Token.{Token}
 use Rattle.dk_lexer.specs.declared.token.Sign.TheVariants as sign
 use Rattle.dk_parser.specs.declared.terminal.Terminal.{Terminal}
 use Rattle.dk_parser.specs.declared.terminal.Terminal.TheVariants as terminal
 use Rattle.dk_parser.specs.Terminals.{terminal_of}
-use Rattle.dk_parser.specs.Written.{Written, written_name, written_qualified, written_star, written_wild, written_apply, written_arrow, written_product, written_annotated, WrittenForm, written_declare, WrittenCommand}
+use Rattle.dk_parser.specs.Written.{Written, written_name, written_qualified, written_star, written_wild, written_apply, written_arrow, written_product, written_bare, written_annotated, WrittenParam, WrittenForm, written_declare, WrittenCommand}
 
 abbrev pub colon : Terminal
 colon = terminal.Sign sign.Colon
@@ -48,18 +48,30 @@ mutual
     spells_head : {xs : List Terminal} {a : Written} → SpellsAtom xs a → SpellsApplication xs a
     spells_applied : {xs ys : List Terminal} {f a : Written} → SpellsApplication xs f → SpellsAtom ys a → SpellsApplication (xs ++ ys) (written_apply f a)
 
-  -- this term: an application, `A -> B`, `x : A -> B`, `(x : A) -> B` or `x : A => t`
+  -- this term: an application, `A -> B`, `x : A -> B`, `(x : A) -> B`, `x => t` or `x : A => t`
   pub data SpellsTerm : List Terminal → Written → Type 0 where
     spells_application : {xs : List Terminal} {a : Written} → SpellsApplication xs a → SpellsTerm xs a
     spells_arrow : {xs ys : List Terminal} {a b : Written} → SpellsApplication xs a → SpellsTerm ys b → SpellsTerm (xs ++ arrow ∷ ys) (written_arrow a b)
     spells_product : {x : Terminal} {v : Option (List ℕ)} {xs ys : List Terminal} {a b : Written} → SpellsBinder x v → SpellsApplication xs a → SpellsTerm ys b → SpellsTerm (x ∷ colon ∷ (xs ++ arrow ∷ ys)) (written_product v a b)
     spells_bracketed_product : {x : Terminal} {v : Option (List ℕ)} {xs ys : List Terminal} {a b : Written} → SpellsBinder x v → SpellsApplication xs a → SpellsTerm ys b → SpellsTerm (open_bracket ∷ x ∷ colon ∷ (xs ++ close_bracket ∷ arrow ∷ ys)) (written_product v a b)
+    spells_bare : {x : Terminal} {v : Option (List ℕ)} {ys : List Terminal} {b : Written} → SpellsBinder x v → SpellsTerm ys b → SpellsTerm (x ∷ double_arrow ∷ ys) (written_bare v b)
     spells_annotated : {x : Terminal} {v : Option (List ℕ)} {xs ys : List Terminal} {a b : Written} → SpellsBinder x v → SpellsApplication xs a → SpellsTerm ys b → SpellsTerm (x ∷ colon ∷ (xs ++ double_arrow ∷ ys)) (written_annotated v a b)
 
--- these terminals spell this command: a declaration, or a theorem
+abbrev pub param : Option (List ℕ) → Written → WrittenParam
+param v a = record { binder = v; typ = a }
+
+-- these parameters, each `(x : A)`
+pub data SpellsParams : List Terminal → List WrittenParam → Type 0 where
+  spells_no_params : SpellsParams [] []
+  spells_params : {x : Terminal} {v : Option (List ℕ)} {xs ys : List Terminal} {a : Written} {ps : List WrittenParam} → SpellsBinder x v → SpellsTerm xs a → SpellsParams ys ps → SpellsParams (open_bracket ∷ x ∷ colon ∷ (xs ++ close_bracket ∷ ys)) (param v a ∷ ps)
+
+-- this command: `c : A.`, `def c : A.`, `def c := t.`, `def c : A := t.` or `thm c : A := t.`, each with its parameters behind the name
 pub data SpellsForm : List Terminal → WrittenForm → Type 0 where
-  spells_declaration : {n : List ℕ} {xs : List Terminal} {a : Written} → SpellsTerm xs a → SpellsForm (terminal.Name n ∷ colon ∷ (xs ++ dot ∷ [])) (written_declare Static n [] (Some a) None)
-  spells_theorem : {n : List ℕ} {xs ys : List Terminal} {a b : Written} → SpellsTerm xs a → SpellsTerm ys b → SpellsForm (terminal.Thm ∷ terminal.Name n ∷ colon ∷ (xs ++ defined ∷ (ys ++ dot ∷ []))) (written_declare Theorem n [] (Some a) (Some b))
+  spells_static : {n : List ℕ} {xs ys : List Terminal} {ps : List WrittenParam} {a : Written} → SpellsParams xs ps → SpellsTerm ys a → SpellsForm (terminal.Name n ∷ (xs ++ colon ∷ (ys ++ dot ∷ []))) (written_declare Static n ps (Some a) None)
+  spells_definable : {n : List ℕ} {xs ys : List Terminal} {ps : List WrittenParam} {a : Written} → SpellsParams xs ps → SpellsTerm ys a → SpellsForm (terminal.Def ∷ terminal.Name n ∷ (xs ++ colon ∷ (ys ++ dot ∷ []))) (written_declare Definable n ps (Some a) None)
+  spells_definition : {n : List ℕ} {xs ys : List Terminal} {ps : List WrittenParam} {b : Written} → SpellsParams xs ps → SpellsTerm ys b → SpellsForm (terminal.Def ∷ terminal.Name n ∷ (xs ++ defined ∷ (ys ++ dot ∷ []))) (written_declare Definable n ps None (Some b))
+  spells_typed_definition : {n : List ℕ} {xs ys zs : List Terminal} {ps : List WrittenParam} {a b : Written} → SpellsParams xs ps → SpellsTerm ys a → SpellsTerm zs b → SpellsForm (terminal.Def ∷ terminal.Name n ∷ (xs ++ colon ∷ (ys ++ defined ∷ (zs ++ dot ∷ [])))) (written_declare Definable n ps (Some a) (Some b))
+  spells_theorem : {n : List ℕ} {xs ys zs : List Terminal} {ps : List WrittenParam} {a b : Written} → SpellsParams xs ps → SpellsTerm ys a → SpellsTerm zs b → SpellsForm (terminal.Thm ∷ terminal.Name n ∷ (xs ++ colon ∷ (ys ++ defined ∷ (zs ++ dot ∷ [])))) (written_declare Theorem n ps (Some a) (Some b))
 
 abbrev pub terminals : List Token → List Terminal
 terminals ts = map terminal_of ts

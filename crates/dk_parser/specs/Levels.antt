@@ -36,8 +36,7 @@ abbrev pub closed : Groups → List Group → Groups
 closed gs [] = gs
 closed gs (g ∷ outer) = record { inner = g; outer = outer }
 
--- a bracket is an atom of the application that it stands in; an arrow and a binder's colon end an application;
--- `:=` and the dot end a term
+-- a terminal of a term: a bracket is an atom of the application that it stands in; an arrow and a binder's colon end an application
 abbrev pub grouped : Groups → Terminal → Groups
 grouped gs (terminal.Name n) = with_inner atom_more gs
 grouped gs (terminal.Qualified m n) = with_inner atom_more gs
@@ -48,37 +47,65 @@ grouped gs (terminal.Sign sign.CloseBracket) = closed gs gs.outer
 grouped gs (terminal.Sign sign.Colon) = with_inner binder_over gs
 grouped gs (terminal.Sign sign.Arrow) = with_inner arrow_more gs
 grouped gs (terminal.Sign sign.DoubleArrow) = with_inner arrow_more gs
-grouped gs (terminal.Sign sign.Defined) = no_groups
-grouped gs (terminal.Sign sign.Dot) = no_groups
 grouped gs x = gs
 
-abbrev pub groups_from : Groups → List Terminal → Groups
-groups_from gs [] = gs
-groups_from gs (x ∷ xs) = groups_from (grouped gs x) xs
+-- where in its command a terminal stands: in the head, which its `:` or `:=` ends, or behind it
+pub data Side : Type 0 where
+  in_head : Side
+  behind_head : Side
 
-abbrev pub groups : List Terminal → Groups
-groups xs = groups_from no_groups xs
+-- the parameters that have closed, the side, and the groups of the term
+pub record Standing : Type 0 where
+  pub params : ℕ
+  pub side : Side
+  pub groups : Groups
+
+abbrev pub at_start : Standing
+at_start = record { params = 0; side = in_head; groups = no_groups }
+
+abbrev pub params_closed : Side → List Group → ℕ → ℕ
+params_closed in_head (g ∷ []) n = n + 1
+params_closed side outer n = n
+
+abbrev pub side_at_colon : Side → List Group → Side
+side_at_colon in_head (g ∷ outer) = in_head
+side_at_colon side outer = behind_head
+
+-- a bracket of the head that closes is a parameter; `:=` ends a term, and the dot a command
+abbrev pub stands : Standing → Terminal → Standing
+stands s (terminal.Sign sign.CloseBracket) = record { params = params_closed s.side s.groups.outer s.params; side = s.side; groups = grouped s.groups (terminal.Sign sign.CloseBracket) }
+stands s (terminal.Sign sign.Colon) = record { params = s.params; side = side_at_colon s.side s.groups.outer; groups = grouped s.groups (terminal.Sign sign.Colon) }
+stands s (terminal.Sign sign.Defined) = record { params = s.params; side = behind_head; groups = no_groups }
+stands s (terminal.Sign sign.Dot) = at_start
+stands s x = record { params = s.params; side = s.side; groups = grouped s.groups x }
+
+abbrev pub standing_from : Standing → List Terminal → Standing
+standing_from s [] = s
+standing_from s (x ∷ xs) = standing_from (stands s x) xs
+
+abbrev pub standing : List Terminal → Standing
+standing xs = standing_from at_start xs
 
 abbrev pub arrows_of : List Group → ℕ
 arrows_of [] = 0
 arrows_of (g ∷ gs) = (g.arrows + 1) + arrows_of gs
 
--- the level: one for each bracket that is open, and one for each arrow in what is not closed
-abbrev pub level_of : Groups → ℕ
-level_of gs = gs.inner.arrows + arrows_of gs.outer
+-- the level: one for each parameter that has closed, one for each bracket that is open, and one for each arrow in what is not closed
+abbrev pub level_of : Standing → ℕ
+level_of s = s.params + (s.groups.inner.arrows + arrows_of s.groups.outer)
 
 -- the number of the argument that a terminal begins, from 1; 0 where it begins none
-abbrev pub argument_in : Groups → Terminal → ℕ
-argument_in gs (terminal.Name n) = gs.inner.atoms
-argument_in gs (terminal.Qualified m n) = gs.inner.atoms
-argument_in gs terminal.Star = gs.inner.atoms
-argument_in gs terminal.Wildcard = gs.inner.atoms
-argument_in gs (terminal.Sign sign.OpenBracket) = gs.inner.atoms
-argument_in gs x = 0
+abbrev pub argument_in : Standing → Terminal → ℕ
+argument_in s (terminal.Name n) = s.groups.inner.atoms
+argument_in s (terminal.Qualified m n) = s.groups.inner.atoms
+argument_in s terminal.Star = s.groups.inner.atoms
+argument_in s terminal.Wildcard = s.groups.inner.atoms
+argument_in s (terminal.Sign sign.OpenBracket) = s.groups.inner.atoms
+argument_in s x = 0
 
--- the level that a terminal stands on behind these, or the number of the argument that it begins, whichever is greater
+-- the level that a terminal stands on behind these, or the number of the argument that it begins, whichever is greater; a parameter's bracket counts for an argument of the name too, but its level is as great
 abbrev pub load : List Terminal → Terminal → ℕ
-load xs x = max (level_of (grouped (groups xs) x)) (argument_in (groups xs) x)
+load xs x = max (level_of (stands (standing xs) x)) (argument_in (standing xs) x)
 
 -- no terminal makes a level or an argument above the limit
 abbrev pub IsWithin : ℕ → List Terminal → Type 0

@@ -1,16 +1,17 @@
 -- What the parser has made of the tokens so far. `Reading` has its meaning.
-use Rattle.std.specs.Prelude.{ℕ, ◌+◌, Bool, true, false, List, [], ◌∷◌, ◌++◌, Option, Some, None, max, unwrap_or, if◌then◌else◌, nat_lt}
+use Rattle.std.specs.Prelude.{ℕ, ◌+◌, Bool, true, false, List, [], ◌∷◌, ◌++◌, Option, Some, None, length, max, unwrap_or, if◌then◌else◌, nat_lt}
 use Rattle.dk_model.specs.declared.code.Code.{Code}
 use Rattle.dk_model.specs.declared.code.Code.TheVariants.{E02, E04, E06}
 use Rattle.dk_model.specs.declared.limits.Limits.{Limits}
 use Rattle.dk_model.specs.declared.signature.SymSort.{SymSort}
-use Rattle.dk_model.specs.declared.signature.SymSort.TheVariants.{Static, Theorem}
+use Rattle.dk_model.specs.declared.signature.SymSort.TheVariants.{Static, Definable, Theorem}
 use Rattle.dk_lexer.specs.declared.token.Token.{Token}
 use Rattle.dk_lexer.specs.declared.token.Sign.TheVariants as sign
 use Rattle.dk_parser.specs.declared.terminal.Terminal.{Terminal}
 use Rattle.dk_parser.specs.declared.terminal.Terminal.TheVariants as terminal
 use Rattle.dk_parser.specs.Terminals.{terminal_of}
-use Rattle.dk_parser.specs.Written.{Written, written_name, written_qualified, written_star, written_wild, written_apply, written_arrow, written_product, written_annotated, WrittenForm, written_declare, WrittenCommand}
+use Rattle.dk_parser.specs.Written.{Written, written_name, written_qualified, written_star, written_wild, written_apply, written_arrow, written_product, written_bare, written_annotated, WrittenParam, WrittenForm, written_declare, WrittenCommand}
+use Rattle.dk_parser.specs.Grammar.{param}
 
 -- where an application stands: at the front of a term, or as the domain of a binder
 pub data Place : Type 0 where
@@ -25,16 +26,17 @@ pub data Slot : Type 0 where
   applied : Place → Written → ℕ → Slot
   bracketed : Option (List ℕ) → Written → Slot
 
--- what waits for a term: a bracket, `A ->`, `x : A ->` or `x : A =>`
+-- what waits for a term: a bracket, `A ->`, `x : A ->`, `x =>` or `x : A =>`
 pub data Frame : Type 0 where
   bracket_frame : Slot → Frame
   arrow_frame : Written → Frame
   product_frame : Option (List ℕ) → Written → Frame
+  bare_frame : Option (List ℕ) → Frame
   annotated_frame : Option (List ℕ) → Written → Frame
 
--- the innermost first, each with the number of frames from it on
+-- the innermost first, each with the level from it on; a term begins on some level
 pub data Frames : Type 0 where
-  bottom : Frames
+  bottom : ℕ → Frames
   on : ℕ → Frame → Frames → Frames
 
 -- a term that has begun
@@ -42,11 +44,12 @@ pub record TermPart : Type 0 where
   pub frames : Frames
   pub slot : Slot
 
-abbrev pub term_due : TermPart
-term_due = record { frames = bottom; slot = due at_front }
+-- a term that begins on this level
+abbrev pub term_due : ℕ → TermPart
+term_due level = record { frames = bottom level; slot = due at_front }
 
 abbrev pub depth : Frames → ℕ
-depth bottom = 0
+depth (bottom level) = level
 depth (on d f fs) = d
 
 abbrev pub pushed : Frame → Frames → Frames
@@ -99,6 +102,7 @@ abbrev pub around : Frame → Written → Around
 around (bracket_frame slot) a = around_bracket slot a
 around (arrow_frame b) a = around_term (written_arrow b a)
 around (product_frame v b) a = around_term (written_product v b a)
+around (bare_frame v) a = around_term (written_bare v a)
 around (annotated_frame v b) a = around_term (written_annotated v b a)
 
 abbrev pub unwound_by : Around → (Written → Option TermPart) → Frames → Option TermPart
@@ -107,7 +111,7 @@ unwound_by (around_bracket slot a) more fs = in_frames fs (slot_more slot a)
 
 -- the bracket closes behind this term
 abbrev pub unwound : Frames → Written → Option TermPart
-unwound bottom a = None
+unwound (bottom level) a = None
 unwound (on d f fs) a = unwound_by (around f a) (λ t. unwound fs t) fs
 
 abbrev pub unwound_all_by : Around → (Written → Option Written) → Option Written
@@ -116,7 +120,7 @@ unwound_all_by (around_bracket slot a) more = None
 
 -- the whole term ends behind this one
 abbrev pub unwound_all : Frames → Written → Option Written
-unwound_all bottom a = Some a
+unwound_all (bottom level) a = Some a
 unwound_all (on d f fs) a = unwound_all_by (around f a) (λ t. unwound_all fs t)
 
 abbrev pub next_open : Bool → Frames → Slot → Option TermPart
@@ -151,6 +155,7 @@ next_arrow fs (bracketed v a) = framed (product_frame v a) fs
 next_arrow fs (due place) = None
 
 abbrev pub next_double_arrow : Frames → Slot → Option TermPart
+next_double_arrow fs (bindable v) = framed (bare_frame v) fs
 next_double_arrow fs (applied (domain v) a n) = framed (annotated_frame v a) fs
 next_double_arrow fs slot = None
 
@@ -184,13 +189,52 @@ slot_ended fs (Some a) = unwound_all fs a
 abbrev pub term_done : TermPart → Option Written
 term_done p = slot_ended p.frames (slot_term p.slot)
 
+-- is a bracket open
+abbrev pub in_bracket : Frames → Bool
+in_bracket (bottom level) = false
+in_bracket (on d (bracket_frame slot) fs) = true
+in_bracket (on d f fs) = in_bracket fs
+
+-- is this a terminal of a term; a bracket that closes is one where one is open
+abbrev pub takes : TermPart → Terminal → Bool
+takes p (terminal.Name n) = true
+takes p terminal.Wildcard = true
+takes p (terminal.Qualified m n) = true
+takes p terminal.Star = true
+takes p (terminal.Sign sign.OpenBracket) = true
+takes p (terminal.Sign sign.CloseBracket) = in_bracket p.frames
+takes p (terminal.Sign sign.Colon) = true
+takes p (terminal.Sign sign.Arrow) = true
+takes p (terminal.Sign sign.DoubleArrow) = true
+takes p x = false
+
+-- what stands before the colon of a declaration
+pub record Head : Type 0 where
+  pub sort : SymSort
+  pub name : List ℕ
+  pub params : List WrittenParam
+
+-- the level behind the parameters
+abbrev pub level_behind : Head → ℕ
+level_behind h = length h.params
+
+abbrev pub with_param : Head → Option (List ℕ) → Written → Head
+with_param h v a = record { sort = h.sort; name = h.name; params = h.params ++ param v a ∷ [] }
+
+-- what a term is read for
+pub data Purpose : Type 0 where
+  as_param : Head → Option (List ℕ) → Purpose
+  as_type : Head → Purpose
+  as_body : Head → Option Written → Purpose
+
 -- a command that has begun, by what is due next
 pub data Part : Type 0 where
   command_due : Part
-  name_due : Part
-  colon_due : SymSort → List ℕ → Part
-  in_type : SymSort → List ℕ → TermPart → Part
-  in_body : List ℕ → Written → TermPart → Part
+  name_due : SymSort → Part
+  head_due : Head → Part
+  binder_due : Head → Part
+  binder_colon_due : Head → Option (List ℕ) → Part
+  in_term : Purpose → TermPart → Part
 
 -- what a terminal makes of it: a command that goes on, and the load of the terminal; a command; or nothing
 pub data PartStep : Type 0 where
@@ -198,42 +242,64 @@ pub data PartStep : Type 0 where
   ends : WrittenForm → PartStep
   refuses : PartStep
 
-abbrev pub type_goes : SymSort → List ℕ → ℕ → Option TermPart → PartStep
-type_goes sort name argument None = refuses
-type_goes sort name argument (Some part) = goes (max (depth part.frames) argument) (in_type sort name part)
+-- a body is due
+abbrev pub body_due : Head → Option Written → PartStep
+body_due h typ = goes (level_behind h) (in_term (as_body h typ) (term_due (level_behind h)))
 
-abbrev pub type_ends : List ℕ → Option Written → PartStep
-type_ends name None = refuses
-type_ends name (Some a) = ends (written_declare Static name [] (Some a) None)
+abbrev pub dot_behind_type : SymSort → Head → Written → PartStep
+dot_behind_type Theorem h a = refuses
+dot_behind_type sort h a = ends (written_declare sort h.name h.params (Some a) None)
 
-abbrev pub body_begins : List ℕ → Option Written → PartStep
-body_begins name None = refuses
-body_begins name (Some a) = goes 0 (in_body name a term_due)
+abbrev pub body_behind_type : SymSort → Head → Written → PartStep
+body_behind_type Static h a = refuses
+body_behind_type sort h a = body_due h (Some a)
 
-abbrev pub type_next : SymSort → List ℕ → TermPart → Terminal → PartStep
-type_next Static name part (terminal.Sign sign.Dot) = type_ends name (term_done part)
-type_next Theorem name part (terminal.Sign sign.Defined) = body_begins name (term_done part)
-type_next sort name part x = type_goes sort name (term_argument part x) (term_next part x)
+abbrev pub body_behind_head : SymSort → Head → PartStep
+body_behind_head Definable h = body_due h None
+body_behind_head sort h = refuses
 
-abbrev pub body_goes : List ℕ → Written → ℕ → Option TermPart → PartStep
-body_goes name a argument None = refuses
-body_goes name a argument (Some part) = goes (max (depth part.frames) argument) (in_body name a part)
+-- a terminal behind a whole term
+abbrev pub behind_term : Purpose → Written → Terminal → PartStep
+behind_term (as_param h v) a (terminal.Sign sign.CloseBracket) = goes (level_behind h + 1) (head_due (with_param h v a))
+behind_term (as_type h) a (terminal.Sign sign.Dot) = dot_behind_type h.sort h a
+behind_term (as_type h) a (terminal.Sign sign.Defined) = body_behind_type h.sort h a
+behind_term (as_body h typ) b (terminal.Sign sign.Dot) = ends (written_declare h.sort h.name h.params typ (Some b))
+behind_term purpose a x = refuses
 
-abbrev pub body_ends : List ℕ → Written → Option Written → PartStep
-body_ends name a None = refuses
-body_ends name a (Some b) = ends (written_declare Theorem name [] (Some a) (Some b))
+abbrev pub term_goes : Purpose → ℕ → Option TermPart → PartStep
+term_goes purpose argument None = refuses
+term_goes purpose argument (Some part) = goes (max (depth part.frames) argument) (in_term purpose part)
 
-abbrev pub body_next : List ℕ → Written → TermPart → Terminal → PartStep
-body_next name a part (terminal.Sign sign.Dot) = body_ends name a (term_done part)
-body_next name a part x = body_goes name a (term_argument part x) (term_next part x)
+abbrev pub term_ends : Purpose → Terminal → Option Written → PartStep
+term_ends purpose x None = refuses
+term_ends purpose x (Some a) = behind_term purpose a x
+
+abbrev pub in_term_next : Bool → Purpose → TermPart → Terminal → PartStep
+in_term_next true purpose part x = term_goes purpose (term_argument part x) (term_next part x)
+in_term_next false purpose part x = term_ends purpose x (term_done part)
+
+abbrev pub head_next : Head → Terminal → PartStep
+head_next h (terminal.Sign sign.OpenBracket) = goes (level_behind h + 1) (binder_due h)
+head_next h (terminal.Sign sign.Colon) = goes (level_behind h) (in_term (as_type h) (term_due (level_behind h)))
+head_next h (terminal.Sign sign.Defined) = body_behind_head h.sort h
+head_next h x = refuses
+
+abbrev pub named : SymSort → List ℕ → PartStep
+named sort name = goes 0 (head_due record { sort = sort; name = name; params = [] })
+
+abbrev pub binder_named : Head → Option (List ℕ) → PartStep
+binder_named h v = goes (level_behind h + 1) (binder_colon_due h v)
 
 abbrev pub part_next : Part → Terminal → PartStep
-part_next command_due (terminal.Name n) = goes 0 (colon_due Static n)
-part_next command_due terminal.Thm = goes 0 name_due
-part_next name_due (terminal.Name n) = goes 0 (colon_due Theorem n)
-part_next (colon_due sort name) (terminal.Sign sign.Colon) = goes 0 (in_type sort name term_due)
-part_next (in_type sort name part) x = type_next sort name part x
-part_next (in_body name a part) x = body_next name a part x
+part_next command_due (terminal.Name n) = named Static n
+part_next command_due terminal.Def = goes 0 (name_due Definable)
+part_next command_due terminal.Thm = goes 0 (name_due Theorem)
+part_next (name_due sort) (terminal.Name n) = named sort n
+part_next (head_due h) x = head_next h x
+part_next (binder_due h) (terminal.Name n) = binder_named h (Some n)
+part_next (binder_due h) terminal.Wildcard = binder_named h None
+part_next (binder_colon_due h v) (terminal.Sign sign.Colon) = goes (level_behind h + 1) (in_term (as_param h v) (term_due (level_behind h + 1)))
+part_next (in_term purpose part) x = in_term_next (takes part x) purpose part x
 part_next part x = refuses
 
 -- the line of the first token of the command that has begun, and the fault

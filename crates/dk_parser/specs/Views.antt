@@ -1,5 +1,5 @@
 -- The parser and its parts as plain data.
-use Rattle.std.specs.Prelude.{◌≡◌, Result, Ok, Err}
+use Rattle.std.specs.Prelude.{◌≡◌, Result, Ok, Err, map}
 use Rattle.dk_model.specs.declared.code.Fault.{Fault}
 use Rattle.dk_model.specs.declared.code.Fault.TheVariants as fault
 use Rattle.dk_parser.specs.declared.frames.Place.{Place}
@@ -13,6 +13,9 @@ use Rattle.dk_parser.specs.declared.frames.Around.TheVariants as around
 use Rattle.dk_parser.specs.declared.frames.Frames.{Frames, On'}
 use Rattle.dk_parser.specs.declared.frames.Frames.TheVariants.{Bottom}
 use Rattle.dk_parser.specs.declared.term_part.TermPart.{TermPart}
+use Rattle.dk_parser.specs.declared.head.Head.{Head}
+use Rattle.dk_parser.specs.declared.part.Purpose.{Purpose}
+use Rattle.dk_parser.specs.declared.part.Purpose.TheVariants as purpose
 use Rattle.dk_parser.specs.declared.part.Part.{Part}
 use Rattle.dk_parser.specs.declared.part.Part.TheVariants as part
 use Rattle.dk_parser.specs.declared.part.PartStep.{PartStep}
@@ -20,7 +23,7 @@ use Rattle.dk_parser.specs.declared.part.PartStep.TheVariants as part_step
 use Rattle.dk_parser.specs.declared.parser.Parser.{Parser}
 use Rattle.dk_parser.specs.declared.parser.Step.{Step}
 use Rattle.dk_parser.specs.declared.parser.Step.TheVariants as step
-use Rattle.dk_parser.specs.Written.{written, written_form, written_command}
+use Rattle.dk_parser.specs.Written.{written, maybe_written, written_param, written_form, written_command}
 use Rattle.dk_parser.specs.Parsing as plain
 
 abbrev pub plain_place : Place → plain.Place
@@ -37,6 +40,7 @@ abbrev pub plain_frame : Frame → plain.Frame
 plain_frame (frame.Bracket s) = plain.bracket_frame (plain_slot s)
 plain_frame (frame.Arrow a) = plain.arrow_frame (written a)
 plain_frame (frame.Product v a) = plain.product_frame v (written a)
+plain_frame (frame.Bare v) = plain.bare_frame v
 plain_frame (frame.Annotated v a) = plain.annotated_frame v (written a)
 
 abbrev pub plain_around : Around → plain.Around
@@ -44,18 +48,27 @@ plain_around (around.Term a) = plain.around_term (written a)
 plain_around (around.Bracket s a) = plain.around_bracket (plain_slot s) (written a)
 
 abbrev pub plain_frames : Frames → plain.Frames
-plain_frames Bottom = plain.bottom
+plain_frames (Bottom level) = plain.bottom level
 plain_frames (On' d f p fs) = plain.on d (plain_frame f) (plain_frames fs)
 
 abbrev pub plain_term : TermPart → plain.TermPart
 plain_term t = record { frames = plain_frames t.frames; slot = plain_slot t.slot }
 
+abbrev pub plain_head : Head → plain.Head
+plain_head h = record { sort = h.sort; name = h.name; params = map written_param h.params }
+
+abbrev pub plain_purpose : Purpose → plain.Purpose
+plain_purpose (purpose.Param h v) = plain.as_param (plain_head h) v
+plain_purpose (purpose.Type h) = plain.as_type (plain_head h)
+plain_purpose (purpose.Body h a) = plain.as_body (plain_head h) (maybe_written a)
+
 abbrev pub plain_part : Part → plain.Part
 plain_part part.CommandDue = plain.command_due
-plain_part part.NameDue = plain.name_due
-plain_part (part.ColonDue sort name) = plain.colon_due sort name
-plain_part (part.InType sort name p) = plain.in_type sort name (plain_term p)
-plain_part (part.InBody name a p) = plain.in_body name (written a) (plain_term p)
+plain_part (part.NameDue sort) = plain.name_due sort
+plain_part (part.HeadDue h) = plain.head_due (plain_head h)
+plain_part (part.BinderDue h) = plain.binder_due (plain_head h)
+plain_part (part.BinderColonDue h v) = plain.binder_colon_due (plain_head h) v
+plain_part (part.InTerm u p) = plain.in_term (plain_purpose u) (plain_term p)
 
 abbrev pub plain_step : PartStep → plain.PartStep
 plain_step (part_step.Goes made p) = plain.goes made (plain_part p)

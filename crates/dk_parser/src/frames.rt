@@ -1,9 +1,9 @@
 //! What stands around the part of a term that is being read.
 ghost use Rattle.std.specs.Prelude.{◌≡◌, ◌+◌, IfOk, Some, option_map};
-ghost use Rattle.dk_parser.specs.Parsing.{around, atoms, binder_term, depth, in_frames, pushed, slot_binder, slot_more, slot_term, takes_atom, unwound, unwound_all};
+ghost use Rattle.dk_parser.specs.Parsing.{around, atoms, binder_term, depth, in_bracket, in_frames, pushed, slot_binder, slot_more, slot_term, takes_atom, unwound, unwound_all};
 ghost use Rattle.dk_parser.specs.Parsing as plain;
 ghost use Rattle.dk_parser.specs.Views.{plain_place, plain_around, plain_frame, plain_frames, plain_slot, plain_term};
-ghost use Rattle.dk_parser.specs.Written.{maybe_written, written, written_annotated, written_apply, written_arrow, written_product};
+ghost use Rattle.dk_parser.specs.Written.{maybe_written, written, written_annotated, written_apply, written_arrow, written_bare, written_product};
 
 use crate::RawTerm;
 use crate::term_part::TermPart;
@@ -41,6 +41,8 @@ pub enum Frame {
     Arrow(RawTerm),
     /// `x : A ->`.
     Product(Option<Listed<u8>>, RawTerm),
+    /// `x =>`.
+    Bare(Option<Listed<u8>>),
     /// `x : A =>`.
     Annotated(Option<Listed<u8>>, RawTerm),
 }
@@ -54,10 +56,11 @@ pub enum Around {
     Bracket(Slot, RawTerm),
 }
 
-/// The frames, the innermost first, each with the number of frames from it on.
+/// The frames, the innermost first, each with the level from it on.
 #[derive(Drop)]
 pub enum Frames {
-    Bottom,
+    /// The level that the term begins on.
+    Bottom(u64),
     On(u64, Frame, Box<Frames>),
 }
 
@@ -98,6 +101,13 @@ fn product(
     let a = Box::new(alloc, a)?;
     let b = Box::new(alloc, b)?;
     Ok(RawTerm::Prod(binder, a, b))
+}
+
+fn bare(alloc: Global, binder: Option<Listed<u8>>, b: RawTerm) -> Result<RawTerm, NoMemory>
+    ensures { IfOk result (λ t. written t ≡ written_bare binder (written b)) }
+{
+    let b = Box::new(alloc, b)?;
+    Ok(RawTerm::Abs(binder, None, b))
 }
 
 fn annotated(
@@ -198,13 +208,24 @@ impl Slot {
 }
 
 impl Frames {
-    /// How many there are.
+    /// The level within them.
     pub fn depth(&self) -> u64
         ensures { result ≡ depth (plain_frames self.now) }
     {
         match self {
-            Frames::Bottom => 0,
+            Frames::Bottom(level) => *level,
             Frames::On(depth, _, _) => *depth,
+        }
+    }
+
+    /// Whether a bracket is open. Recurses once for each arrow behind the last one.
+    pub fn in_bracket(&self) -> bool
+        ensures { result ≡ in_bracket (plain_frames self.now) }
+    {
+        match self {
+            Frames::Bottom(_) => false,
+            Frames::On(_, Frame::Bracket(_), _) => true,
+            Frames::On(_, _, rest) => rest.in_bracket(),
         }
     }
 
@@ -222,7 +243,7 @@ impl Frames {
         ensures { IfOk result (λ part. option_map plain_term part ≡ unwound (plain_frames self) (written a)) }
     {
         match self {
-            Frames::Bottom => {
+            Frames::Bottom(_) => {
                 drop(a);
                 Ok(None)
             }
@@ -242,7 +263,7 @@ impl Frames {
         ensures { IfOk result (λ term. maybe_written term ≡ unwound_all (plain_frames self) (written a)) }
     {
         match self {
-            Frames::Bottom => Ok(Some(a)),
+            Frames::Bottom(_) => Ok(Some(a)),
             Frames::On(_, frame, rest) => match frame.around(alloc, a) {
                 Ok(Around::Term(term)) => Box::into_inner(rest).unwind_all(alloc, term),
                 Ok(Around::Bracket(slot, a)) => {
@@ -335,6 +356,7 @@ impl Frame {
             Frame::Bracket(slot) => Ok(Around::Bracket(slot, a)),
             Frame::Arrow(b) => Ok(Around::Term(arrow(alloc, b, a)?)),
             Frame::Product(v, b) => Ok(Around::Term(product(alloc, v, b, a)?)),
+            Frame::Bare(v) => Ok(Around::Term(bare(alloc, v, a)?)),
             Frame::Annotated(v, b) => Ok(Around::Term(annotated(alloc, v, b, a)?)),
         }
     }

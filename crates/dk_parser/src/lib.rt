@@ -4,6 +4,7 @@
 #![tactic(auto)]
 
 mod frames;
+mod head;
 mod laws;
 mod parser;
 mod part;

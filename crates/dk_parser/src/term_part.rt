@@ -1,6 +1,6 @@
 //! Terms, one terminal at a time.
 ghost use Rattle.std.specs.Prelude.{◌≡◌, IfOk, option_map};
-ghost use Rattle.dk_parser.specs.Parsing.{framed, next_arrow, next_close, next_close_domain, next_colon, next_double_arrow, next_open, takes_atom, term_argument, term_done, term_due, term_next};
+ghost use Rattle.dk_parser.specs.Parsing.{framed, next_arrow, next_close, next_close_domain, next_colon, next_double_arrow, next_open, takes, takes_atom, term_argument, term_done, term_due, term_next};
 ghost use Rattle.dk_parser.specs.Views.{plain_frame, plain_frames, plain_slot, plain_term};
 ghost use Rattle.dk_parser.specs.Written.{maybe_written, written};
 
@@ -19,13 +19,31 @@ pub struct TermPart {
 }
 
 impl TermPart {
-    /// Before the first terminal.
-    pub fn new() -> TermPart
-        ensures { plain_term result ≡ term_due }
+    /// Before the first terminal, on this level.
+    pub fn new(level: u64) -> TermPart
+        ensures { plain_term result ≡ term_due level }
     {
         TermPart {
-            frames: Frames::Bottom,
+            frames: Frames::Bottom(level),
             slot: Slot::Due(Place::Front),
+        }
+    }
+
+    /// Whether this is a terminal of a term; a bracket that closes is one where one is open.
+    pub fn takes(&self, x: &Terminal) -> bool
+        ensures { result ≡ takes (plain_term self.now) x.now }
+    {
+        match x {
+            Terminal::Name(_) => true,
+            Terminal::Wildcard => true,
+            Terminal::Qualified(_, _) => true,
+            Terminal::Star => true,
+            Terminal::Sign(Sign::OpenBracket) => true,
+            Terminal::Sign(Sign::CloseBracket) => self.frames.in_bracket(),
+            Terminal::Sign(Sign::Colon) => true,
+            Terminal::Sign(Sign::Arrow) => true,
+            Terminal::Sign(Sign::DoubleArrow) => true,
+            _ => false,
         }
     }
 
@@ -183,6 +201,7 @@ fn double_arrow(alloc: Global, frames: Frames, slot: Slot) -> Result<Option<Term
         ≡ next_double_arrow (plain_frames frames) (plain_slot slot)) }
 {
     match slot {
+        Slot::Bindable(binder) => framed(alloc, Frame::Bare(binder), frames),
         Slot::Applied(place, a, _) => match place {
             Place::Domain(binder) => framed(alloc, Frame::Annotated(binder, a), frames),
             Place::Front => {

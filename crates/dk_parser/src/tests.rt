@@ -126,6 +126,38 @@ fn reads_up_to_the_first_fault(rt: HostRuntime) -> Result<(), Fail> {
         ("x : ( ( x : a ) ) -> b .", 0, Some(Code::E02), Some(1)),
         ("x : ( x : a ) => b .", 0, Some(Code::E02), Some(1)),
         ("x : m.n : a -> b .", 0, Some(Code::E02), Some(1)),
+        ("def id ( x : a ) : a := x .", 1, None, None),
+        (
+            "def y := x . def f : a -> a . def {|x|} : a := x .",
+            3,
+            None,
+            None,
+        ),
+        (
+            "thm t ( x : a ) ( y : b x ) : a := x => y => x .",
+            1,
+            None,
+            None,
+        ),
+        (
+            "def b ( x : A ) := t . c ( _ : A -> A ) : B .",
+            2,
+            None,
+            None,
+        ),
+        ("def k := ( x => _ => x : a => x ) z .", 1, None, None),
+        ("def c .", 0, Some(Code::E02), Some(1)),
+        ("def : a .", 0, Some(Code::E02), Some(1)),
+        ("thm t : a .", 0, Some(Code::E02), Some(1)),
+        ("c ( x : A ) .", 0, Some(Code::E02), Some(1)),
+        ("thm t := x .", 0, Some(Code::E02), Some(1)),
+        ("x : A := t .", 0, Some(Code::E02), Some(1)),
+        ("x := t .", 0, Some(Code::E02), Some(1)),
+        ("c ( x ) : A .", 0, Some(Code::E02), Some(1)),
+        ("c ( m.n : A ) : B .", 0, Some(Code::E02), Some(1)),
+        ("c ( x : A ) ) : B .", 0, Some(Code::E02), Some(1)),
+        ("def f := a b => c .", 0, Some(Code::E02), Some(1)),
+        ("def f : x => .", 0, Some(Code::E02), Some(1)),
     ] {
         let outcome = read(rt.alloc(), text)?;
         assert_eq!(rt; outcome.commands, commands, "at {text}");
@@ -180,6 +212,32 @@ fn ends_levels_and_arguments_at_the_limit(rt: HostRuntime) -> Result<(), Fail> {
         feed_times(alloc, &mut parser, "x : a", 1)?;
         feed_times(alloc, &mut parser, words, count)?;
         assert_eq!(rt; parser.finish(), Err(code), "at {count} of {words}");
+    }
+    Ok(())
+}
+
+#[test]
+fn counts_parameters_as_levels(rt: HostRuntime) -> Result<(), Fail> {
+    let alloc = rt.alloc();
+    for (words, levels, code) in [
+        ("c ( x : A ) ( y :", 2, Err(Code::E03)),
+        ("c ( x : A ) (", 1, Err(Code::E04)),
+        ("c ( x : A -> B ) : A .", 2, Ok(())),
+        ("c ( x : A -> B ) : A .", 1, Err(Code::E04)),
+        ("def c ( x : A ) : A -> A := a .", 2, Ok(())),
+        ("def c ( x : A ) : A -> A := a .", 1, Err(Code::E04)),
+        ("def c ( x : A ) : A := ( a ) .", 2, Ok(())),
+        ("def c ( x : A ) : A := ( a ) .", 1, Err(Code::E04)),
+        ("def c ( x : A ) := y => y .", 1, Err(Code::E04)),
+        ("def c ( x : A ) := y . def d ( x : A ) := y .", 1, Ok(())),
+    ] {
+        let limits = Limits {
+            levels,
+            ..Limits::standard()
+        };
+        let mut parser = Parser::new(alloc, limits)?;
+        feed_times(alloc, &mut parser, words, 1)?;
+        assert_eq!(rt; parser.finish(), code, "at {words} and {levels}");
     }
     Ok(())
 }

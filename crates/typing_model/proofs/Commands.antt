@@ -1,15 +1,15 @@
 -- A command that the plain check accepts has a derivation.
-use Rattle.std.proofs.Common.{[], ◌∷◌, ℕ, ◌≡◌, Option, Some, None, refl, sym as flip, subst as along}
+use Rattle.std.proofs.Common.{[], ℕ, ◌≡◌, Option, Some, None, refl}
 use Rattle.dk_model.specs.Trees.{Tree}
 use Rattle.dk_model.specs.Erasure.{erased}
-use Rattle.dk_model.specs.Signatures.{symbol_entry, rules_entry, PlainSignature}
-use Rattle.dk_model.specs.Scoping.{declare, rule_command}
+use Rattle.dk_model.specs.Signatures.{PlainSignature}
+use Rattle.dk_model.specs.Scoping.{declare}
 use Rattle.dk_model.specs.Typing.{Judged, answer, refused, ended, next, not_kind, as_sort, inferred, sort_of}
 use Rattle.dk_model.specs.Verdicts.{verdict, body_checked, body_type, declaration_checked}
 use Rattle.dk_model.specs.declared.code.Verdict.TheVariants.{Accepted}
 use Rattle.typing_model.specs.Derivations.{IsSort, IsDeclaredType, IsDeclaredBody, HasDerivation}
 use Rattle.typing_model.specs.Steps.{ReducesTo}
-use Rattle.typing_model.specs.Laws.{HasNoRules, AreNumberedRules, IsNumbered, WhnfReduces, ComparisonJoins, AcceptedHasDerivation}
+use Rattle.typing_model.specs.Laws.{WhnfReduces, ComparisonJoins, AcceptedHasDerivation}
 use Rattle.typing_model.proofs.Typing.{from_next, not_kind_is, sort_reduces, inferred_derives, checked_derives}
 
 from_accepted : {A : Type 0} (P : Type 0) (x : Judged A) → verdict x ≡ Accepted → ((a : A) (m : ℕ) → x ≡ answer a m → P) → P
@@ -38,10 +38,4 @@ module _ (S : PlainSignature) (W : WhnfReduces S) (C : ComparisonJoins S) where
   ))
 
   pub accepted_derives : AcceptedHasDerivation S
-  accepted_derives (declare s A b) budget e = from_accepted (HasDerivation S (declare s A b)) (declaration_checked S A b budget) e (λ u m h. declaration_derives A b budget m u h)
-  accepted_derives (rule_command rs) budget e = cc
-
-pub unruled_numbered : (S : PlainSignature) → HasNoRules S → IsNumbered S
-unruled_numbered [] h = tt
-unruled_numbered (symbol_entry s t b ∷ es) h = unruled_numbered es h.1
-unruled_numbered (rules_entry rs ∷ es) h = (along AreNumberedRules (flip h.0) tt, unruled_numbered es h.1)
+  accepted_derives s A b budget e = from_accepted (HasDerivation S (declare s A b)) (declaration_checked S A b budget) e (λ u m h. declaration_derives A b budget m u h)

@@ -7,4 +7,5 @@ pub mod Loose
 pub mod Rows
 pub mod Selection
 pub mod Rules
+pub mod Shapes
 pub mod Worked

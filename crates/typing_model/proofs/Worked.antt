@@ -45,4 +45,4 @@ abbrev theorem : PlainCommand
 theorem = declare Theorem (Some (apply (symbol 4) (same (symbol 1) (symbol 1)))) (Some (symbol 5))
 
 pub theorem_derives : HasDerivation repeated theorem
-theorem_derives = accepted_derives repeated (whnf_reduces repeated numbered) (comparison_joins repeated numbered) theorem 100 refl
+theorem_derives = accepted_derives repeated (whnf_reduces repeated numbered) (comparison_joins repeated numbered) Theorem (Some (apply (symbol 4) (same (symbol 1) (symbol 1)))) (Some (symbol 5)) 100 refl

@@ -1,15 +1,15 @@
 -- What the laws say: the answers of evaluation and of typing have the meaning that reduction and derivations give them.
-use Rattle.std.specs.Prelude.{ℕ, ◌≡◌, ◌<◌, Some, true, List, [], ◌∷◌}
+use Rattle.std.specs.Prelude.{ℕ, ◌≡◌, ◌<◌, Option, Some, true, List, [], ◌∷◌, ◌++◌}
 use Rattle.dk_model.specs.Trees.{Tree}
-use Rattle.dk_model.specs.Signatures.{Pattern, Patterns, no_patterns, more_patterns, rule_variable_pattern, wildcard_pattern, guard_pattern, symbol_pattern, variable_pattern, abstraction_pattern, PlainRule, symbol_entry, rules_entry, PlainSignature}
-use Rattle.dk_model.specs.Scoping.{PlainCommand}
+use Rattle.dk_model.specs.Signatures.{Pattern, Patterns, no_patterns, more_patterns, rule_variable_pattern, wildcard_pattern, guard_pattern, symbol_pattern, variable_pattern, abstraction_pattern, PlainRule, PlainEntry, symbol_entry, rules_entry, PlainSignature}
+use Rattle.dk_model.specs.Scoping.{PlainCommand, declare}
 use Rattle.dk_model.specs.Evaluation.{whnf_of, comparison_of, normal_of}
 use Rattle.dk_model.specs.Typing.{answer, inferred, checked}
-use Rattle.dk_model.specs.Verdicts.{verdict_of}
+use Rattle.dk_model.specs.Verdicts.{verdict_of, entry_of}
 use Rattle.dk_model.specs.declared.code.Verdict.TheVariants.{Accepted}
+use Rattle.dk_model.specs.declared.signature.SymSort.{SymSort}
 use Rattle.typing_model.specs.Steps.{ReducesTo, AreJoinable}
 use Rattle.typing_model.specs.Derivations.{Context, HasType, Fits, HasDerivation}
-pub use Rattle.dk_model.specs.Verdicts.{HasNoRules}
 
 abbrev mutual
   -- the rule variables of a pattern, outside its guards, are numbered below `vars`
@@ -32,6 +32,10 @@ AreNumbered vars (p ∷ ps) = IsNumberedPattern vars p × AreNumbered vars ps
 abbrev pub AreNumberedRules : List PlainRule → Type 0
 AreNumberedRules [] = Unit {0}
 AreNumberedRules (r ∷ rs) = AreNumbered r.vars r.pats × AreNumberedRules rs
+
+abbrev pub IsNumberedEntry : PlainEntry → Type 0
+IsNumberedEntry (symbol_entry s t b) = Unit {0}
+IsNumberedEntry (rules_entry rs) = AreNumberedRules rs
 
 -- each rule numbers the rule variables of its patterns below the count that it gives
 abbrev pub IsNumbered : PlainSignature → Type 0
@@ -59,9 +63,13 @@ InferredHasType S = (types : List Tree) (context : Context) (n m : ℕ) (t T : T
 abbrev pub CheckedFits : PlainSignature → Type 0
 CheckedFits S = (types : List Tree) (context : Context) (n m : ℕ) (t T : Tree) (u : Unit {0}) → checked S types context t T n ≡ answer u m → Fits S types context t T
 
--- a command that the plain check accepts has a derivation
+-- a declaration, definition or theorem that the plain check accepts has a derivation
 abbrev pub AcceptedHasDerivation : PlainSignature → Type 0
-AcceptedHasDerivation S = (command : PlainCommand) (budget : ℕ) → verdict_of S command budget ≡ Accepted → HasDerivation S command
+AcceptedHasDerivation S = (sort : SymSort) (typ body : Option Tree) (budget : ℕ) → verdict_of S (declare sort typ body) budget ≡ Accepted → HasDerivation S (declare sort typ body)
+
+-- the entry of a command is numbered, and numbered entries stay so with one more
+abbrev pub EntriesAreNumbered : PlainSignature → Type 0
+EntriesAreNumbered S = (command : PlainCommand) (typ : Option Tree) → IsNumbered S → IsNumbered (S ++ (entry_of S command typ ∷ []))
 
 -- no context gives the term a type
 abbrev pub HasNoType : PlainSignature → Tree → Type 0

@@ -2,13 +2,14 @@
 //!
 //! A caller that needs a law calls its function, whose clauses then stand among what is known.
 
+ghost use Rattle.std.specs.Prelude.{[]};
 ghost use Rattle.dk_model.specs.Trees.{bare, kind};
 ghost use Rattle.typing_model.specs.Laws.{
   AcceptedHasDerivation,
   CheckedFits,
   ComparisonJoins,
+  EntriesAreNumbered,
   HasNoType,
-  HasNoRules,
   InferredHasType,
   IsNumbered,
   NormalReduces,
@@ -34,18 +35,21 @@ pub fn typing_derives()
     // Proved by the structure of the term.
 }
 
-/// A command that the plain check accepts has a derivation over the signature of those before it.
+/// A declaration, definition or theorem that the plain check accepts has a derivation over the commands before it.
+///
+/// Of rules nothing is said: their types aren't looked at yet.
 pub fn accepted_has_derivation()
     ensures { (S : _) → IsNumbered S → AcceptedHasDerivation S }
 {
     // Proved for each command and budget.
 }
 
-/// A signature in which no symbol has rules, only bodies, meets the condition of the laws.
-pub fn without_rules_is_numbered()
-    ensures { (S : _) → HasNoRules S → IsNumbered S }
+/// The signature of accepted commands meets the condition of the laws: it holds of the empty one, and stays.
+pub fn entries_are_numbered()
+    ensures empty { IsNumbered [] }
+    ensures more { (S : _) → EntriesAreNumbered S }
 {
-    // Proved by the list of its entries.
+    // Proved by the shapes of the rules.
 }
 
 /// `Kind` has no type, and an abstraction without annotation none of its own.
