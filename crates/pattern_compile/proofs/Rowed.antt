@@ -1,0 +1,53 @@
+-- The patterns below a symbol, as a list.
+use Rattle.std.proofs.Common.{◌≡◌, ◌∙◌, ap, sym, refl, ℕ, List, [], ◌∷◌, map, Bool}
+use Rattle.std.specs.Prelude.{Option}
+use Rattle.dk_model.specs.Signatures.{Pattern, Patterns, more_patterns, symbol_pattern, variable_pattern, pattern_list, pattern, patterns}
+use Rattle.dk_model.specs.Shapes.{erased_pattern, erased_patterns, pattern_variables, patterns_variables}
+use Rattle.dk_model.specs.declared.signature.Pat.{Pat, Row_of-Pat, end_of-Pat, more_of-Pat, items-the_row-Pat}
+use Rattle.dk_model.specs.declared.signature.Pat.TheVariants.{Sym, Var}
+use Rattle.dk_model.specs.declared.signature.Pat.TheBlock.{hidden-the_row-Pat-0, items_hidden-the_row-Pat-0}
+use Rattle.pattern_compile.specs.Admitted.{as_patterns, plain_patterns}
+use Rattle.pattern_compile.specs.Marks.{marked}
+
+row_items : (n : _) (r : Row_of-Pat n) → patterns r ≡ plain_patterns (items-the_row-Pat n r)
+row_items n end_of-Pat = refl
+row_items n (more_of-Pat p r) = ap (λ (qs : Patterns). more_patterns (pattern p) qs) (row_items _ r)
+
+row_is : (ps : List Pat) → patterns (hidden-the_row-Pat-0 ps) ≡ plain_patterns ps
+row_is ps = row_items _ (hidden-the_row-Pat-0 ps) ∙ ap plain_patterns (items_hidden-the_row-Pat-0 ps)
+
+pub symbol_is : (k : ℕ) (ps : List Pat) → pattern (Sym k ps) ≡ symbol_pattern k (plain_patterns ps)
+symbol_is k ps = ap (symbol_pattern k) (row_is ps)
+
+pub variable_is : (k : ℕ) (ps : List Pat) → pattern (Var k ps) ≡ variable_pattern k (plain_patterns ps)
+variable_is k ps = ap (variable_pattern k) (row_is ps)
+
+pub listed_patterns : (ps : List Pattern) → pattern_list (as_patterns ps) ≡ ps
+listed_patterns [] = refl
+listed_patterns (p ∷ ps) = ap (λ (qs : List Pattern). p ∷ qs) (listed_patterns ps)
+
+-- ---- erasure
+
+erased_list : (ps : List Pattern) → erased_patterns (as_patterns ps) ≡ as_patterns (map erased_pattern ps)
+erased_list [] = refl
+erased_list (p ∷ ps) = ap (λ (qs : Patterns). more_patterns (erased_pattern p) qs) (erased_list ps)
+
+erased_arguments : (ps qs : List Pat) → map pattern qs ≡ map erased_pattern (map pattern ps) → plain_patterns qs ≡ erased_patterns (plain_patterns ps)
+erased_arguments ps qs e = ap as_patterns e ∙ sym (erased_list (map pattern ps))
+
+pub erased_symbol : (p : Pat) (k : ℕ) (ps qs : List Pat) → p ≡ Sym k ps → map pattern qs ≡ map erased_pattern (map pattern ps) → pattern (Sym k qs) ≡ erased_pattern (pattern p)
+erased_symbol p k ps qs is e =
+    symbol_is k qs ∙ ap (symbol_pattern k) (erased_arguments ps qs e) ∙ ap erased_pattern (sym (ap pattern is ∙ symbol_is k ps))
+
+pub erased_variable : (p : Pat) (k : ℕ) (ps qs : List Pat) → p ≡ Var k ps → map pattern qs ≡ map erased_pattern (map pattern ps) → pattern (Var k qs) ≡ erased_pattern (pattern p)
+erased_variable p k ps qs is e =
+    variable_is k qs ∙ ap (variable_pattern k) (erased_arguments ps qs e) ∙ ap erased_pattern (sym (ap pattern is ∙ variable_is k ps))
+
+-- ---- marks
+
+module _ (ms : List Bool) (o : Option (List Bool)) (p : Pat) (k : ℕ) (ps : List Pat) where
+  pub marked_symbol : p ≡ Sym k ps → marked ms (patterns_variables (plain_patterns ps)) ≡ o → marked ms (pattern_variables (pattern p)) ≡ o
+  marked_symbol is e = ap (λ (q : Pattern). marked ms (pattern_variables q)) (ap pattern is ∙ symbol_is k ps) ∙ e
+
+  pub marked_variable : p ≡ Var k ps → marked ms (patterns_variables (plain_patterns ps)) ≡ o → marked ms (pattern_variables (pattern p)) ≡ o
+  marked_variable is e = ap (λ (q : Pattern). marked ms (pattern_variables q)) (ap pattern is ∙ variable_is k ps) ∙ e
