@@ -3,4 +3,5 @@ pub mod Given
 pub mod Pending
 pub mod Contexts
 pub mod Spine
+pub mod Matrix
 pub mod Clauses

@@ -3,6 +3,7 @@
 //! Begin at `check_plain`.
 #![tactic(auto)]
 
+mod capture;
 mod check;
 mod compare;
 mod context;
@@ -12,6 +13,7 @@ mod fault;
 mod infer;
 pub mod laws;
 mod machine;
+mod matrix;
 
 pub use check::{add_entry, check_plain, enter_plain, entry_of, infer_plain, is_untyped};
 
