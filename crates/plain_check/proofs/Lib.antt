@@ -1,5 +1,10 @@
 mod Winding
 mod Turning
+mod Parts
+mod Choosing
+mod Through
+mod Trying
+mod Matched
 mod Comparing
 mod Contexts
 mod Judging

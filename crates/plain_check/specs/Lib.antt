@@ -4,4 +4,5 @@ pub mod Pending
 pub mod Contexts
 pub mod Spine
 pub mod Matrix
+pub mod Selecting
 pub mod Clauses

@@ -14,6 +14,8 @@ mod infer;
 pub mod laws;
 mod machine;
 mod matrix;
+mod normal;
+mod select;
 
 pub use check::{add_entry, check_plain, enter_plain, entry_of, infer_plain, is_untyped};
 
