@@ -5,3 +5,5 @@ mod Contexts
 mod Judging
 mod Spines
 mod Verdict
+mod Refining
+mod Sources
