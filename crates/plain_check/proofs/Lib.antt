@@ -7,3 +7,4 @@ mod Spines
 mod Verdict
 mod Refining
 mod Sources
+mod References

@@ -1,11 +1,11 @@
 -- The cells of a row, before and after a column has a value.
-use Rattle.std.proofs.Common.{List, [], ◌∷◌, ◌++◌, ◌≡◌, ◌+◌, ℕ, zero, suc, Option, Some, None, Bool, true, false, map, take, drop, get_or, refl, ap, ◌∙◌, sym as flip}
-use Rattle.std.proofs.lemmas.List.{map-append, length-map, take-map, drop-map}
-use Rattle.std.specs.Prelude.{slice_get, eqb, ◌&&◌, replicate, length, if◌then◌else◌}
+use Rattle.std.proofs.Common.{List, [], ◌∷◌, ◌++◌, ◌≡◌, ◌+◌, ◌<◌, ℕ, zero, suc, Option, Some, None, Bool, true, false, map, take, drop, get_or, refl, ap, ◌∙◌, sym as flip, arith}
+use Rattle.std.proofs.lemmas.List.{map-append, length-map, take-map, drop-map, drop_more}
+use Rattle.std.specs.Prelude.{eqb, ◌&&◌, length, if◌then◌else◌}
 use Rattle.dk_model.specs.Trees.{Tree, symbol, variable}
-use Rattle.dk_model.specs.Signatures.{Pattern, Patterns, rule_variable_pattern, wildcard_pattern, guard_pattern, symbol_pattern, variable_pattern, abstraction_pattern, pattern_list, pattern, patterns}
+use Rattle.dk_model.specs.Signatures.{Pattern, rule_variable_pattern, wildcard_pattern, guard_pattern, symbol_pattern, variable_pattern, abstraction_pattern, pattern_list, pattern, patterns}
 use Rattle.dk_model.specs.Spines.{head, arguments}
-use Rattle.dk_model.specs.Selection.{blank, cell, cell_at, refined, refined_rows, heads_same, is_bare}
+use Rattle.dk_model.specs.Selection.{blank, cell, cell_at, is_rigid, rigid_at, refined, refined_rows, heads_same}
 use Rattle.dk_model.specs.Selection.{Cell as PlainCell, Row as PlainRow}
 use Rattle.dk_model.specs.declared.signature.Pat.{Pat, Row_of-Pat, end_of-Pat, more_of-Pat, items-the_row-Pat}
 use Rattle.dk_model.specs.declared.signature.Pat.TheVariants.{Sym, Var}
@@ -22,6 +22,8 @@ row_items n (more_of-Pat p r) = ap (λ (l : List Pattern). pattern p ∷ l) (row
 
 pub listed : (ps : List Pat) → pattern_list (patterns (hidden-the_row-Pat-0 ps)) ≡ map pattern ps
 listed ps = row_items _ (hidden-the_row-Pat-0 ps) ∙ ap (map pattern) (items_hidden-the_row-Pat-0 ps)
+
+-- what its head takes, and what it asks of the parts
 
 module _ (v h : Tree) (p : Pat) (k n : ℕ) (ps : List Pat) (at_head : h ≡ head v) (counted : n ≡ length (arguments v)) where
   same_count : eqb n (length ps) ≡ eqb (length (arguments v)) (length (pattern_list (patterns (hidden-the_row-Pat-0 ps))))
@@ -50,6 +52,30 @@ pub cell_found : (cs : List Cell) (i : ℕ) → cell_at (map plain_cell cs) i �
 cell_found [] i = refl
 cell_found (x ∷ cs) zero = refl
 cell_found (x ∷ cs) (suc i) = cell_found cs i
+
+-- the first rigid cell, `i` cells on
+
+abbrev pub from_place : ℕ → Option ℕ → Option ℕ
+from_place i None = None
+from_place i (Some j) = Some (j + i)
+
+one_on : (i : ℕ) (o : Option ℕ) → from_place i (elim o [ None ↦ None | Some j ↦ Some (j + 1) ]) ≡ from_place (i + 1) o
+one_on i None = refl
+one_on i (Some j) = ap (λ (n : ℕ). Some n) (omega arith)
+
+first_rigid : (c : PlainCell) (cs : List PlainCell) (i : ℕ) → is_rigid c ≡ true → from_place i (rigid_at (c ∷ cs)) ≡ Some i
+first_rigid c cs i e = rw e (ap (λ (n : ℕ). Some n) (omega arith))
+
+first_loose : (c : PlainCell) (cs : List PlainCell) (i : ℕ) → is_rigid c ≡ false → from_place i (rigid_at (c ∷ cs)) ≡ from_place (i + 1) (rigid_at cs)
+first_loose c cs i e = rw e (one_on i (rigid_at cs))
+
+pub rigid_here : (cs : List Cell) (i : ℕ) (d : Cell) → i < length cs → is_rigid (plain_cell (get_or cs i d)) ≡ true
+    → from_place i (rigid_at (map plain_cell (drop i cs))) ≡ Some i
+rigid_here cs i d lt e = rw (drop_more cs i d lt) (first_rigid (plain_cell (get_or cs i d)) (map plain_cell (drop (i + 1) cs)) i e)
+
+pub rigid_later : (cs : List Cell) (i : ℕ) (d : Cell) → i < length cs → is_rigid (plain_cell (get_or cs i d)) ≡ false
+    → from_place i (rigid_at (map plain_cell (drop i cs))) ≡ from_place (i + 1) (rigid_at (map plain_cell (drop (i + 1) cs)))
+rigid_later cs i d lt e = rw (drop_more cs i d lt) (first_loose (plain_cell (get_or cs i d)) (map plain_cell (drop (i + 1) cs)) i e)
 
 -- the cells around it
 

@@ -1,36 +1,9 @@
 -- The rules of a symbol, over the list of all rules.
-use Rattle.std.proofs.Common.{List, [], ◌∷◌, ◌++◌, ◌≡◌, ℕ, Option, Some, None, Bool, true, false, refl, ap, ◌∙◌, sym as flip}
-use Rattle.std.proofs.lemmas.List.{append_assoc}
+use Rattle.std.proofs.Common.{List, [], ◌∷◌, ◌++◌, ◌≡◌, ℕ, Bool, true, false, refl, ap, ◌∙◌}
 use Rattle.std.specs.Prelude.{slice_get, eqb, if◌then◌else◌}
-use Rattle.dk_model.specs.Trees.{Tree}
-use Rattle.dk_model.specs.Signatures.{PlainRule, PlainEntry, symbol_entry, rules_entry, PlainSignature}
+use Rattle.dk_model.specs.Signatures.{PlainRule, symbol_entry, rules_entry, PlainSignature}
 use Rattle.dk_model.specs.Selection.{of_head, declared_rules, body_rule, rules_of}
-use Rattle.plain_check.specs.Machine.{body_at, entry_body}
 use Rattle.plain_check.specs.Matrix.{all_rules}
-
-abbrev body_in : Option PlainEntry → Option Tree
-body_in o = elim o [ None ↦ None | Some e ↦ entry_body e ]
-
-entry_given : (k : ℕ) (o : Option PlainEntry) (b : Tree) → body_in o ≡ Some b
-    → body_rule k o ≡ record { head = k; vars = 0; pats = []; notes = []; right = b } ∷ []
-entry_given k None b e = cc
-entry_given k (Some (symbol_entry s t None)) b e = cc
-entry_given k (Some (symbol_entry s t (Some a))) b e =
-    let q : a ≡ b = cc in ap (λ (x : Tree). record { head = k; vars = 0; pats = []; notes = []; right = x } ∷ []) q
-entry_given k (Some (rules_entry rs)) b e = cc
-
-entry_lacking : (k : ℕ) (o : Option PlainEntry) → body_in o ≡ None → body_rule k o ≡ []
-entry_lacking k None e = refl
-entry_lacking k (Some (symbol_entry s t None)) e = refl
-entry_lacking k (Some (symbol_entry s t (Some a))) e = cc
-entry_lacking k (Some (rules_entry rs)) e = refl
-
-module _ (S : PlainSignature) (k : ℕ) where
-  pub body_given : (b : Tree) → body_at S k ≡ Some b → body_rule k (slice_get S k) ≡ record { head = k; vars = 0; pats = []; notes = []; right = b } ∷ []
-  body_given b e = entry_given k (slice_get S k) b e
-
-  pub body_lacking : body_at S k ≡ None → body_rule k (slice_get S k) ≡ []
-  body_lacking e = entry_lacking k (slice_get S k) e
 
 joined_when : (b : Bool) (r : PlainRule) (xs ys zs : List PlainRule) → xs ≡ ys ++ zs → (if b then r ∷ xs else xs) ≡ (if b then r ∷ ys else ys) ++ zs
 joined_when true r xs ys zs e = ap (λ (l : List PlainRule). r ∷ l) e

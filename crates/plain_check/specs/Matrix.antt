@@ -1,5 +1,5 @@
 -- How the selecting code holds its captures and its matrix, as the plain data of a selection (docs/evaluation.md).
-use Rattle.std.specs.Prelude.{ℕ, ◌≡◌, ◌+◌, Option, Some, None, Bool, true, false, ◌&&◌, List, [], ◌∷◌, ◌++◌, map, replicate, eqb, length}
+use Rattle.std.specs.Prelude.{ℕ, ◌≡◌, Option, Bool, true, ◌&&◌, List, [], ◌∷◌, ◌++◌, map, replicate, eqb, length}
 use Rattle.std.specs.Borrow.{Bor}
 use Rattle.dk_model.specs.Trees.{Tree, symbol, variable, tree}
 use Rattle.dk_model.specs.Signatures.{symbol_pattern, variable_pattern, abstraction_pattern, pattern_list, pattern, maybe_tree, PlainRule, PlainEntry, symbol_entry, rules_entry, PlainSignature, plain_rule, plain_signature}

@@ -1,9 +1,8 @@
 //! A term taken apart: its head, and its arguments on a stack.
-ghost use Rattle.std.specs.Prelude.{◌≡◌, ◌+◌, ◌<◌, ◌≤◌, IfOk, MatchOption, Some, None, true, false};
+ghost use Rattle.std.specs.Prelude.{◌≡◌, IfOk, MatchOption, Some, None, true, false};
 ghost use Rattle.dk_model.specs.Trees.{tree};
 ghost use Rattle.dk_model.specs.Signatures.{plain_signature};
 ghost use Rattle.plain_check.specs.Machine.{trees, wound, is_application, body_at};
-ghost use Rattle.plain_check.specs.Spine.{behind_references, size, total_size};
 
 use dk_model::{Entry, NoMemory, Signature, Term, make_app};
 use std::alloc::Global;
@@ -22,28 +21,6 @@ pub fn unwind(term: Term, stack: &mut Vec<Term>) -> Result<Term, NoMemory>
                 head = Box::into_inner(f);
             }
             other => return Ok(other),
-        }
-    }
-}
-
-/// Takes an application apart by references: its arguments go onto the stack, the first one on top.
-#[tactic(auto, using(crate::proofs::Spines::references_pushed))]
-pub fn spine<'a>(alloc: Global, term: &'a Term) -> Result<(&'a Term, Vec<&'a Term>), NoMemory>
-    ensures term { IfOk result (λ s. wound (tree s.0.now) (behind_references s.1.items) ≡ tree term.now) }
-    ensures head { IfOk result (λ s. is_application (tree s.0.now) ≡ false) }
-    ensures size { IfOk result (λ s. size (tree s.0.now) + total_size (behind_references s.1.items) ≤ size (tree term.now)) }
-    ensures smaller { IfOk result (λ s. total_size (behind_references s.1.items) < size (tree term.now)) }
-{
-    let mut arguments = Vec::new(alloc);
-    let mut head = term;
-    loop {
-        match head {
-            Term::App(f, a) => {
-                let a: &'a Term = a;
-                arguments.push(a)?;
-                head = f;
-            }
-            other => return Ok((other, arguments)),
         }
     }
 }

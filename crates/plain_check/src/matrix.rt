@@ -7,10 +7,9 @@ ghost use Rattle.dk_model.specs.Trees.{tree, symbol, variable};
 ghost use Rattle.dk_model.specs.Signatures.{plain_signature, plain_rule, pattern as plain_pattern};
 ghost use Rattle.dk_model.specs.Spines.{head as head_of, arguments};
 ghost use Rattle.dk_model.specs.Selection.{blank, cell as pattern_cell, is_rigid, rigid_at, opened, heads_same, is_bare, cell_at, refined_rows, body_rule, rules_of, width, rows_for};
-ghost use Rattle.plain_check.specs.Machine.{body_at};
 ghost use Rattle.plain_check.specs.Matrix.{plain_cell, column, source_rule, row as row_of, rules_behind, AreRules, is_kept, cells_after};
 
-use crate::machine::{body_at, spine};
+use crate::infer::spine;
 use dk_model::{Entry, NoMemory, Pat, Rule, Signature, Term};
 use std::alloc::Global;
 
@@ -65,23 +64,17 @@ fn is_rigid(cell: &Cell) -> bool
 }
 
 /// The place of the first cell that asks for the head of its column.
+#[tactic(auto, using(crate::proofs::Refining::rigid_here, crate::proofs::Refining::rigid_later))]
 pub fn rigid_at(cells: &[Cell]) -> Option<usize>
     ensures value { result ≡ rigid_at (map plain_cell cells.now) }
     ensures within { IfSome result (λ i. i < length cells.now) }
 {
-    match cells {
-        [] => None,
-        [first, rest @ ..] => {
-            if is_rigid(first) {
-                Some(0)
-            } else {
-                match rigid_at(rest) {
-                    None => None,
-                    Some(at) => Some(at + 1),
-                }
-            }
+    for at in 0..cells.len() {
+        if is_rigid(&cells[at]) {
+            return Some(at);
         }
     }
+    None
 }
 
 /// The columns that a value opens: its body under one more binder, or its arguments.
@@ -110,7 +103,7 @@ fn body_column(alloc: Global, depth: u64, body: &Term) -> Result<Vec<Column>, No
 }
 
 /// A column at this depth for each argument.
-#[tactic(auto, using(crate::proofs::Winding::spine_arguments))]
+#[tactic(auto, using(crate::proofs::References::spine_arguments))]
 fn argument_columns(alloc: Global, depth: u64, term: &Term) -> Result<Vec<Column>, NoMemory>
     ensures { IfOk result (λ columns. map column columns.items ≡ map (λ a. (depth, a)) (arguments (tree term.now))) }
 {
@@ -306,7 +299,7 @@ fn refined_row<'a>(
 }
 
 /// The rows that are kept where the column at `at` has the value, each with the cells for its `count` parts put in.
-#[tactic(auto, using(crate::proofs::Winding::spine_head, crate::proofs::Winding::spine_count, crate::proofs::Refining::row_kept, crate::proofs::Refining::row_dropped))]
+#[tactic(auto, using(crate::proofs::References::spine_head, crate::proofs::References::spine_count, crate::proofs::Refining::row_kept, crate::proofs::Refining::row_dropped))]
 pub fn refined_rows<'a>(
     alloc: Global,
     value: &Term,
@@ -351,7 +344,6 @@ fn push_rules<'a>(rules: &mut Vec<&'a Rule>, declared: &'a [Rule]) -> Result<(),
 }
 
 /// The body of a definition as a rule.
-#[tactic(auto, using(crate::proofs::Sources::body_given, crate::proofs::Sources::body_lacking))]
 fn own_source<'a>(
     alloc: Global,
     signature: &'a Signature,
@@ -360,12 +352,12 @@ fn own_source<'a>(
     ensures { IfOk result (λ sources. map source_rule sources.items ≡ body_rule symbol (slice_get (plain_signature signature.now) symbol)) }
 {
     let mut sources = Vec::new(alloc);
-    match body_at(signature, symbol) {
-        Some(body) => {
-            sources.push(Source::Body(symbol, body))?;
+    match signature.entries.get(symbol as usize) {
+        Some(Entry::Symbol { body: Some(b), .. }) => {
+            sources.push(Source::Body(symbol, b))?;
             Ok(sources)
         }
-        None => Ok(sources),
+        _ => Ok(sources),
     }
 }
 
@@ -389,8 +381,8 @@ pub fn rules_of<'a>(
     Ok(sources)
 }
 
-/// How many patterns a rule has.
-pub fn pattern_count(source: &Source) -> usize
+/// How many arguments the patterns of a rule take.
+pub fn patterns_of(source: &Source) -> usize
     ensures { result ≡ length (source_rule source.now).pats }
 {
     match source {
@@ -405,7 +397,7 @@ pub fn width(count: usize, sources: &[Source]) -> usize
 {
     let mut width = 0;
     for source in sources {
-        let patterns = pattern_count(source);
+        let patterns = patterns_of(source);
         if patterns <= count && width < patterns {
             width = patterns;
         }
@@ -424,7 +416,7 @@ pub fn rows_for<'a>(
 {
     let mut rows = Vec::new(alloc);
     for source in sources {
-        if pattern_count(source) <= count {
+        if patterns_of(source) <= count {
             rows.push(row_for(alloc, width, source)?)?;
         }
     }

@@ -1,7 +1,4 @@
-use Rattle.std.proofs.Common.{◌≡◌, ◌∙◌, ◌++◌, ◌∷◌, ap, List, map}
-use Rattle.dk_model.specs.Signatures.{pattern}
-use Rattle.dk_model.specs.Selection.{blank, cell}
-use Rattle.dk_model.specs.declared.signature.Pat.{Pat}
+use Rattle.std.proofs.Common.{map}
 use Rattle.plain_check.specs.Matrix.{plain_cell}
 use Rattle.plain_check.proofs.Refining.{after_symbol, after_variable}
 use Rattle.plain_check.proofs.matrix.push_parts.Goals as goal

@@ -1,4 +1,4 @@
-use Rattle.std.proofs.Common.{◌≡◌, ◌∙◌, sym as flip}
+use Rattle.std.proofs.Common.{◌∙◌, sym as flip}
 use Rattle.dk_model.specs.Trees.{tree}
 use Rattle.plain_check.proofs.Refining.{takes_symbol, takes_variable}
 use Rattle.plain_check.proofs.matrix.takes.Goals as goal

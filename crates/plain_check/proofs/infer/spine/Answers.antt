@@ -1,7 +1,7 @@
 use Rattle.dk_model.specs.Trees.{tree}
 use Rattle.plain_check.specs.Spine.{behind_references}
 use Rattle.plain_check.proofs.Spines.{spine_size, arguments_smaller}
-use Rattle.plain_check.proofs.machine.spine.Goals as goal
+use Rattle.plain_check.proofs.infer.spine.Goals as goal
 
 pub returns-in_default-clause-size : goal.returns-in_default-clause-size
 returns-in_default-clause-size c = spine_size (tree c.loop-head.head.now) (tree c.args.term.now) (behind_references c.loop-head.arguments.items) c.loop-head.invariant
