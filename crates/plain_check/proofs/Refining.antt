@@ -12,16 +12,23 @@ use Rattle.dk_model.specs.declared.signature.Pat.TheVariants.{Sym, Var}
 use Rattle.dk_model.specs.declared.signature.Pat.TheBlock.{hidden-the_row-Pat-0, items_hidden-the_row-Pat-0}
 use Rattle.plain_check.specs.declared.matrix.Cell.{Cell}
 use Rattle.plain_check.specs.declared.matrix.Cell.TheVariants.{Blank}
-use Rattle.plain_check.specs.Matrix.{plain_cell, is_kept, cells_after}
+use Rattle.plain_check.specs.Matrix.{pattern_cell, plain_cell, is_kept, cells_after}
 
 -- the patterns below a symbol
+
+pub each_cell : (ps : List Pat) → map cell (map pattern ps) ≡ map pattern_cell ps
+each_cell [] = refl
+each_cell (p ∷ ps) = ap (λ (l : List PlainCell). pattern_cell p ∷ l) (each_cell ps)
 
 row_items : (n : _) (r : Row_of-Pat n) → pattern_list (patterns r) ≡ map pattern (items-the_row-Pat n r)
 row_items n end_of-Pat = refl
 row_items n (more_of-Pat p r) = ap (λ (l : List Pattern). pattern p ∷ l) (row_items _ r)
 
-pub listed : (ps : List Pat) → pattern_list (patterns (hidden-the_row-Pat-0 ps)) ≡ map pattern ps
+listed : (ps : List Pat) → pattern_list (patterns (hidden-the_row-Pat-0 ps)) ≡ map pattern ps
 listed ps = row_items _ (hidden-the_row-Pat-0 ps) ∙ ap (map pattern) (items_hidden-the_row-Pat-0 ps)
+
+listed_cells : (ps : List Pat) → map cell (pattern_list (patterns (hidden-the_row-Pat-0 ps))) ≡ map pattern_cell ps
+listed_cells ps = ap (map cell) (listed ps) ∙ each_cell ps
 
 -- what its head takes, and what it asks of the parts
 
@@ -39,12 +46,12 @@ module _ (v h : Tree) (p : Pat) (k n : ℕ) (ps : List Pat) (at_head : h ≡ hea
       let same : heads_same (head v) (variable k) ≡ true = ap (λ (t : Tree). heads_same t (variable k)) (flip at_head) ∙ q in
       same_count ∙ flip (ap (λ (x : Pat). is_kept v (cell (pattern x))) e ∙ ap (λ (b : Bool). b && eqb (length (arguments v)) (length (pattern_list (patterns (hidden-the_row-Pat-0 ps))))) same)
 
-module _ (old new : List PlainCell) (p : Pat) (n k : ℕ) (ps : List Pat) (parts : new ≡ old ++ blank ∷ map cell (map pattern ps)) where
+module _ (old new : List PlainCell) (p : Pat) (n k : ℕ) (ps : List Pat) (parts : new ≡ old ++ blank ∷ map pattern_cell ps) where
   pub after_symbol : p ≡ Sym k ps → new ≡ old ++ cells_after n (cell (pattern p))
-  after_symbol e = parts ∙ ap (λ (l : List Pattern). old ++ blank ∷ map cell l) (flip (listed ps)) ∙ flip (ap (λ (x : Pat). old ++ cells_after n (cell (pattern x))) e)
+  after_symbol e = parts ∙ ap (λ (l : List PlainCell). old ++ blank ∷ l) (flip (listed_cells ps)) ∙ flip (ap (λ (x : Pat). old ++ cells_after n (cell (pattern x))) e)
 
   pub after_variable : p ≡ Var k ps → new ≡ old ++ cells_after n (cell (pattern p))
-  after_variable e = parts ∙ ap (λ (l : List Pattern). old ++ blank ∷ map cell l) (flip (listed ps)) ∙ flip (ap (λ (x : Pat). old ++ cells_after n (cell (pattern x))) e)
+  after_variable e = parts ∙ ap (λ (l : List PlainCell). old ++ blank ∷ l) (flip (listed_cells ps)) ∙ flip (ap (λ (x : Pat). old ++ cells_after n (cell (pattern x))) e)
 
 -- the cell at a place
 

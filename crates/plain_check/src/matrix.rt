@@ -2,12 +2,12 @@
 //!
 //! A row is a rule with what it still asks of each column. Where a column gets a value, the rows that its head rules out
 //! are dropped, and the others ask of its parts what their patterns ask.
-ghost use Rattle.std.specs.Prelude.{◌≡◌, ◌+◌, ◌-◌, ◌<◌, ◌++◌, [], ◌∷◌, IfOk, IfSome, length, map, take, drop, slice_get, replicate};
+ghost use Rattle.std.specs.Prelude.{◌≡◌, ◌+◌, ◌<◌, ◌++◌, [], ◌∷◌, IfOk, IfSome, length, map, take, drop, replicate};
 ghost use Rattle.dk_model.specs.Trees.{tree, symbol, variable};
-ghost use Rattle.dk_model.specs.Signatures.{plain_signature, plain_rule, pattern as plain_pattern};
+ghost use Rattle.dk_model.specs.Signatures.{plain_signature, plain_rule};
 ghost use Rattle.dk_model.specs.Spines.{head as head_of, arguments};
-ghost use Rattle.dk_model.specs.Selection.{blank, cell as pattern_cell, is_rigid, rigid_at, opened, heads_same, is_bare, cell_at, refined_rows, body_rule, rules_of, width, rows_for};
-ghost use Rattle.plain_check.specs.Matrix.{plain_cell, column, source_rule, row as row_of, rules_behind, AreRules, is_kept, cells_after};
+ghost use Rattle.dk_model.specs.Selection.{blank, cell, is_rigid, rigid_at, opened, heads_same, is_bare, cell_at, refined_rows, rules_of, width, rows_for};
+ghost use Rattle.plain_check.specs.Matrix.{pattern_cell, plain_cell, column, source_rule, row as row_of, rules_behind, AreRules, is_kept, cells_after, refined_cells, first_cells, own_rules, Appends};
 
 use crate::infer::spine;
 use dk_model::{Entry, NoMemory, Pat, Rule, Signature, Term};
@@ -183,7 +183,7 @@ fn is_bare(term: &Term) -> bool
 fn takes(value: &Term, head: &Term, count: usize, pattern: &Pat) -> bool
     requires head { tree head.now ≡ head_of (tree value.now) }
     requires count { count ≡ length (arguments (tree value.now)) }
-    ensures { result ≡ is_kept (tree value.now) (pattern_cell (plain_pattern pattern.now)) }
+    ensures { result ≡ is_kept (tree value.now) (pattern_cell pattern.now) }
 {
     match pattern {
         Pat::Sym(k, patterns) => is_symbol(head, *k) && count == patterns.len(),
@@ -209,7 +209,7 @@ fn is_kept(value: &Term, head: &Term, count: usize, cell: &Cell) -> bool
 
 /// Cells that ask for nothing.
 fn push_blanks(cells: &mut Vec<Cell>, count: usize) -> Result<(), NoMemory>
-    ensures { IfOk result (λ _. map plain_cell cells.new.items ≡ map plain_cell cells.old.items ++ replicate count blank) }
+    ensures { IfOk result (λ _. Appends cells.old cells.new (replicate count blank)) }
 {
     for _i in 0..count {
         cells.push(Cell::Blank)?;
@@ -219,7 +219,7 @@ fn push_blanks(cells: &mut Vec<Cell>, count: usize) -> Result<(), NoMemory>
 
 /// A cell for each pattern.
 fn push_patterns<'a>(cells: &mut Vec<Cell<'a>>, patterns: &'a [Pat]) -> Result<(), NoMemory>
-    ensures { IfOk result (λ _. map plain_cell cells.new.items ≡ map plain_cell cells.old.items ++ map pattern_cell (map plain_pattern patterns.now)) }
+    ensures { IfOk result (λ _. Appends cells.old cells.new (map pattern_cell patterns.now)) }
 {
     for pattern in patterns {
         cells.push(Cell::Pattern(pattern))?;
@@ -229,7 +229,7 @@ fn push_patterns<'a>(cells: &mut Vec<Cell<'a>>, patterns: &'a [Pat]) -> Result<(
 
 /// Nothing for a value, and a cell for the pattern of each of its parts.
 fn push_list<'a>(cells: &mut Vec<Cell<'a>>, patterns: &'a [Pat]) -> Result<(), NoMemory>
-    ensures { IfOk result (λ _. map plain_cell cells.new.items ≡ map plain_cell cells.old.items ++ blank ∷ map pattern_cell (map plain_pattern patterns.now)) }
+    ensures { IfOk result (λ _. Appends cells.old cells.new (blank ∷ map pattern_cell patterns.now)) }
 {
     cells.push(Cell::Blank)?;
     push_patterns(cells, patterns)
@@ -237,7 +237,7 @@ fn push_list<'a>(cells: &mut Vec<Cell<'a>>, patterns: &'a [Pat]) -> Result<(), N
 
 /// The cells for a value that the pattern takes, and for its `count` parts.
 fn push_parts<'a>(cells: &mut Vec<Cell<'a>>, count: usize, pattern: &'a Pat) -> Result<(), NoMemory>
-    ensures { IfOk result (λ _. map plain_cell cells.new.items ≡ map plain_cell cells.old.items ++ cells_after count (pattern_cell (plain_pattern pattern.now))) }
+    ensures { IfOk result (λ _. Appends cells.old cells.new (cells_after count (pattern_cell pattern.now))) }
 {
     match pattern {
         Pat::Sym(_, patterns) => {
@@ -262,7 +262,7 @@ fn push_parts<'a>(cells: &mut Vec<Cell<'a>>, count: usize, pattern: &'a Pat) -> 
 
 /// This cell, and nothing for the `count` parts.
 fn push_kept<'a>(cells: &mut Vec<Cell<'a>>, count: usize, cell: Cell<'a>) -> Result<(), NoMemory>
-    ensures { IfOk result (λ _. map plain_cell cells.new.items ≡ map plain_cell cells.old.items ++ plain_cell cell.entry ∷ replicate count blank) }
+    ensures { IfOk result (λ _. Appends cells.old cells.new (plain_cell cell.entry ∷ replicate count blank)) }
 {
     cells.push(cell)?;
     push_blanks(cells, count)
@@ -270,7 +270,7 @@ fn push_kept<'a>(cells: &mut Vec<Cell<'a>>, count: usize, cell: Cell<'a>) -> Res
 
 /// The cells of a kept row for the value and its `count` parts.
 fn push_after<'a>(cells: &mut Vec<Cell<'a>>, count: usize, cell: Cell<'a>) -> Result<(), NoMemory>
-    ensures { IfOk result (λ _. map plain_cell cells.new.items ≡ map plain_cell cells.old.items ++ cells_after count (plain_cell cell.entry)) }
+    ensures { IfOk result (λ _. Appends cells.old cells.new (cells_after count (plain_cell cell.entry))) }
 {
     match cell {
         Cell::Blank => push_kept(cells, count, Cell::Blank),
@@ -285,7 +285,7 @@ fn refined_row<'a>(
     at: usize,
     row: &Row<'a>,
 ) -> Result<Row<'a>, NoMemory>
-    ensures cells { IfOk result (λ r. (row_of r).0 ≡ take at (row_of row.now).0 ++ cells_after count (cell_at (row_of row.now).0 at) ++ drop (at + 1) (row_of row.now).0) }
+    ensures cells { IfOk result (λ r. (row_of r).0 ≡ refined_cells count at (row_of row.now).0) }
     ensures rule { IfOk result (λ r. (row_of r).1 ≡ (row_of row.now).1) }
 {
     let old = row.cells.as_slice();
@@ -349,7 +349,7 @@ fn own_source<'a>(
     signature: &'a Signature,
     symbol: u32,
 ) -> Result<Vec<Source<'a>>, NoMemory>
-    ensures { IfOk result (λ sources. map source_rule sources.items ≡ body_rule symbol (slice_get (plain_signature signature.now) symbol)) }
+    ensures { IfOk result (λ own. map source_rule own.items ≡ own_rules (plain_signature signature.now) symbol) }
 {
     let mut sources = Vec::new(alloc);
     match signature.entries.get(symbol as usize) {
@@ -425,20 +425,29 @@ pub fn rows_for<'a>(
 
 /// A rule's patterns, and nothing for the columns that are left of the `width`.
 fn row_for<'a>(alloc: Global, width: usize, source: &Source<'a>) -> Result<Row<'a>, NoMemory>
-    ensures cells { IfOk result (λ r. (row_of r).0 ≡ map pattern_cell (source_rule source.now).pats ++ replicate (width - length (source_rule source.now).pats) blank) }
+    ensures cells { IfOk result (λ r. (row_of r).0 ≡ first_cells width (source_rule source.now)) }
     ensures rule { IfOk result (λ r. (row_of r).1 ≡ source_rule source.now) }
 {
     let mut cells = Vec::new(alloc);
-    match source {
-        Source::Body(..) => push_blanks(&mut cells, width)?,
-        Source::Rule(rule) => {
-            let rule: &'a Rule = rule;
-            push_patterns(&mut cells, rule.pats.as_slice())?;
-            push_blanks(&mut cells, width.saturating_sub(rule.pats.len()))?;
-        }
-    }
+    push_source(&mut cells, source)?;
+    push_blanks(&mut cells, width.saturating_sub(patterns_of(source)))?;
     Ok(Row {
         cells,
         source: *source,
     })
+}
+
+/// A cell for each pattern of a rule.
+#[tactic(auto, using(crate::proofs::Refining::each_cell))]
+fn push_source<'a>(cells: &mut Vec<Cell<'a>>, source: &Source<'a>) -> Result<(), NoMemory>
+    ensures { IfOk result (λ _. Appends cells.old cells.new (map cell (source_rule source.now).pats)) }
+{
+    match source {
+        Source::Body(..) => Ok(()),
+        Source::Rule(rule) => {
+            let rule: &'a Rule = rule;
+            push_patterns(cells, rule.pats.as_slice())?;
+            Ok(())
+        }
+    }
 }
