@@ -10,3 +10,6 @@ mod Contexts
 mod Judging
 mod Spines
 mod Verdict
+mod Refining
+mod Sources
+mod References

@@ -16,7 +16,7 @@ use std::alloc::Global;
 
 /// Takes an application apart by references: its arguments go onto the stack, the first one on top.
 #[tactic(auto, using(crate::proofs::Spines::references_pushed))]
-fn spine<'a>(alloc: Global, term: &'a Term) -> Result<(&'a Term, Vec<&'a Term>), NoMemory>
+pub fn spine<'a>(alloc: Global, term: &'a Term) -> Result<(&'a Term, Vec<&'a Term>), NoMemory>
     ensures term { IfOk result (λ s. wound (tree s.0.now) (behind_references s.1.items) ≡ tree term.now) }
     ensures head { IfOk result (λ s. is_application (tree s.0.now) ≡ false) }
     ensures size { IfOk result (λ s. size (tree s.0.now) + total_size (behind_references s.1.items) ≤ size (tree term.now)) }
