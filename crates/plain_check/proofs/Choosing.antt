@@ -8,7 +8,10 @@ use Rattle.dk_model.specs.Units.{Units, bind}
 use Rattle.dk_model.specs.Selection.{Column, Captures, Row, Cell, cell_at, refined, select_from, tried, rigid_at, opened, refined_rows}
 use Rattle.dk_model.specs.Evaluation.{whnf_of, comparison_of, normal_of, selection_of}
 use Rattle.dk_model.proofs.Turns.{selection_is}
-use Rattle.plain_check.specs.Selecting.{first_rigid, columns_after, rows_after, Advanced, Stuck}
+use Rattle.std.proofs.Common.{Err}
+use Rattle.plain_check.specs.declared.fault.Stop.{Stop}
+use Rattle.plain_check.specs.declared.fault.Stop.TheVariants.{Ended, NoMemory}
+use Rattle.plain_check.specs.Selecting.{first_rigid, columns_after, rows_after, Advanced, Stuck, GivesTried, GivesChoice}
 
 module _ (S : PlainSignature) where
   abbrev from : List Row → List Column → ℕ → Units (Option (Captures × PlainRule))
@@ -85,6 +88,11 @@ module _ (S : PlainSignature) where
 
   pub advance_ends : (at n : ℕ) (cols : List Column) (k : Column) → slice_get cols at ≡ Some k → whnf_of S n k.1 ≡ None → Stuck S at cols n
   advance_ends at n cols k e q = record { place = k; was = e; ended = q }
+
+pub no_choice : (o : Units (Option Captures × List Column)) (x : Units (Option (Captures × PlainRule))) (e : Stop) (m : ℕ) (cols : List Column)
+    → (o ≡ None → x ≡ None) → GivesTried o (Err e) cols m → GivesChoice x (Err e) m
+no_choice o x Ended m cols f h = f h
+no_choice o x NoMemory m cols f h = tt
 
 -- no row is added
 

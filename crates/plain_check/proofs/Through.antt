@@ -5,7 +5,11 @@ use Rattle.dk_model.specs.Trees.{Tree}
 use Rattle.dk_model.specs.Signatures.{rule_variable_pattern, wildcard_pattern, guard_pattern, symbol_pattern, variable_pattern, abstraction_pattern}
 use Rattle.dk_model.specs.Units.{Units, bind}
 use Rattle.dk_model.specs.Selection.{Captures, Cell, blank, cell, Column, at_cell, through, guarded}
-use Rattle.plain_check.specs.Selecting.{guard_of}
+use Rattle.std.proofs.Common.{Err}
+use Rattle.plain_check.specs.declared.fault.Stop.{Stop}
+use Rattle.plain_check.specs.declared.fault.Stop.TheVariants.{Ended, NoMemory}
+use Rattle.plain_check.specs.Given.{GivesBool}
+use Rattle.plain_check.specs.Selecting.{guard_of, GivesCell, GivesThrough}
 
 abbrev pub behind : List Column → Units (Option Captures × List Column) → Units (Option Captures × List Column)
 behind pre x = bind x (λ r j. Some ((r.0, pre ++ r.1), j))
@@ -122,3 +126,14 @@ module _ (N : ℕ → Tree → Units Tree) (C : ℕ → Tree → Tree → Units 
   guards_met (x ∷ cells) [] (suc i) n cs e = absurd (omega arith)
   guards_met (x ∷ cells) (k ∷ cols) zero n cs e = absurd (omega arith)
   guards_met (x ∷ cells) (k ∷ cols) (suc i) n cs e = guards_met cells cols i n cs (omega arith)
+
+-- a call that gives no answer
+
+pub no_pass : (o : Units (Option Captures × Column)) (x : Units (Option Captures × List Column)) (e : Stop) (m : ℕ) (k : Column) (ks : List Column) (cs cs' : Captures)
+    → (o ≡ None → x ≡ None) → GivesCell o (Err e) k cs m → GivesThrough x (Err e) ks cs' m
+no_pass o x Ended m k ks cs cs' f h = f h
+no_pass o x NoMemory m k ks cs cs' f h = tt
+
+pub no_guard : (o x : Units Bool) (e : Stop) (m : ℕ) → (o ≡ None → x ≡ None) → GivesBool o (Err e) m → GivesBool x (Err e) m
+no_guard o x Ended m f h = f h
+no_guard o x NoMemory m f h = tt

@@ -10,7 +10,7 @@ ghost use Rattle.plain_check.specs.Clauses.{Evaluates, TakesTurn, Rewrites, AreC
 use crate::capture::filled;
 use crate::fault::Stop;
 use crate::machine::{first_columns, unwind, wind};
-use crate::matrix::{Column, Row, Source, rows_for, rules_of, width};
+use crate::matrix::{Column, Row, Source, patterns_of, rows_for, rules_of, width};
 use crate::select::select;
 use dk_model::{NoMemory, Rule, Signature, Term};
 use std::alloc::Global;
@@ -152,16 +152,6 @@ fn put_right(
     let kept = stack.len().saturating_sub(patterns_of(source));
     stack.truncate(kept);
     unwind(right, stack)
-}
-
-/// How many arguments the patterns of a rule take.
-fn patterns_of(source: &Source) -> usize
-    ensures { result ≡ length (source_rule source.now).pats }
-{
-    match source {
-        Source::Body(_, _) => 0,
-        Source::Rule(rule) => rule.pats.len(),
-    }
 }
 
 fn right_of<'a>(source: &Source<'a>) -> &'a Term

@@ -5,7 +5,7 @@ use Rattle.plain_check.proofs.select.take_column.Goals as goal
 
 pub returns-clause-before : goal.returns-clause-before
 returns-clause-before c = before_column column c.args.columns.now.items c.remove-taken.new.self.items c.args.at
-    (c.remove-taken.ensures.by_index.1.1 ∙ ap (λ l. take c.args.at l ++ drop (c.args.at + 1) l) c.in_ok-behind.ensures.items)
+    (c.remove-taken.ensures.by_index.2 ∙ ap (λ l. take c.args.at l ++ drop (c.args.at + 1) l) c.in_ok-behind.ensures.items)
 
 pub returns-clause-taken : goal.returns-clause-taken
 returns-clause-taken c = taken_column column c.args.columns.now.items c.args.at (c.args.at + 1) c.remove-taken.result (omega arith) (omega arith)
