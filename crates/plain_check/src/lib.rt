@@ -20,4 +20,6 @@ mod select;
 pub use check::{add_entry, check_plain, enter_plain, entry_of, infer_plain, is_untyped};
 
 #[cfg(test)]
+mod rule_tests;
+#[cfg(test)]
 mod tests;

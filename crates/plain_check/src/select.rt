@@ -135,7 +135,7 @@ fn put_columns(
     parts: Vec<Column>,
     behind: Vec<Column>,
 ) -> Result<(), NoMemory>
-    ensures { OnOk result (map column columns.new.items ≡ map column columns.old.items ++ (column evaluated ∷ map column parts.items ++ map column behind.items)) }
+    ensures { OnOk result (map column columns.new.items ≡ map column columns.old.items ++ column evaluated ∷ map column parts.items ++ map column behind.items) }
 {
     let mut parts = parts;
     let mut behind = behind;

@@ -35,11 +35,13 @@ select::advance-returns-clause-gives t c =
     let l : length (map column c.in_ok-parts.parts.items) ≡ length c.in_ok-parts.parts.items = length-map c.in_ok-parts.parts.items column in
     let p : length (map column c.in_ok-parts.parts.items) ≡ length (opened c.in_ok-taken.taken.depth (tree c.in-Ok.value)) = ap length c.in_ok-parts.ensures in
     let n : c.len.result ≡ length (opened c.in_ok-taken.taken.depth (tree c.in-Ok.value)) = omega (arith, l, p, c.len.ensures, c.in_ok-parts.parts.ok.0) in
+    let s : map column c.put_columns.new.columns.items ≡ map column c.take_column.new.columns.items ++ (c.in_ok-taken.taken.depth, tree c.in-Ok.value) ∷ map column c.in_ok-parts.parts.items ++ map column c.in_ok-taken.behind.items
+        = c.in_ok-put_columns.ensures in
     advance_goes (plain_signature c.args.signature.now) c.args.at c.args.left.now c.whnf.new.left (map column c.args.columns.now.items) (map column c.take_column.new.columns.items) (map column c.in_ok-taken.behind.items)
     (map column c.put_columns.new.columns.items) (map row c.args.rows.items) (map row c.in_ok-kept.kept.items) (column c.in_ok-taken.taken) (tree c.in-Ok.value)
     c.in_ok-taken.ensures.taken c.in_ok-taken.ensures.before c.in_ok-taken.ensures.behind c.in-Ok.ensures.gives c.in-Ok.ensures.turned
     (c.in_ok-kept.ensures ∙ ap (λ j. refined_rows (tree c.in-Ok.value) j c.args.at (map row c.args.rows.items)) n)
-    (c.in_ok-put_columns.ensures ∙ ap (λ (k : List Column). map column c.take_column.new.columns.items ++ (c.in_ok-taken.taken.depth, tree c.in-Ok.value) ∷ k ++ map column c.in_ok-taken.behind.items) c.in_ok-parts.ensures)
+    (s ∙ ap (λ (k : List Column). map column c.take_column.new.columns.items ++ (c.in_ok-taken.taken.depth, tree c.in-Ok.value) ∷ k ++ map column c.in_ok-taken.behind.items) c.in_ok-parts.ensures)
 
 -- a capture
 
