@@ -1,10 +1,10 @@
 -- The rounds of a selection.
-use Rattle.std.proofs.Common.{List, [], ◌∷◌, ◌++◌, take, drop, map, length, ℕ, zero, suc, ◌≡◌, ◌-◌, ◌<◌, ◌≤◌, ◌+◌, Bool, true, false, Option, Some, None, refl, ap, ◌∙◌, sym as flip, arith, get_or}
-use Rattle.std.specs.Prelude.{slice_get, if◌then◌else◌}
+use Rattle.std.proofs.Common.{List, [], ◌∷◌, ◌++◌, take, drop, map, length, ℕ, zero, suc, ◌≡◌, ◌<◌, ◌≤◌, ◌+◌, Option, Some, None, refl, ap, ◌∙◌, sym as flip, arith, get_or}
+use Rattle.std.specs.Prelude.{slice_get}
 use Rattle.std.proofs.lemmas.List.{append-nil, take-take}
 use Rattle.dk_model.specs.Trees.{Tree}
 use Rattle.dk_model.specs.Signatures.{PlainRule, PlainSignature}
-use Rattle.dk_model.specs.Units.{Units, bind}
+use Rattle.dk_model.specs.Units.{Units}
 use Rattle.dk_model.specs.Selection.{Column, Captures, Row, Cell, cell_at, refined, select_from, tried, rigid_at, opened, refined_rows}
 use Rattle.dk_model.specs.Evaluation.{whnf_of, comparison_of, normal_of, selection_of}
 use Rattle.dk_model.proofs.Turns.{selection_is}

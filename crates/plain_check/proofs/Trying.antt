@@ -1,8 +1,8 @@
 -- The attempt at one row.
-use Rattle.std.proofs.Common.{List, ℕ, ◌≡◌, Bool, true, false, Option, Some, None, refl, ap, ◌∙◌}
-use Rattle.std.specs.Prelude.{replicate, if◌then◌else◌}
+use Rattle.std.proofs.Common.{List, ℕ, ◌≡◌, Bool, true, false, Some, None, refl}
+use Rattle.std.specs.Prelude.{replicate}
 use Rattle.dk_model.specs.Trees.{Tree}
-use Rattle.dk_model.specs.Units.{Units, bind}
+use Rattle.dk_model.specs.Units.{Units}
 use Rattle.dk_model.specs.Selection.{Captures, Row, Column, through, guarded, tried}
 
 module _ (N : ℕ → Tree → Units Tree) (C : ℕ → Tree → Tree → Units Bool) (r : Row) (cols : List Column) (n : ℕ) where

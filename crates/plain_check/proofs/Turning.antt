@@ -1,14 +1,14 @@
 -- The turns of the weak head form.
-use Rattle.std.proofs.Common.{List, [], ◌∷◌, ◌++◌, ◌≡◌, ◌-◌, ◌<◌, ◌≤◌, ◌+◌, ℕ, zero, suc, Bool, true, false, Option, Some, None, refl, ap, ◌∙◌, sym as flip, arith, length, take, drop, map, max}
+use Rattle.std.proofs.Common.{List, [], ◌∷◌, ◌++◌, ◌≡◌, ◌-◌, ◌<◌, ◌≤◌, ℕ, zero, suc, Bool, true, false, Option, Some, None, refl, ap, ◌∙◌, sym as flip, arith, length, take, drop, map, max}
 use Rattle.std.specs.Prelude.{nat_lt, if◌then◌else◌}
 use Rattle.std.proofs.lemmas.Bool.{ltb-false}
 use Rattle.dk_model.specs.Trees.{Tree, symbol, apply, bare, tree}
 use Rattle.dk_model.specs.Substitution.{substitute}
 use Rattle.dk_model.specs.Signatures.{PlainRule, PlainSignature}
 use Rattle.dk_model.specs.Units.{Units, bind}
-use Rattle.dk_model.specs.Spines.{contraction, head_symbol, body_of, arguments, applied}
-use Rattle.dk_model.specs.Selection.{rules_of, rows_for, width, filled, Captures, Column}
-use Rattle.dk_model.specs.Evaluation.{whnf_of, selection_of, columns, rows, rewritten}
+use Rattle.dk_model.specs.Spines.{contraction, head_symbol, body_of, applied}
+use Rattle.dk_model.specs.Selection.{rules_of, rows_for, width, filled, Captures}
+use Rattle.dk_model.specs.Evaluation.{whnf_of, selection_of, columns, rows}
 use Rattle.dk_model.specs.declared.term.Term.{Term}
 use Rattle.dk_model.proofs.Turns.{whnf_contracts, whnf_stands as whnf_stands_there, whnf_selects, after_selection}
 use Rattle.plain_check.specs.Machine.{trees, wound, from_top, unbound, is_application, is_stuck, taken, rewritten_by, rewritten_head, turn_of}

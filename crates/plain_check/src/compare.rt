@@ -13,7 +13,7 @@ use std::alloc::Global;
 
 /// Whether the two are convertible, as evaluation finds it. Each pair that is compared takes a unit.
 #[cycle(evaluation)]
-#[tactic(auto, using(crate::proofs::Comparing::pending_pushed, crate::proofs::Comparing::one_pair, crate::proofs::Comparing::pair_ends, crate::proofs::Comparing::pair_equal, crate::proofs::Comparing::first_ends, crate::proofs::Comparing::second_ends, crate::proofs::Comparing::heads_differ, crate::proofs::Comparing::parts_follow))]
+#[tactic(auto, using(crate::proofs::Comparing::none_left, crate::proofs::Comparing::both_equal, crate::proofs::Comparing::pending_pushed, crate::proofs::Comparing::one_pair, crate::proofs::Comparing::pair_ends, crate::proofs::Comparing::pair_equal, crate::proofs::Comparing::first_ends, crate::proofs::Comparing::second_ends, crate::proofs::Comparing::heads_differ, crate::proofs::Comparing::parts_follow))]
 pub fn same(
     alloc: Global,
     signature: &Signature,
@@ -26,6 +26,14 @@ pub fn same(
     ensures gives { Compares signature.now t.now u.now left.old result left.new }
     ensures spent { left.new ≤ left.old }
 {
+    if *left == 0 {
+        return Err(Stop::Ended);
+    }
+    // Most terms are the same letter by letter, and need no copy.
+    if t.equal(u) {
+        *left -= 1;
+        return Ok(true);
+    }
     let mut work = pair(alloc, t, u)?;
     while let Some(pair) = work.pop() {
         if *left == 0 {

@@ -108,9 +108,12 @@ fn rewrite(
 {
     let (columns, rows) = matrix_of(alloc, signature, rules, symbol, stack.as_slice())?;
     match select(alloc, signature, rules, columns, rows, left) {
-        Ok(Some((captures, source))) => Ok(Turn::Goes(
-            put_right(alloc, captures.as_slice(), &source, stack)?,
-        )),
+        Ok(Some((captures, source))) => Ok(Turn::Goes(put_right(
+            alloc,
+            captures.as_slice(),
+            &source,
+            stack,
+        )?)),
         Ok(None) => Ok(Turn::Stands(Term::Sym(symbol))),
         Err(stop) => Err(stop),
     }

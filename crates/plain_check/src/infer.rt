@@ -196,7 +196,8 @@ fn apply(
         Ok(function) => function,
         Err(fault) => return Err(fault),
     };
-    match check(alloc, signature, rules, context, argument, &function.domain, left) {
+    let domain = &function.domain;
+    match check(alloc, signature, rules, context, argument, domain, left) {
         Ok(()) => {}
         Err(fault) => return Err(fault),
     }
@@ -254,7 +255,15 @@ fn check_bare(
         Err(fault) => return Err(fault),
     };
     context.bind(expected.domain)?;
-    match check(alloc, signature, rules, context, body, &expected.codomain, left) {
+    match check(
+        alloc,
+        signature,
+        rules,
+        context,
+        body,
+        &expected.codomain,
+        left,
+    ) {
         Ok(()) => {}
         Err(fault) => return Err(fault),
     }
@@ -293,7 +302,15 @@ fn check_annotated(
         Err(fault) => return Err(fault),
     }
     context.bind(expected.domain)?;
-    match check(alloc, signature, rules, context, body, &expected.codomain, left) {
+    match check(
+        alloc,
+        signature,
+        rules,
+        context,
+        body,
+        &expected.codomain,
+        left,
+    ) {
         Ok(()) => {}
         Err(fault) => return Err(fault),
     }

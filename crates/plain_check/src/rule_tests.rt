@@ -3,26 +3,37 @@ use crate::compare::same;
 use crate::evaluate::whnf;
 use crate::fault::Stop;
 use crate::matrix::rules_in;
-use dk_model::{
-    Entry, Listed, NoMemory, Pat, Rule, Signature, SymSort, Term, make_app, make_bare,
-};
+use dk_model::{Entry, Listed, NoMemory, Pat, Rule, Signature, SymSort, Term, make_app, make_bare};
 use std::alloc::Global;
 use std::test::Fail;
 
 // The symbols, by number: `Type` serves as the type of each, since evaluation reads none.
 const Z: u32 = 0;
+
 const S: u32 = 1;
+
 const PLUS: u32 = 2;
+
 const EQ: u32 = 3;
+
 const C: u32 = 4;
+
 const FIRST: u32 = 5;
+
 const LATER: u32 = 6;
+
 const TWICE: u32 = 7;
+
 const GUARDED: u32 = 8;
+
 const CONSTANT: u32 = 9;
+
 const BODY: u32 = 10;
+
 const APPLIED: u32 = 11;
+
 const OVER: u32 = 12;
+
 const SYMBOLS: usize = 13;
 
 fn call(alloc: Global, symbol: u32, argument: Term) -> Result<Term, NoMemory> {
@@ -189,7 +200,13 @@ fn takes(alloc: Global, number: usize, units: u64) -> Result<bool, NoMemory> {
     let rules = rules_in(alloc, &signature)?;
     let (term, value) = row(alloc, number)?;
     let mut left = units - 1;
-    let short = whnf(alloc, &signature, rules.as_slice(), term.copy(alloc)?, &mut left);
+    let short = whnf(
+        alloc,
+        &signature,
+        rules.as_slice(),
+        term.copy(alloc)?,
+        &mut left,
+    );
     let mut left = units;
     match whnf(alloc, &signature, rules.as_slice(), term, &mut left) {
         Ok(found) => Ok(found.equal(&value) && left == 0 && matches!(&short, Err(Stop::Ended))),
@@ -230,7 +247,14 @@ fn sums_are_compared_by_their_parts(rt: HostRuntime) -> Result<(), Fail> {
     let other = call_two(alloc, EQ, sum, numeral(alloc, 4)?)?;
     for (units, expected) in [(19, Err(Stop::Ended)), (20, Ok(true))] {
         let mut left = units;
-        let found = same(alloc, &signature, rules.as_slice(), &four, &other, &mut left);
+        let found = same(
+            alloc,
+            &signature,
+            rules.as_slice(),
+            &four,
+            &other,
+            &mut left,
+        );
         assert_eq!(rt; found, expected, "at {units}");
         assert_eq!(rt; left, 0, "at {units}");
     }

@@ -15,6 +15,7 @@ use crate::matrix::{Cell, Column, Row, Source, opened, refined_rows, rigid_at};
 use crate::normal::normal;
 use dk_model::{NoMemory, Pat, Rule, Signature, Term};
 use std::alloc::Global;
+use std::mem;
 
 /// The first row that takes the columns: its captures and its rule.
 #[cycle(evaluation)]
@@ -167,7 +168,15 @@ fn tried(
         Ok(false) => return Ok(None),
         Err(stop) => return Err(stop),
     }
-    match guarded(alloc, signature, rules, cells, columns.as_slice(), captures.as_slice(), left) {
+    match guarded(
+        alloc,
+        signature,
+        rules,
+        cells,
+        columns.as_slice(),
+        captures.as_slice(),
+        left,
+    ) {
         Ok(true) => Ok(Some(captures)),
         Ok(false) => Ok(None),
         Err(stop) => Err(stop),
@@ -210,7 +219,15 @@ fn through(
     ensures spent { left.new ≤ left.old }
 {
     for i in 0..cells.len().min(columns.len()) {
-        match at_cell(alloc, signature, rules, &cells[i], &mut columns[i], captures, left) {
+        match at_cell(
+            alloc,
+            signature,
+            rules,
+            &cells[i],
+            &mut columns[i],
+            captures,
+            left,
+        ) {
             Ok(true) => {}
             Ok(false) => return Ok(false),
             Err(stop) => return Err(stop),
@@ -236,7 +253,9 @@ fn at_cell(
 {
     match cell {
         Cell::Blank => Ok(true),
-        Cell::Pattern(pattern) => at_pattern(alloc, signature, rules, pattern, column, captures, left),
+        Cell::Pattern(pattern) => at_pattern(
+            alloc, signature, rules, pattern, column, captures, left,
+        ),
     }
 }
 
@@ -292,7 +311,8 @@ fn escape(
     ensures spent { left.new ≤ left.old }
 {
     if strays(0, column.depth, listed, &column.term)? {
-        match normal(alloc, signature, rules, column.term.copy(alloc)?, left) {
+        let part = mem::replace(&mut column.term, Term::Star);
+        match normal(alloc, signature, rules, part, left) {
             Ok(term) => {
                 let stray = strays(0, column.depth, listed, &term)?;
                 column.term = term;
@@ -352,7 +372,15 @@ fn guarded(
     ensures spent { left.new ≤ left.old }
 {
     for i in 0..cells.len().min(columns.len()) {
-        match guard_at(alloc, signature, rules, &cells[i], &columns[i], captures, left) {
+        match guard_at(
+            alloc,
+            signature,
+            rules,
+            &cells[i],
+            &columns[i],
+            captures,
+            left,
+        ) {
             Ok(true) => {}
             Ok(false) => return Ok(false),
             Err(stop) => return Err(stop),

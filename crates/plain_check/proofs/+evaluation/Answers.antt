@@ -1,4 +1,4 @@
-use Rattle.std.proofs.Common.{◌≡◌, ◌∙◌, ◌<◌, ◌++◌, ◌∷◌, List, map, length, min, None, Some, arith, sym as flip, ap, ◌+◌}
+use Rattle.std.proofs.Common.{◌≡◌, ◌∙◌, ◌<◌, ◌++◌, ◌∷◌, List, map, length, min, None, Some, arith, sym as flip, ap}
 use Rattle.std.proofs.lemmas.List.{map-set, length-map}
 use Rattle.dk_model.specs.Trees.{tree}
 use Rattle.dk_model.specs.Signatures.{plain_signature}
@@ -36,7 +36,7 @@ select::advance-returns-clause-gives t c =
     let p : length (map column c.in_ok-parts.parts.items) ≡ length (opened c.in_ok-taken.taken.depth (tree c.in-Ok.value)) = ap length c.in_ok-parts.ensures in
     let n : c.len.result ≡ length (opened c.in_ok-taken.taken.depth (tree c.in-Ok.value)) = omega (arith, l, p, c.len.ensures, c.in_ok-parts.parts.ok.0) in
     let s : map column c.put_columns.new.columns.items ≡ map column c.take_column.new.columns.items ++ (c.in_ok-taken.taken.depth, tree c.in-Ok.value) ∷ map column c.in_ok-parts.parts.items ++ map column c.in_ok-taken.behind.items
-        = c.in_ok-put_columns.ensures in
+    = c.in_ok-put_columns.ensures in
     advance_goes (plain_signature c.args.signature.now) c.args.at c.args.left.now c.whnf.new.left (map column c.args.columns.now.items) (map column c.take_column.new.columns.items) (map column c.in_ok-taken.behind.items)
     (map column c.put_columns.new.columns.items) (map row c.args.rows.items) (map row c.in_ok-kept.kept.items) (column c.in_ok-taken.taken) (tree c.in-Ok.value)
     c.in_ok-taken.ensures.taken c.in_ok-taken.ensures.before c.in_ok-taken.ensures.behind c.in-Ok.ensures.gives c.in-Ok.ensures.turned
@@ -75,7 +75,7 @@ select::through-returns-in-Ok-false-clause-gives t c =
     let gk = got column c.loop-i.columns.items c.loop-i.i c.index_mut.result.now lt' c.index_mut.ensures.value in
     let h = rw c.in-Ok-false.field-0-test at c.in-Ok-false.ensures.gives in
     flip c.loop-i.invariant.same ∙ rw map-set (fails_at (normal_of (plain_signature c.args.signature.now)) (comparison_of (plain_signature c.args.signature.now)) (map plain_cell c.args.cells.now) (map column c.loop-i.columns.items)
-        c.loop-i.i c.loop-i.left c.at_cell.new.left (captures_of c.loop-i.captures.items) (plain_cell c.index-cells-i.result) (column c.index_mut.result.now) (column c.at_cell.new.column) gx gk h)
+    c.loop-i.i c.loop-i.left c.at_cell.new.left (captures_of c.loop-i.captures.items) (plain_cell c.index-cells-i.result) (column c.index_mut.result.now) (column c.at_cell.new.column) gx gk h)
 
 pub select::through-returns-in-Err-clause-gives : goal.select::through-returns-in-Err-clause-gives
 select::through-returns-in-Err-clause-gives t c =
@@ -84,7 +84,7 @@ select::through-returns-in-Err-clause-gives t c =
     let gx = got plain_cell c.args.cells.now c.loop-i.i c.index-cells-i.result lt c.index-cells-i.is in
     let gk = got column c.loop-i.columns.items c.loop-i.i c.index_mut.result.now lt' c.index_mut.ensures.value in
     no_pass _ _ c.in-Err.stop _ _ _ _ _ (λ h. flip c.loop-i.invariant.same ∙ ends_at (normal_of (plain_signature c.args.signature.now)) (comparison_of (plain_signature c.args.signature.now)) (map plain_cell c.args.cells.now)
-        (map column c.loop-i.columns.items) c.loop-i.i c.loop-i.left (captures_of c.loop-i.captures.items) (plain_cell c.index-cells-i.result) (column c.index_mut.result.now) gx gk h) c.in-Err.ensures.gives
+    (map column c.loop-i.columns.items) c.loop-i.i c.loop-i.left (captures_of c.loop-i.captures.items) (plain_cell c.index-cells-i.result) (column c.index_mut.result.now) gx gk h) c.in-Err.ensures.gives
 
 pub select::through-returns-clause-gives : goal.select::through-returns-clause-gives
 select::through-returns-clause-gives t c =
@@ -92,7 +92,7 @@ select::through-returns-clause-gives t c =
     let b : length (map column c.loop-i.columns.items) ≡ length c.loop-i.columns.items = length-map c.loop-i.columns.items column in
     let e : c.loop-i.i ≡ min (length (map plain_cell c.args.cells.now)) (length (map column c.loop-i.columns.items)) = omega (arith, a, b, c.loop-i.columns.ok.0, c.min-i-end.ensures, c.loop-i.invariant.long) in
     flip c.loop-i.invariant.same ∙ passed_all (normal_of (plain_signature c.args.signature.now)) (comparison_of (plain_signature c.args.signature.now)) (map plain_cell c.args.cells.now) (map column c.loop-i.columns.items)
-        c.loop-i.i c.loop-i.left (captures_of c.loop-i.captures.items) e
+    c.loop-i.i c.loop-i.left (captures_of c.loop-i.captures.items) e
 
 -- the guards of a row
 
@@ -117,7 +117,7 @@ select::guarded-returns-in-Ok-false-clause-gives t c =
     let gk = got column c.args.columns.now c.loop-i.i c.index-columns-i.result lt' c.index-columns-i.is in
     let h = rw c.in-Ok-false.field-0-test at c.in-Ok-false.ensures.gives in
     flip c.loop-i.invariant.same ∙ guard_fails (normal_of (plain_signature c.args.signature.now)) (comparison_of (plain_signature c.args.signature.now)) (map plain_cell c.args.cells.now) (map column c.args.columns.now)
-        c.loop-i.i c.loop-i.left c.guard_at.new.left (captures_of c.args.captures.now) (plain_cell c.index-cells-i.result) (column c.index-columns-i.result) gx gk h
+    c.loop-i.i c.loop-i.left c.guard_at.new.left (captures_of c.args.captures.now) (plain_cell c.index-cells-i.result) (column c.index-columns-i.result) gx gk h
 
 pub select::guarded-returns-in-Err-clause-gives : goal.select::guarded-returns-in-Err-clause-gives
 select::guarded-returns-in-Err-clause-gives t c =
@@ -126,7 +126,7 @@ select::guarded-returns-in-Err-clause-gives t c =
     let gx = got plain_cell c.args.cells.now c.loop-i.i c.index-cells-i.result lt c.index-cells-i.is in
     let gk = got column c.args.columns.now c.loop-i.i c.index-columns-i.result lt' c.index-columns-i.is in
     no_guard _ _ c.in-Err.stop _ (λ h. flip c.loop-i.invariant.same ∙ guard_ends (normal_of (plain_signature c.args.signature.now)) (comparison_of (plain_signature c.args.signature.now)) (map plain_cell c.args.cells.now)
-        (map column c.args.columns.now) c.loop-i.i c.loop-i.left (captures_of c.args.captures.now) (plain_cell c.index-cells-i.result) (column c.index-columns-i.result) gx gk h) c.in-Err.ensures.gives
+    (map column c.args.columns.now) c.loop-i.i c.loop-i.left (captures_of c.args.captures.now) (plain_cell c.index-cells-i.result) (column c.index-columns-i.result) gx gk h) c.in-Err.ensures.gives
 
 pub select::guarded-returns-clause-gives : goal.select::guarded-returns-clause-gives
 select::guarded-returns-clause-gives t c =
@@ -134,4 +134,4 @@ select::guarded-returns-clause-gives t c =
     let b : length (map column c.args.columns.now) ≡ length c.args.columns.now = length-map c.args.columns.now column in
     let e : c.loop-i.i ≡ min (length (map plain_cell c.args.cells.now)) (length (map column c.args.columns.now)) = omega (arith, a, b, c.min-i-end.ensures) in
     flip c.loop-i.invariant.same ∙ guards_met (normal_of (plain_signature c.args.signature.now)) (comparison_of (plain_signature c.args.signature.now)) (map plain_cell c.args.cells.now) (map column c.args.columns.now)
-        c.loop-i.i c.loop-i.left (captures_of c.args.captures.now) e
+    c.loop-i.i c.loop-i.left (captures_of c.args.captures.now) e

@@ -1,4 +1,4 @@
-use Rattle.std.proofs.Common.{◌≡◌, ◌≤◌, ◌<◌, ◌+◌, ◌*◌, map, length, vec_len, false}
+use Rattle.std.proofs.Common.{◌≡◌, ◌≤◌, ◌+◌, ◌*◌, map, vec_len, false}
 use Rattle.dk_model.specs.Trees.{tree}
 use Rattle.dk_model.specs.Signatures.{plain_signature}
 use Rattle.dk_model.specs.Selection.{each_normal, through, guarded}

@@ -1,4 +1,4 @@
-use Rattle.std.proofs.Common.{arith, ap, ◌∙◌, ◌+◌, take, drop, ◌++◌, ◌≡◌, ◌<◌, length, slice_index_or}
+use Rattle.std.proofs.Common.{arith, ap, ◌∙◌, ◌+◌, take, drop, ◌++◌, slice_index_or}
 use Rattle.plain_check.specs.Matrix.{column}
 use Rattle.plain_check.proofs.Choosing.{before_column, behind_column, taken_column}
 use Rattle.plain_check.proofs.select.take_column.Goals as goal
