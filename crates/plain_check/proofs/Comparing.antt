@@ -54,6 +54,13 @@ module _ (S : PlainSignature) where
   pub pair_ends : (t u : Tree) (rest : List (Tree × Tree)) → comparisons S ((t, u) ∷ rest) 0 ≡ None
   pair_ends t u rest = refl
 
+  pub none_left : (t u : Tree) → comparison_of S 0 t u ≡ None
+  none_left t u = refl
+
+  pub both_equal : (n : ℕ) (t u : Tree) → 0 < n → equal t u ≡ true → comparison_of S n t u ≡ Some (true, n - 1)
+  both_equal zero t u h e = absurd (omega arith)
+  both_equal (suc n) t u h e = comparison_is S n t u ∙ simp e (ap (λ m. Some (true, m)) (omega arith))
+
   pub pair_equal : (n : ℕ) (t u : Tree) (rest : List (Tree × Tree)) → 0 < n → equal t u ≡ true → comparisons S ((t, u) ∷ rest) n ≡ comparisons S rest (n - 1)
   pair_equal zero t u rest h e = absurd (omega arith)
   pair_equal (suc n) t u rest h e =

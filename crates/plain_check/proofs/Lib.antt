@@ -1,7 +1,15 @@
 mod Winding
 mod Turning
+mod Parts
+mod Choosing
+mod Through
+mod Trying
+mod Matched
 mod Comparing
 mod Contexts
 mod Judging
 mod Spines
 mod Verdict
+mod Refining
+mod Sources
+mod References

@@ -1,19 +1,18 @@
--- The turns of the weak head form, where no entry has a rule.
-use Rattle.std.proofs.Common.{List, [], ◌∷◌, ◌++◌, ◌≡◌, ◌-◌, ◌<◌, ◌+◌, ℕ, zero, suc, true, false, Option, Some, None, refl, ap, ◌∙◌, sym as flip, arith, length}
-use Rattle.std.specs.Prelude.{slice_get, nat_lt}
-use Rattle.std.proofs.lemmas.Bool.{le-ltb}
-use Rattle.dk_model.specs.Trees.{Tree, star, kind, symbol, variable, rule_variable, apply, bare, annotated, product, tree}
+-- The turns of the weak head form.
+use Rattle.std.proofs.Common.{List, [], ◌∷◌, ◌++◌, ◌≡◌, ◌-◌, ◌<◌, ◌≤◌, ℕ, zero, suc, Bool, true, false, Option, Some, None, refl, ap, ◌∙◌, sym as flip, arith, length, take, drop, map, max}
+use Rattle.std.specs.Prelude.{nat_lt, if◌then◌else◌}
+use Rattle.std.proofs.lemmas.Bool.{ltb-false}
+use Rattle.dk_model.specs.Trees.{Tree, symbol, apply, bare, tree}
 use Rattle.dk_model.specs.Substitution.{substitute}
-use Rattle.dk_model.specs.Signatures.{PlainRule, PlainEntry, symbol_entry, rules_entry, PlainSignature}
-use Rattle.dk_model.specs.Units.{bind}
-use Rattle.dk_model.specs.Spines.{contraction, head_symbol, body_of, arguments, applied}
-use Rattle.dk_model.specs.Selection.{rules_of, declared_rules, body_rule, filled}
-use Rattle.dk_model.specs.Evaluation.{whnf_of, selection_of, columns, rows, rewritten}
-use Rattle.dk_model.specs.Verdicts.{HasNoRules}
+use Rattle.dk_model.specs.Signatures.{PlainRule, PlainSignature}
+use Rattle.dk_model.specs.Units.{Units, bind}
+use Rattle.dk_model.specs.Spines.{contraction, head_symbol, body_of, applied}
+use Rattle.dk_model.specs.Selection.{rules_of, rows_for, width, filled, Captures}
+use Rattle.dk_model.specs.Evaluation.{whnf_of, selection_of, columns, rows}
 use Rattle.dk_model.specs.declared.term.Term.{Term}
-use Rattle.dk_model.proofs.Turns.{whnf_contracts, whnf_stands as whnf_stands_there, whnf_selects, selection_is, after_selection}
-use Rattle.plain_check.specs.Machine.{trees, wound, is_application, is_stuck, body_at, entry_body, turn_of, unfolded, unfolded_head}
-use Rattle.plain_check.proofs.Winding.{wound_pushed}
+use Rattle.dk_model.proofs.Turns.{whnf_contracts, whnf_stands as whnf_stands_there, whnf_selects, after_selection}
+use Rattle.plain_check.specs.Machine.{trees, wound, from_top, unbound, is_application, is_stuck, taken, rewritten_by, rewritten_head, turn_of}
+use Rattle.plain_check.proofs.Winding.{wound_pushed, arguments_wound, length_from_top}
 
 -- a head and its arguments
 
@@ -33,36 +32,21 @@ contraction_wound : (t : Tree) (xs : List Tree) → is_application t ≡ false �
 contraction_wound t [] e q = contraction_alone t e
 contraction_wound t (x ∷ xs) e q = rw (body_wound t xs q, contraction_wound t xs e q, contraction) refl
 
-arguments_alone : (t : Tree) → is_application t ≡ false → arguments t ≡ []
-arguments_alone (apply f a) e = cc
-arguments_alone t e = refl
-
-applied_more : (t : Tree) (xs : List Tree) (a : Tree) → applied t (xs ++ (a ∷ [])) ≡ apply (applied t xs) a
-applied_more t [] a = refl
-applied_more t (x ∷ xs) a = applied_more (apply t x) xs a
-
-applied_wound : (b t : Tree) (xs : List Tree) → is_application t ≡ false → applied b (arguments (wound t xs)) ≡ wound b xs
-applied_wound b t [] e = ap (applied b) (arguments_alone t e)
-applied_wound b t (x ∷ xs) e = applied_more b (arguments (wound t xs)) x ∙ ap (λ (u : Tree). apply u x) (applied_wound b t xs e)
-
--- the turns
-
 contraction_bare : (b : Tree) (ts : List Term) (a : Term) → contraction (wound (apply (bare b) (tree a)) (trees ts)) ≡ Some (wound (substitute 0 (tree a) b) (trees ts))
 contraction_bare b [] a = refl
 contraction_bare b (x ∷ ts) a = rw (body_wound (apply (bare b) (tree a)) (trees ts) refl, contraction_bare b ts a, contraction) refl
 
-module _ (S : PlainSignature) where
-  pub turn_bare : (b : Tree) (ts : List Term) (a : Term) → turn_of S (wound (bare b) (trees (ts ++ (a ∷ [])))) ≡ Some (wound (substitute 0 (tree a) b) (trees ts))
+-- one turn
+
+module _ (S : PlainSignature) (n : ℕ) where
+  pub turn_bare : (b : Tree) (ts : List Term) (a : Term) → turn_of S n (wound (bare b) (trees (ts ++ (a ∷ [])))) ≡ Some (Some (wound (substitute 0 (tree a) b) (trees ts)), n)
   turn_bare b ts a = rw (wound_pushed (bare b) ts a) (rw (contraction_bare b ts a, turn_of) refl)
 
-  turned_head : (t : Tree) (xs : List Tree) → is_application t ≡ false → body_of t ≡ None → turn_of S (wound t xs) ≡ unfolded_head S (wound t xs) (head_symbol t)
-  turned_head t xs e q = rw (contraction_wound t xs e q, turn_of) (ap (unfolded_head S (wound t xs)) (head_wound t xs))
+  turned_head : (t : Tree) (xs : List Tree) → is_application t ≡ false → body_of t ≡ None → turn_of S n (wound t xs) ≡ rewritten_head S n (wound t xs) (head_symbol t)
+  turned_head t xs e q = rw (contraction_wound t xs e q, turn_of) (ap (rewritten_head S n (wound t xs)) (head_wound t xs))
 
-  pub turn_body : (k : ℕ) (b : Tree) (xs : List Tree) → body_at S k ≡ Some b → turn_of S (wound (symbol k) xs) ≡ Some (wound b xs)
-  turn_body k b xs e = turned_head (symbol k) xs refl refl ∙ ap (unfolded (wound (symbol k) xs)) e ∙ ap (λ (u : Tree). Some u) (applied_wound b (symbol k) xs refl)
-
-  pub turn_no_body : (k : ℕ) (xs : List Tree) → body_at S k ≡ None → turn_of S (wound (symbol k) xs) ≡ None
-  turn_no_body k xs e = turned_head (symbol k) xs refl refl ∙ ap (unfolded (wound (symbol k) xs)) e
+  pub turn_symbol : (k : ℕ) (xs : List Tree) → turn_of S n (wound (symbol k) xs) ≡ rewritten_by S n k (wound (symbol k) xs)
+  turn_symbol k xs = turned_head (symbol k) xs refl refl
 
   stuck_alone : (t : Tree) → is_stuck t ≡ true → is_application t ≡ false
   stuck_alone (apply f a) e = cc
@@ -77,104 +61,77 @@ module _ (S : PlainSignature) where
   stuck_head (symbol k) e = cc
   stuck_head t e = refl
 
-  pub turn_stuck : (t : Tree) (xs : List Tree) → is_stuck t ≡ true → turn_of S (wound t xs) ≡ None
-  turn_stuck t xs e = turned_head t xs (stuck_alone t e) (stuck_body t e) ∙ ap (unfolded_head S (wound t xs)) (stuck_head t e)
+  pub turn_stuck : (t : Tree) (xs : List Tree) → is_stuck t ≡ true → turn_of S n (wound t xs) ≡ Some (None, n)
+  turn_stuck t xs e = turned_head t xs (stuck_alone t e) (stuck_body t e) ∙ ap (rewritten_head S n (wound t xs)) (stuck_head t e)
 
--- no rules but the bodies of definitions
+-- the turn of a symbol
 
-no_declared_rules : (k : ℕ) (S : PlainSignature) → HasNoRules S → declared_rules k S ≡ []
-no_declared_rules k [] h = refl
-no_declared_rules k (symbol_entry s t b ∷ S) h = no_declared_rules k S h.1
-no_declared_rules k (rules_entry [] ∷ S) h = no_declared_rules k S h.1
-no_declared_rules k (rules_entry (r ∷ rs) ∷ S) h = cc
+module _ (S : PlainSignature) (k : ℕ) (ts : List Term) where
+  abbrev redex : Tree
+  redex = wound (symbol k) (trees ts)
 
-append_none : {A : Type 0} (xs : List A) → xs ++ [] ≡ xs
-append_none [] = refl
-append_none {A} (x ∷ xs) = ap (λ (l : List A). x ∷ l) (append_none xs)
+  pub columns_are : map unbound (take (width (length ts) (rules_of S k)) (from_top ts)) ≡ columns S k (wound (symbol k) (trees ts))
+  columns_are = rw (arguments_wound (symbol k) ts refl, length_from_top ts, columns) refl
 
-abbrev body_as_rule : ℕ → Tree → PlainRule
-body_as_rule k b = record { head = k; vars = 0; pats = []; notes = []; right = b }
+  pub rows_are : rows_for (length ts) (width (length ts) (rules_of S k)) (rules_of S k) ≡ rows S k (wound (symbol k) (trees ts))
+  rows_are = rw (arguments_wound (symbol k) ts refl, length_from_top ts, rows) refl
 
-rules_only_body : (S : PlainSignature) (k : ℕ) → HasNoRules S → rules_of S k ≡ body_rule k (slice_get S k)
-rules_only_body S k h = ap (λ (l : List PlainRule). body_rule k (slice_get S k) ++ l) (no_declared_rules k S h) ∙ append_none (body_rule k (slice_get S k))
+  pub rewrite_ends : (n : ℕ) → selection_of S n (columns S k (wound (symbol k) (trees ts))) (rows S k (wound (symbol k) (trees ts))) ≡ None
+      → rewritten_by S n k (wound (symbol k) (trees ts)) ≡ None
+  rewrite_ends n e = ap (λ x. bind x (λ o m. Some (taken redex o, m))) e
 
-filled_none : (u : ℕ) (t : Tree) → filled [] u t ≡ t
-filled_none u star = refl
-filled_none u kind = refl
-filled_none u (symbol k) = refl
-filled_none u (variable k) = refl
-filled_none u (rule_variable k) = refl
-filled_none u (apply f a) = rw (filled_none u f, filled_none u a) refl
-filled_none u (bare b) = ap bare (filled_none (u + 1) b)
-filled_none u (annotated d b) = rw (filled_none u d, filled_none (u + 1) b) refl
-filled_none u (product d b) = rw (filled_none u d, filled_none (u + 1) b) refl
+  pub rewrite_stands : (n m : ℕ) → selection_of S n (columns S k (wound (symbol k) (trees ts))) (rows S k (wound (symbol k) (trees ts))) ≡ Some (None, m)
+      → rewritten_by S n k (wound (symbol k) (trees ts)) ≡ Some (None, m)
+  rewrite_stands n m e = ap (λ x. bind x (λ o j. Some (taken redex o, j))) e
 
-no_body_rule : (k : ℕ) (e : Option PlainEntry) → elim e as (λ _. Option Tree) [ None ↦ None | Some x ↦ entry_body x ] ≡ None → body_rule k e ≡ []
-no_body_rule k None q = refl
-no_body_rule k (Some (symbol_entry s t None)) q = refl
-no_body_rule k (Some (symbol_entry s t (Some b))) q = cc
-no_body_rule k (Some (rules_entry rs)) q = refl
+  pub rewrite_goes : (n m : ℕ) (cs : Captures) (r : PlainRule) (u : Tree) → selection_of S n (columns S k (wound (symbol k) (trees ts))) (rows S k (wound (symbol k) (trees ts))) ≡ Some (Some (cs, r), m)
+      → u ≡ applied (filled cs 0 r.right) (drop (length r.pats) (from_top ts)) → rewritten_by S n k (wound (symbol k) (trees ts)) ≡ Some (Some u, m)
+  rewrite_goes n m cs r u e q =
+      ap (λ x. bind x (λ o j. Some (taken redex o, j))) e
+      ∙ ap (λ v. Some (Some v, m)) (ap (λ l. applied (filled cs 0 r.right) (drop (length r.pats) l)) (arguments_wound (symbol k) ts refl) ∙ flip q)
 
-one_body_rule : (k : ℕ) (e : Option PlainEntry) (b : Tree) → elim e as (λ _. Option Tree) [ None ↦ None | Some x ↦ entry_body x ] ≡ Some b → body_rule k e ≡ body_as_rule k b ∷ []
-one_body_rule k None b q = cc
-one_body_rule k (Some (symbol_entry s t None)) b q = cc
-one_body_rule k (Some (symbol_entry s t (Some c))) b q = let e : c ≡ b = cc in ap (λ (x : Tree). body_as_rule k x ∷ []) e
-one_body_rule k (Some (rules_entry rs)) b q = cc
+width_more : (n : ℕ) (b : Bool) (l w : ℕ) → nat_lt n l ≡ b → w ≤ n → (if b then w else max l w) ≤ n
+width_more n true l w e h = h
+width_more n false l w e h = let q : l ≤ n = ltb-false n l e in omega (arith, q)
 
-not_below_zero : (n : ℕ) → nat_lt n 0 ≡ false
-not_below_zero n = le-ltb n 0 (omega arith)
+pub width_within : (n : ℕ) (rs : List PlainRule) → width n rs ≤ n
+width_within n [] = omega arith
+width_within n (r ∷ rs) = width_more n (nat_lt n (length r.pats)) (length r.pats) (width n rs) refl (width_within n rs)
 
-module _ (S : PlainSignature) (h : HasNoRules S) where
-  selects_nothing : (n k : ℕ) (t : Tree) → body_at S k ≡ None → selection_of S n (columns S k t) (rows S k t) ≡ Some (None, n)
-  selects_nothing n k t e =
-      let r : rules_of S k ≡ [] = rules_only_body S k h ∙ no_body_rule k (slice_get S k) e in
-      selection_is S n (columns S k t) (rows S k t) ∙ rw (r, rows) refl
+-- the weak head form by its turns
 
-  selects_body : (n k : ℕ) (t b : Tree) → body_at S k ≡ Some b → selection_of S n (columns S k t) (rows S k t) ≡ Some (Some ([], body_as_rule k b), n)
-  selects_body n k t b e =
-      let r : rules_of S k ≡ body_as_rule k b ∷ [] = rules_only_body S k h ∙ one_body_rule k (slice_get S k) b e in
-      selection_is S n (columns S k t) (rows S k t) ∙ rw (r, rows) (rw (not_below_zero (length (arguments t))) refl)
+abbrev after_turn : PlainSignature → Tree → Option Tree → ℕ → Units Tree
+after_turn S t None n = Some (t, n)
+after_turn S t (Some t') n = whnf_of S n t'
 
-  unfolds_body : (k : ℕ) (t b : Tree) → rewritten t ([], body_as_rule k b) ≡ applied b (arguments t)
-  unfolds_body k t b = ap (λ (u : Tree). applied u (arguments t)) (filled_none 0 b)
+module _ (S : PlainSignature) where
+  after_taken : (t : Tree) (x : Units (Option (Captures × PlainRule))) → bind (bind x (λ o m. Some (taken t o, m))) (after_turn S t) ≡ bind x (after_selection S t)
+  after_taken t None = refl
+  after_taken t (Some (None, m)) = refl
+  after_taken t (Some (Some p, m)) = refl
 
-  by_body : (n k : ℕ) (t t' : Tree) (o : Option Tree) → body_at S k ≡ o → contraction t ≡ None → head_symbol t ≡ Some k → unfolded t o ≡ Some t'
-      → whnf_of S (suc n) t ≡ whnf_of S n t'
-  by_body n k t t' None e q r u = cc
-  by_body n k t t' (Some b) e q r u =
-      let v : applied b (arguments t) ≡ t' = cc in
-      whnf_selects S n t k q r ∙ ap (λ x. bind x (after_selection S t)) (selects_body n k t b e)
-      ∙ ap (whnf_of S n) (unfolds_body k t b ∙ v)
+  by_head : (n : ℕ) (t : Tree) (o : Option ℕ) → head_symbol t ≡ o → contraction t ≡ None → whnf_of S (suc n) t ≡ bind (rewritten_head S n t o) (after_turn S t)
+  by_head n t None r q = whnf_stands_there S n t q r
+  by_head n t (Some k) r q = whnf_selects S n t k q r ∙ flip (after_taken t (selection_of S n (columns S k t) (rows S k t)))
 
-  by_head : (n : ℕ) (t t' : Tree) (o : Option ℕ) → head_symbol t ≡ o → contraction t ≡ None → unfolded_head S t o ≡ Some t' → whnf_of S (suc n) t ≡ whnf_of S n t'
-  by_head n t t' None r q u = cc
-  by_head n t t' (Some k) r q u = by_body n k t t' (body_at S k) refl q r u
+  by_contraction : (n : ℕ) (t : Tree) (o : Option Tree) → contraction t ≡ o
+      → whnf_of S (suc n) t ≡ bind (elim o as (λ _. Units (Option Tree)) [ Some v ↦ Some (Some v, n) | None ↦ rewritten_head S n t (head_symbol t) ]) (after_turn S t)
+  by_contraction n t (Some v) q = whnf_contracts S n t v q
+  by_contraction n t None q = by_head n t (head_symbol t) refl q
 
-  by_contraction : (n : ℕ) (t t' : Tree) (o : Option Tree) → contraction t ≡ o
-      → elim o as (λ _. Option Tree) [ Some v ↦ Some v | None ↦ unfolded_head S t (head_symbol t) ] ≡ Some t' → whnf_of S (suc n) t ≡ whnf_of S n t'
-  by_contraction n t t' (Some v) q u = let e : v ≡ t' = cc in whnf_contracts S n t v q ∙ ap (whnf_of S n) e
-  by_contraction n t t' None q u = by_head n t t' (head_symbol t) refl q u
+  after_one : (n : ℕ) (t : Tree) (x : Units (Option Tree)) → 0 < n → turn_of S (n - 1) t ≡ x → whnf_of S n t ≡ bind x (after_turn S t)
+  after_one zero t x l e = absurd (omega arith)
+  after_one (suc n) t x l e =
+      by_contraction n t (contraction t) refl ∙ ap (λ m. bind (turn_of S m t) (after_turn S t)) (omega arith) ∙ ap (λ y. bind y (after_turn S t)) e
 
-  pub whnf_turns : (n : ℕ) (t t' : Tree) → 0 < n → turn_of S t ≡ Some t' → whnf_of S (n - 1) t' ≡ whnf_of S n t
-  whnf_turns zero t t' l e = absurd (omega arith)
-  whnf_turns (suc n) t t' l e = ap (λ m. whnf_of S m t') (omega arith) ∙ flip (by_contraction n t t' (contraction t) refl e)
+  pub whnf_turns : (n m : ℕ) (t t' : Tree) → 0 < n → turn_of S (n - 1) t ≡ Some (Some t', m) → whnf_of S m t' ≡ whnf_of S n t
+  whnf_turns n m t t' l e = flip (after_one n t (Some (Some t', m)) l e)
 
-  no_body : (n k : ℕ) (t : Tree) (o : Option Tree) → body_at S k ≡ o → contraction t ≡ None → head_symbol t ≡ Some k → unfolded t o ≡ None → whnf_of S (suc n) t ≡ Some (t, n)
-  no_body n k t (Some b) e q r u = cc
-  no_body n k t None e q r u = whnf_selects S n t k q r ∙ ap (λ x. bind x (after_selection S t)) (selects_nothing n k t e)
+  pub whnf_stands : (n m : ℕ) (t : Tree) → 0 < n → turn_of S (n - 1) t ≡ Some (None, m) → whnf_of S n t ≡ Some (t, m)
+  whnf_stands n m t l e = after_one n t (Some (None, m)) l e
 
-  no_head : (n : ℕ) (t : Tree) (o : Option ℕ) → head_symbol t ≡ o → contraction t ≡ None → unfolded_head S t o ≡ None → whnf_of S (suc n) t ≡ Some (t, n)
-  no_head n t None r q u = whnf_stands_there S n t q r
-  no_head n t (Some k) r q u = no_body n k t (body_at S k) refl q r u
+  pub whnf_out : (n : ℕ) (t : Tree) → 0 < n → turn_of S (n - 1) t ≡ None → whnf_of S n t ≡ None
+  whnf_out n t l e = after_one n t None l e
 
-  no_contraction : (n : ℕ) (t : Tree) (o : Option Tree) → contraction t ≡ o
-      → elim o as (λ _. Option Tree) [ Some v ↦ Some v | None ↦ unfolded_head S t (head_symbol t) ] ≡ None → whnf_of S (suc n) t ≡ Some (t, n)
-  no_contraction n t (Some v) q u = cc
-  no_contraction n t None q u = no_head n t (head_symbol t) refl q u
-
-  pub whnf_stands : (n : ℕ) (t : Tree) → 0 < n → turn_of S t ≡ None → whnf_of S n t ≡ Some (t, n - 1)
-  whnf_stands zero t l e = absurd (omega arith)
-  whnf_stands (suc n) t l e = no_contraction n t (contraction t) refl e ∙ ap (λ m. Some (t, m)) (omega arith)
-
-pub whnf_ends : (S : PlainSignature) (t : Tree) → whnf_of S 0 t ≡ None
-whnf_ends S t = refl
+  pub whnf_ends : (t : Tree) → whnf_of S 0 t ≡ None
+  whnf_ends t = refl

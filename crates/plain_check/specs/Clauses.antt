@@ -1,15 +1,19 @@
 -- The facts that the contracts of this crate state, over the program's own types.
-use Rattle.std.specs.Prelude.{ℕ, ◌≡◌, Option, Some, None, Bool, Result, List, [], if◌then◌else◌}
-use Rattle.dk_model.specs.Trees.{Tree, tree}
-use Rattle.dk_model.specs.Signatures.{plain_signature, plain_entry, maybe_tree}
+use Rattle.std.specs.Prelude.{ℕ, ◌≡◌, Option, Some, None, Bool, Result, List, [], map, if◌then◌else◌}
+use Rattle.std.specs.declared.vec.Vec.{Vec}
+use Rattle.std.specs.declared.alloc.Global.{Global}
+use Rattle.dk_model.specs.Trees.{Tree, symbol, tree}
+use Rattle.dk_model.specs.Signatures.{plain_signature, plain_entry, pattern, maybe_tree}
 use Rattle.dk_model.specs.Scoping.{plain_command}
-use Rattle.dk_model.specs.Evaluation.{whnf_of, comparison_of}
+use Rattle.dk_model.specs.Selection.{cell, tried, through, at_cell, escaped, matched, guarded, each_normal}
+use Rattle.dk_model.specs.Evaluation.{whnf_of, selection_of, comparison_of, normal_of, columns, rows}
 use Rattle.dk_model.specs.Typing.{inferred, checked, sort_of, as_product, as_sort, as_star, as_same}
-use Rattle.dk_model.specs.Verdicts.{verdict_of, entry_of, inferred_type, body_type, body_checked, declaration_checked, IsVerdictOrMemory, HasNoRules}
+use Rattle.dk_model.specs.Verdicts.{verdict_of, entry_of, inferred_type, body_type, body_checked, declaration_checked, IsVerdictOrMemory}
 use Rattle.dk_model.specs.declared.term.Term.{Term}
 use Rattle.dk_model.specs.declared.code.Code.{Code}
 use Rattle.dk_model.specs.declared.code.Verdict.{Verdict}
 use Rattle.dk_model.specs.declared.signature.Entry.{Entry}
+use Rattle.dk_model.specs.declared.signature.Pat.{Pat}
 use Rattle.dk_model.specs.declared.signature.Signature.{Signature}
 use Rattle.dk_model.specs.declared.scoped.Scoped.{Scoped}
 use Rattle.plain_check.specs.declared.context.Context.{Context}
@@ -17,15 +21,17 @@ use Rattle.plain_check.specs.declared.evaluate.Turn.{Turn}
 use Rattle.plain_check.specs.declared.expect.Product.{Product}
 use Rattle.plain_check.specs.declared.fault.Stop.{Stop}
 use Rattle.plain_check.specs.declared.fault.TypeFault.{TypeFault}
+use Rattle.plain_check.specs.declared.matrix.Cell.{Cell}
+use Rattle.plain_check.specs.declared.matrix.Column.{Column}
+use Rattle.plain_check.specs.declared.matrix.Row.{Row}
+use Rattle.plain_check.specs.declared.matrix.Source.{Source}
 use Rattle.plain_check.specs.Contexts.{context_of}
 use Rattle.plain_check.specs.Given.{GivesTerm, GivesBool, GivesType, GivesProduct, GivesFit}
-use Rattle.plain_check.specs.Machine.{trees, wound, TurnsTo}
+use Rattle.plain_check.specs.Machine.{trees, wound, rewritten_by, turn_of, TurnsTo}
+use Rattle.plain_check.specs.Matrix.{captures_of, plain_cell, column, row}
+use Rattle.plain_check.specs.Selecting.{guard_of, GivesRows, GivesChoice, GivesTried, GivesThrough, GivesCell, GivesPart, GivesCaptures}
 use Rattle.plain_check.specs.Pending.{pending, parts_before}
 use Rattle.plain_check.specs.Spine.{argument_type, domain_fits}
-
--- no entry has a rule besides the bodies of definitions
-abbrev pub NoRules : Signature → Type 0
-NoRules s = HasNoRules (plain_signature s)
 
 -- commands
 
@@ -64,9 +70,73 @@ Evaluates s t old result new = GivesTerm (whnf_of (plain_signature s) old (tree 
 abbrev pub Compares : Signature → Term → Term → ℕ → Result Bool Stop → ℕ → Type 0
 Compares s t u old result new = GivesBool (comparison_of (plain_signature s) old (tree t) (tree u)) result new
 
--- the turn of a head over a stack, and the stack after it
-abbrev pub TakesTurn : Signature → Term → List Term → Turn → List Term → Type 0
-TakesTurn s h old turn new = TurnsTo (plain_signature s) (wound (tree h) (trees old)) turn (trees new)
+abbrev pub Normalises : Signature → Term → ℕ → Result Term Stop → ℕ → Type 0
+Normalises s t old result new = GivesTerm (normal_of (plain_signature s) old (tree t)) result new
+
+-- each part of the term in place of it its normal form
+abbrev pub NormalisesParts : Signature → Term → ℕ → Result Term Stop → ℕ → Type 0
+NormalisesParts s t old result new = GivesTerm (each_normal (normal_of (plain_signature s)) (comparison_of (plain_signature s)) (tree t) old) result new
+
+-- the turn of a head over a stack, with the stack and the units after it
+abbrev pub TakesTurn : Signature → Term → List Term → ℕ → Result Turn Stop → List Term → ℕ → Type 0
+TakesTurn s h ts old turn ts' new = TurnsTo (turn_of (plain_signature s) old (wound (tree h) (trees ts))) (wound (tree h) (trees ts)) turn (trees ts') new
+
+-- the turn of a symbol over a stack, by its rules
+abbrev pub Rewrites : Signature → ℕ → List Term → ℕ → Result Turn Stop → List Term → ℕ → Type 0
+Rewrites s k ts old turn ts' new = TurnsTo (rewritten_by (plain_signature s) old k (wound (symbol k) (trees ts))) (wound (symbol k) (trees ts)) turn (trees ts') new
+
+-- selection
+
+-- the columns for a symbol over a stack
+abbrev pub AreColumns : Signature → ℕ → List Term → List Column → Type 0
+AreColumns s k ts cs = map column cs ≡ columns (plain_signature s) k (wound (symbol k) (trees ts))
+
+-- the rows for a symbol over a stack
+abbrev pub AreRows : Signature → ℕ → List Term → List Row → Type 0
+AreRows s k ts rs = map row rs ≡ rows (plain_signature s) k (wound (symbol k) (trees ts))
+
+abbrev pub Selects : Signature → List Column → List Row → ℕ → Result (Option (Vec (Option Term) Global × Source)) Stop → ℕ → Type 0
+Selects s cs rs old result new = GivesChoice (selection_of (plain_signature s) old (map column cs) (map row rs)) result new
+
+-- the evaluation of the column at a place, with the columns after it
+abbrev pub Advances : Signature → ℕ → List Column → List Row → ℕ → Result (Vec Row Global) Stop → List Column → ℕ → Type 0
+Advances s at cs rs old result cs' new = GivesRows (plain_signature s) at (map column cs) (map row rs) old result (map column cs') new
+
+abbrev pub Tries : Signature → Row → List Column → ℕ → Result (Option (Vec (Option Term) Global)) Stop → List Column → ℕ → Type 0
+Tries s r cs old result cs' new =
+    GivesTried (tried (normal_of (plain_signature s)) (comparison_of (plain_signature s)) (row r) (map column cs) old) result (map column cs') new
+
+abbrev pub Passes : Signature → List Cell → List Column → List (Option Term) → ℕ → Result Bool Stop → List Column → List (Option Term) → ℕ → Type 0
+Passes s cells cs taken old result cs' taken' new =
+    GivesThrough (through (normal_of (plain_signature s)) (comparison_of (plain_signature s)) (map plain_cell cells) (map column cs) old (captures_of taken)) result (map column cs') (captures_of taken') new
+
+abbrev pub AtCell : Signature → Cell → Column → List (Option Term) → ℕ → Result Bool Stop → Column → List (Option Term) → ℕ → Type 0
+AtCell s c k taken old result k' taken' new =
+    GivesCell (at_cell (normal_of (plain_signature s)) (comparison_of (plain_signature s)) (plain_cell c) (column k) old (captures_of taken)) result (column k') (captures_of taken') new
+
+abbrev pub AtPattern : Signature → Pat → Column → List (Option Term) → ℕ → Result Bool Stop → Column → List (Option Term) → ℕ → Type 0
+AtPattern s p k taken old result k' taken' new =
+    GivesCell (at_cell (normal_of (plain_signature s)) (comparison_of (plain_signature s)) (cell (pattern p)) (column k) old (captures_of taken)) result (column k') (captures_of taken') new
+
+abbrev pub Escapes : Signature → List ℕ → Column → ℕ → Result Bool Stop → Column → ℕ → Type 0
+Escapes s xs k old result k' new =
+    GivesPart (escaped (normal_of (plain_signature s)) (comparison_of (plain_signature s)) old k.depth xs (tree k.term)) result (column k') k.depth new
+
+abbrev pub Matches : Signature → List (Option Term) → ℕ → Term → ℕ → Result Bool Stop → List (Option Term) → ℕ → Type 0
+Matches s taken k t old result taken' new =
+    GivesCaptures (matched (normal_of (plain_signature s)) (comparison_of (plain_signature s)) old (captures_of taken) k (tree t)) result (captures_of taken') new
+
+abbrev pub Guards : Signature → List Cell → List Column → List (Option Term) → ℕ → Result Bool Stop → ℕ → Type 0
+Guards s cells cs taken old result new =
+    GivesBool (guarded (normal_of (plain_signature s)) (comparison_of (plain_signature s)) (map plain_cell cells) (map column cs) old (captures_of taken)) result new
+
+abbrev pub GuardsCell : Signature → Cell → Column → List (Option Term) → ℕ → Result Bool Stop → ℕ → Type 0
+GuardsCell s c k taken old result new = GivesBool (guard_of (comparison_of (plain_signature s)) (plain_cell c) (column k) old (captures_of taken)) result new
+
+abbrev pub GuardsPattern : Signature → Pat → Column → List (Option Term) → ℕ → Result Bool Stop → ℕ → Type 0
+GuardsPattern s p k taken old result new = GivesBool (guard_of (comparison_of (plain_signature s)) (cell (pattern p)) (column k) old (captures_of taken)) result new
+
+-- comparison
 
 -- the parts of two terms are on the stack where their heads are alike
 abbrev pub PutsParts : Term → Term → List (Term × Term) → Bool → List (Term × Term) → Type 0

@@ -1,9 +1,14 @@
 -- How the evaluating code holds a term: its head beside a stack of arguments.
-use Rattle.std.specs.Prelude.{◌≡◌, ℕ, Option, Some, None, Bool, true, false, List, [], ◌∷◌, map, slice_get}
+use Rattle.std.specs.Prelude.{◌≡◌, ℕ, Option, Some, None, Bool, true, false, Result, Ok, Err, List, [], ◌∷◌, ◌++◌, map}
 use Rattle.dk_model.specs.Trees.{Tree, symbol, apply, bare, tree}
-use Rattle.dk_model.specs.Signatures.{PlainEntry, symbol_entry, rules_entry, PlainSignature}
-use Rattle.dk_model.specs.Spines.{contraction, head_symbol, arguments, applied}
+use Rattle.dk_model.specs.Signatures.{PlainRule, PlainSignature}
+use Rattle.dk_model.specs.Units.{Units, bind}
+use Rattle.dk_model.specs.Spines.{contraction, head_symbol}
+use Rattle.dk_model.specs.Selection.{Captures, Column}
+use Rattle.dk_model.specs.Evaluation.{selection_of, columns, rows, rewritten}
 use Rattle.dk_model.specs.declared.term.Term.{Term}
+use Rattle.plain_check.specs.declared.fault.Stop.{Stop}
+use Rattle.plain_check.specs.declared.fault.Stop.TheVariants.{Ended, NoMemory}
 use Rattle.plain_check.specs.declared.evaluate.Turn.{Turn}
 use Rattle.plain_check.specs.declared.evaluate.Turn.TheVariants.{Goes, Stands}
 
@@ -14,6 +19,15 @@ trees ts = map tree ts
 abbrev pub wound : Tree → List Tree → Tree
 wound t [] = t
 wound t (x ∷ xs) = apply (wound t xs) x
+
+-- the arguments of a stack, from left to right
+abbrev pub from_top : List Term → List Tree
+from_top [] = []
+from_top (t ∷ ts) = from_top ts ++ (tree t ∷ [])
+
+-- a column of an argument, where no pattern binds a variable yet
+abbrev pub unbound : Tree → Column
+unbound a = (0, a)
 
 abbrev pub is_application : Tree → Bool
 is_application (apply f a) = true
@@ -26,27 +40,26 @@ is_stuck (bare b) = false
 is_stuck (symbol k) = false
 is_stuck t = true
 
-abbrev pub entry_body : PlainEntry → Option Tree
-entry_body (symbol_entry s t b) = b
-entry_body (rules_entry rs) = None
+-- what a rule that was taken makes of a term
+abbrev pub taken : Tree → Option (Captures × PlainRule) → Option Tree
+taken t None = None
+taken t (Some p) = Some (rewritten t p)
 
--- the body of a definition
-abbrev pub body_at : PlainSignature → ℕ → Option Tree
-body_at S k = elim (slice_get S k) [ None ↦ None | Some e ↦ entry_body e ]
+-- one head step by the rules of a symbol; None where none of them takes the arguments
+abbrev pub rewritten_by : PlainSignature → ℕ → ℕ → Tree → Units (Option Tree)
+rewritten_by S n k t = bind (selection_of S n (columns S k t) (rows S k t)) (λ o m. Some (taken t o, m))
 
-abbrev pub unfolded : Tree → Option Tree → Option Tree
-unfolded t None = None
-unfolded t (Some b) = Some (applied b (arguments t))
+abbrev pub rewritten_head : PlainSignature → ℕ → Tree → Option ℕ → Units (Option Tree)
+rewritten_head S n t None = Some (None, n)
+rewritten_head S n t (Some k) = rewritten_by S n k t
 
-abbrev pub unfolded_head : PlainSignature → Tree → Option ℕ → Option Tree
-unfolded_head S t None = None
-unfolded_head S t (Some k) = unfolded t (body_at S k)
+-- one turn of the weak head form: a contraction, or a rule of the head symbol; None where the term stands
+abbrev pub turn_of : PlainSignature → ℕ → Tree → Units (Option Tree)
+turn_of S n t = elim (contraction t) [ Some t' ↦ Some (Some t', n) | None ↦ rewritten_head S n t (head_symbol t) ]
 
--- one turn of the weak head form without rules: a contraction, or the body of the head symbol; None where the term stands
-abbrev pub turn_of : PlainSignature → Tree → Option Tree
-turn_of S t = elim (contraction t) [ Some t' ↦ Some t' | None ↦ unfolded_head S t (head_symbol t) ]
-
--- what a turn gives of the term `t`, with the stack as it then is
-abbrev pub TurnsTo : PlainSignature → Tree → Turn → List Tree → Type 0
-TurnsTo S t (Goes h) xs = (turn_of S t ≡ Some (wound (tree h) xs)) × (is_application (tree h) ≡ false)
-TurnsTo S t (Stands h) xs = (turn_of S t ≡ None) × (wound (tree h) xs ≡ t)
+-- what a turn gives of the term `t`, with the stack and the units as they then are
+abbrev pub TurnsTo : Units (Option Tree) → Tree → Result Turn Stop → List Tree → ℕ → Type 0
+TurnsTo due t (Ok (Goes h)) xs left = (due ≡ Some (Some (wound (tree h) xs), left)) × (is_application (tree h) ≡ false)
+TurnsTo due t (Ok (Stands h)) xs left = (due ≡ Some (None, left)) × (wound (tree h) xs ≡ t)
+TurnsTo due t (Err Ended) xs left = due ≡ None
+TurnsTo due t (Err NoMemory) xs left = Unit {0}

@@ -5,13 +5,15 @@ ghost use Rattle.dk_model.specs.Signatures.{plain_signature, plain_entry, maybe_
 ghost use Rattle.dk_model.specs.Scoping.{plain_command};
 ghost use Rattle.dk_model.specs.Verdicts.{is_untyped, AddsNoRules, entry_type_of, kept_body};
 ghost use Rattle.plain_check.specs.Given.{fault_verdict};
-ghost use Rattle.plain_check.specs.Clauses.{NoRules, due, IsDue, inferred_for, IsEntryOf, ChecksDeclaration, ChecksBody, GivesSort, GivesBodyType};
+ghost use Rattle.plain_check.specs.Matrix.{AreRules};
+ghost use Rattle.plain_check.specs.Clauses.{due, IsDue, inferred_for, IsEntryOf, ChecksDeclaration, ChecksBody, GivesSort, GivesBodyType};
 
 use crate::context::Context;
 use crate::expect::{as_sort, not_kind};
 use crate::fault::TypeFault;
 use crate::infer::{check, infer};
-use dk_model::{Code, Entry, Listed, NoMemory, Scoped, Signature, SymSort, Term, Verdict};
+use crate::matrix::rules_in;
+use dk_model::{Code, Entry, Listed, NoMemory, Rule, Scoped, Signature, SymSort, Term, Verdict};
 use std::alloc::Global;
 
 /// The verdict on a command over the signature of the commands before it (docs/typing.md).
@@ -19,13 +21,16 @@ use std::alloc::Global;
 /// The check may take `budget` units; `Ended` says that it needs more. `Memory` says nothing of the command.
 #[tactic(auto, using(crate::proofs::Verdict::fit_verdict))]
 pub fn check_plain(alloc: Global, signature: &Signature, command: &Scoped, budget: u64) -> Verdict
-    requires { NoRules signature.now }
     ensures { IsDue signature.now command.now budget result }
 {
     match command {
         Scoped::Declare { typ, body, .. } => {
+            let rules = match rules_in(alloc, signature) {
+                Ok(rules) => rules,
+                Err(_) => return Verdict::Memory,
+            };
             let mut left = budget;
-            match check_declaration(alloc, signature, typ, body, &mut left) {
+            match check_declaration(alloc, signature, rules.as_slice(), typ, body, &mut left) {
                 Ok(()) => Verdict::Accepted,
                 Err(fault) => fault_verdict(fault),
             }
@@ -42,8 +47,7 @@ pub fn infer_plain(
     command: &Scoped,
     budget: u64,
 ) -> Result<Term, Verdict>
-    requires no_rules { NoRules signature.now }
-    requires untyped { IsTrue (is_untyped (plain_command command.now)) }
+    requires { IsTrue (is_untyped (plain_command command.now)) }
     ensures ok { IfOk result (λ t. inferred_for signature.now command.now budget ≡ Some (tree t)) }
     ensures accepted { IfOk result (λ _. due signature.now command.now budget ≡ Verdict.Accepted) }
     ensures err { IfErr result (λ v. IsDue signature.now command.now budget v) }
@@ -55,8 +59,12 @@ pub fn infer_plain(
             body: Some(body),
             ..
         } => {
+            let rules = match rules_in(alloc, signature) {
+                Ok(rules) => rules,
+                Err(_) => return Err(Verdict::Memory),
+            };
             let mut left = budget;
-            match infer_body(alloc, signature, body, &mut left) {
+            match infer_body(alloc, signature, rules.as_slice(), body, &mut left) {
                 Ok(typ) => Ok(typ),
                 Err(fault) => Err(fault_verdict(fault)),
             }
@@ -82,7 +90,6 @@ pub fn enter_plain(
     command: &Scoped,
     budget: u64,
 ) -> Result<Entry, Verdict>
-    requires { NoRules signature.now }
     ensures ok { IfOk result (λ e. IsEntryOf signature.now command.now (inferred_for signature.now command.now budget) e) }
     ensures accepted { IfOk result (λ _. due signature.now command.now budget ≡ Verdict.Accepted) }
     ensures no_rules { IfOk result (λ e. AddsNoRules (plain_entry e)) }
@@ -122,23 +129,24 @@ fn fault_verdict(fault: TypeFault) -> Verdict
 fn check_declaration(
     alloc: Global,
     signature: &Signature,
+    rules: &[&Rule],
     typ: &Option<Term>,
     body: &Option<Term>,
     left: &mut u64,
 ) -> Result<(), TypeFault>
-    requires { NoRules signature.now }
+    requires { AreRules signature.now rules.now }
     ensures { ChecksDeclaration signature.now typ.now body.now left.old result left.new }
 {
     match typ {
         Some(typ) => {
-            match check_type(alloc, signature, typ, left) {
+            match check_type(alloc, signature, rules, typ, left) {
                 Ok(_) => {}
                 Err(fault) => return Err(fault),
             }
-            check_body(alloc, signature, typ, body, left)
+            check_body(alloc, signature, rules, typ, body, left)
         }
         None => match body {
-            Some(body) => match infer_body(alloc, signature, body, left) {
+            Some(body) => match infer_body(alloc, signature, rules, body, left) {
                 Ok(_) => Ok(()),
                 Err(fault) => Err(fault),
             },
@@ -152,15 +160,16 @@ fn check_declaration(
 fn check_type(
     alloc: Global,
     signature: &Signature,
+    rules: &[&Rule],
     typ: &Term,
     left: &mut u64,
 ) -> Result<Term, TypeFault>
-    requires { NoRules signature.now }
+    requires { AreRules signature.now rules.now }
     ensures { GivesSort signature.now typ.now left.old result left.new }
 {
     let mut context = Context::new(alloc);
-    match infer(alloc, signature, &mut context, typ, left) {
-        Ok(found) => as_sort(alloc, signature, found, left),
+    match infer(alloc, signature, rules, &mut context, typ, left) {
+        Ok(found) => as_sort(alloc, signature, rules, found, left),
         Err(fault) => Err(fault),
     }
 }
@@ -169,18 +178,19 @@ fn check_type(
 fn check_body(
     alloc: Global,
     signature: &Signature,
+    rules: &[&Rule],
     typ: &Term,
     body: &Option<Term>,
     left: &mut u64,
 ) -> Result<(), TypeFault>
-    requires { NoRules signature.now }
+    requires { AreRules signature.now rules.now }
     ensures { ChecksBody signature.now typ.now body.now left.old result left.new }
 {
     match body {
         Some(body) => {
             let expected = typ.erased(alloc)?;
             let mut context = Context::new(alloc);
-            check(alloc, signature, &mut context, body, &expected, left)
+            check(alloc, signature, rules, &mut context, body, &expected, left)
         }
         None => Ok(()),
     }
@@ -191,14 +201,15 @@ fn check_body(
 fn infer_body(
     alloc: Global,
     signature: &Signature,
+    rules: &[&Rule],
     body: &Term,
     left: &mut u64,
 ) -> Result<Term, TypeFault>
-    requires { NoRules signature.now }
+    requires { AreRules signature.now rules.now }
     ensures { GivesBodyType signature.now body.now left.old result left.new }
 {
     let mut context = Context::new(alloc);
-    match infer(alloc, signature, &mut context, body, left) {
+    match infer(alloc, signature, rules, &mut context, body, left) {
         Ok(found) => not_kind(found),
         Err(fault) => Err(fault),
     }
@@ -232,10 +243,7 @@ pub fn entry_of(
 
 /// Adds the entry of an accepted command to the signature.
 pub fn add_entry(signature: &mut Signature, entry: Entry) -> Result<(), NoMemory>
-    requires signature { NoRules signature.old }
-    requires entry { AddsNoRules (plain_entry entry) }
     ensures ok { OnOk result (plain_signature signature.new ≡ plain_signature signature.old ++ plain_entry entry ∷ []) }
-    ensures no_rules { OnOk result (NoRules signature.new) }
     ensures err { OnErr result (plain_signature signature.new ≡ plain_signature signature.old) }
 {
     signature.entries.push(entry)?;

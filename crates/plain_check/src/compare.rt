@@ -1,27 +1,39 @@
 //! The comparison of two terms, by a stack of pairs.
-ghost use Rattle.std.specs.Prelude.{◌≡◌, false, [], ◌∷◌, IfOk};
+ghost use Rattle.std.specs.Prelude.{◌≡◌, ◌≤◌, false, [], ◌∷◌, IfOk};
 ghost use Rattle.dk_model.specs.Trees.{tree};
 ghost use Rattle.plain_check.specs.Machine.{is_application};
 ghost use Rattle.plain_check.specs.Pending.{pending};
-ghost use Rattle.plain_check.specs.Clauses.{NoRules, Compares, PutsParts};
+ghost use Rattle.plain_check.specs.Matrix.{AreRules};
+ghost use Rattle.plain_check.specs.Clauses.{Compares, PutsParts};
 
 use crate::evaluate::whnf;
 use crate::fault::Stop;
-use dk_model::{NoMemory, Signature, Term};
+use dk_model::{NoMemory, Rule, Signature, Term};
 use std::alloc::Global;
 
 /// Whether the two are convertible, as evaluation finds it. Each pair that is compared takes a unit.
-#[tactic(auto, using(crate::proofs::Comparing::pending_pushed, crate::proofs::Comparing::one_pair, crate::proofs::Comparing::pair_ends, crate::proofs::Comparing::pair_equal, crate::proofs::Comparing::first_ends, crate::proofs::Comparing::second_ends, crate::proofs::Comparing::heads_differ, crate::proofs::Comparing::parts_follow))]
+#[cycle(evaluation)]
+#[tactic(auto, using(crate::proofs::Comparing::none_left, crate::proofs::Comparing::both_equal, crate::proofs::Comparing::pending_pushed, crate::proofs::Comparing::one_pair, crate::proofs::Comparing::pair_ends, crate::proofs::Comparing::pair_equal, crate::proofs::Comparing::first_ends, crate::proofs::Comparing::second_ends, crate::proofs::Comparing::heads_differ, crate::proofs::Comparing::parts_follow))]
 pub fn same(
     alloc: Global,
     signature: &Signature,
+    rules: &[&Rule],
     t: &Term,
     u: &Term,
     left: &mut u64,
 ) -> Result<bool, Stop>
-    requires { NoRules signature.now }
-    ensures { Compares signature.now t.now u.now left.old result left.new }
+    requires { AreRules signature.now rules.now }
+    ensures gives { Compares signature.now t.now u.now left.old result left.new }
+    ensures spent { left.new ≤ left.old }
 {
+    if *left == 0 {
+        return Err(Stop::Ended);
+    }
+    // Most terms are the same letter by letter, and need no copy.
+    if t.equal(u) {
+        *left -= 1;
+        return Ok(true);
+    }
     let mut work = pair(alloc, t, u)?;
     while let Some(pair) = work.pop() {
         if *left == 0 {
@@ -30,11 +42,11 @@ pub fn same(
         *left -= 1;
         let (t, u) = pair;
         if !t.equal(&u) {
-            let t = match whnf(alloc, signature, t, left) {
+            let t = match whnf(alloc, signature, rules, t, left) {
                 Ok(t) => t,
                 Err(stop) => return Err(stop),
             };
-            let u = match whnf(alloc, signature, u, left) {
+            let u = match whnf(alloc, signature, rules, u, left) {
                 Ok(u) => u,
                 Err(stop) => return Err(stop),
             };

@@ -1,12 +1,18 @@
 //! The weak head form, by turns over a head and a stack of arguments.
-ghost use Rattle.std.specs.Prelude.{◌≡◌, ◌≤◌, IfOk, false};
+ghost use Rattle.std.specs.Prelude.{◌≡◌, ◌≤◌, ◌<◌, IfOk, OnOk, false, length, drop};
 ghost use Rattle.dk_model.specs.Trees.{tree};
-ghost use Rattle.plain_check.specs.Machine.{is_application};
-ghost use Rattle.plain_check.specs.Clauses.{NoRules, Evaluates, TakesTurn};
+ghost use Rattle.dk_model.specs.Spines.{applied};
+ghost use Rattle.dk_model.specs.Selection.{filled};
+ghost use Rattle.plain_check.specs.Machine.{is_application, trees, wound, from_top};
+ghost use Rattle.plain_check.specs.Matrix.{AreRules, captures_of, source_rule};
+ghost use Rattle.plain_check.specs.Clauses.{Evaluates, TakesTurn, Rewrites, AreColumns, AreRows};
 
+use crate::capture::filled;
 use crate::fault::Stop;
-use crate::machine::{body_at, unwind, wind};
-use dk_model::{NoMemory, Signature, Term};
+use crate::machine::{first_columns, unwind, wind};
+use crate::matrix::{Column, Row, Source, patterns_of, rows_for, rules_of, width};
+use crate::select::select;
+use dk_model::{NoMemory, Rule, Signature, Term};
 use std::alloc::Global;
 
 /// What a turn makes of a head.
@@ -18,12 +24,20 @@ pub enum Turn {
     Stands(Term),
 }
 
-/// The weak head form. Each turn takes a unit: a contraction, a definition unfolded, or the end.
-#[tactic(auto, using(crate::proofs::Turning::whnf_turns, crate::proofs::Turning::whnf_stands, crate::proofs::Turning::whnf_ends))]
-pub fn whnf(alloc: Global, signature: &Signature, term: Term, left: &mut u64) -> Result<Term, Stop>
-    requires { NoRules signature.now }
+/// The weak head form. Each turn takes a unit: a contraction, a rule of the head symbol, or the end.
+#[cycle(evaluation)]
+#[tactic(auto, using(crate::proofs::Turning::whnf_turns, crate::proofs::Turning::whnf_stands, crate::proofs::Turning::whnf_out, crate::proofs::Turning::whnf_ends))]
+pub fn whnf(
+    alloc: Global,
+    signature: &Signature,
+    rules: &[&Rule],
+    term: Term,
+    left: &mut u64,
+) -> Result<Term, Stop>
+    requires { AreRules signature.now rules.now }
     ensures gives { Evaluates signature.now term left.old result left.new }
     ensures spent { left.new ≤ left.old }
+    ensures turned { OnOk result (left.new < left.old) }
 {
     let mut stack = Vec::new(alloc);
     let mut head = unwind(term, &mut stack)?;
@@ -32,23 +46,29 @@ pub fn whnf(alloc: Global, signature: &Signature, term: Term, left: &mut u64) ->
             return Err(Stop::Ended);
         }
         *left -= 1;
-        match take_turn(alloc, signature, head, &mut stack)? {
-            Turn::Goes(next) => head = next,
-            Turn::Stands(head) => return Ok(wind(alloc, head, stack)?),
+        match take_turn(alloc, signature, rules, head, &mut stack, left) {
+            Ok(Turn::Goes(next)) => head = next,
+            Ok(Turn::Stands(head)) => return Ok(wind(alloc, head, stack)?),
+            Err(stop) => return Err(stop),
         }
     }
 }
 
 /// One turn at the head of a term that was taken apart.
-#[tactic(auto, using(crate::proofs::Turning::turn_bare, crate::proofs::Turning::turn_body, crate::proofs::Turning::turn_no_body, crate::proofs::Turning::turn_stuck))]
+#[cycle(evaluation)]
+#[tactic(auto, using(crate::proofs::Turning::turn_bare, crate::proofs::Turning::turn_symbol, crate::proofs::Turning::turn_stuck))]
 fn take_turn(
     alloc: Global,
     signature: &Signature,
+    rules: &[&Rule],
     head: Term,
     stack: &mut Vec<Term>,
-) -> Result<Turn, NoMemory>
-    requires { is_application (tree head) ≡ false }
-    ensures { IfOk result (λ turn. TakesTurn signature.now head stack.old.items turn stack.new.items) }
+    left: &mut u64,
+) -> Result<Turn, Stop>
+    requires rules { AreRules signature.now rules.now }
+    requires head { is_application (tree head) ≡ false }
+    ensures gives { TakesTurn signature.now head stack.old.items left.old result stack.new.items left.new }
+    ensures spent { left.new ≤ left.old }
 {
     match head {
         Term::Abs(annotation, body) => match annotation {
@@ -61,15 +81,87 @@ fn take_turn(
                 None => Ok(Turn::Stands(Term::Abs(None, body))),
             },
         },
-        Term::Sym(k) => match body_at(signature, k) {
-            Some(body) => Ok(Turn::Goes(unwind(body.copy(alloc)?, stack)?)),
-            None => Ok(Turn::Stands(Term::Sym(k))),
-        },
+        Term::Sym(k) => rewrite(alloc, signature, rules, k, stack, left),
         Term::Star => Ok(Turn::Stands(Term::Star)),
         Term::Kind => Ok(Turn::Stands(Term::Kind)),
         Term::Var(k) => Ok(Turn::Stands(Term::Var(k))),
         Term::Rvar(k) => Ok(Turn::Stands(Term::Rvar(k))),
         Term::Prod(domain, codomain) => Ok(Turn::Stands(Term::Prod(domain, codomain))),
-        Term::App(..) => Err(NoMemory),
+        Term::App(..) => Err(Stop::NoMemory),
+    }
+}
+
+/// The turn of a symbol: the first of its rules that takes the arguments, or none.
+#[cycle(evaluation)]
+#[tactic(auto, using(crate::proofs::Turning::rewrite_goes, crate::proofs::Turning::rewrite_stands, crate::proofs::Turning::rewrite_ends))]
+fn rewrite(
+    alloc: Global,
+    signature: &Signature,
+    rules: &[&Rule],
+    symbol: u32,
+    stack: &mut Vec<Term>,
+    left: &mut u64,
+) -> Result<Turn, Stop>
+    requires { AreRules signature.now rules.now }
+    ensures gives { Rewrites signature.now symbol stack.old.items left.old result stack.new.items left.new }
+    ensures spent { left.new ≤ left.old }
+{
+    let (columns, rows) = matrix_of(alloc, signature, rules, symbol, stack.as_slice())?;
+    match select(alloc, signature, rules, columns, rows, left) {
+        Ok(Some((captures, source))) => Ok(Turn::Goes(put_right(
+            alloc,
+            captures.as_slice(),
+            &source,
+            stack,
+        )?)),
+        Ok(None) => Ok(Turn::Stands(Term::Sym(symbol))),
+        Err(stop) => Err(stop),
+    }
+}
+
+/// The matrix of a symbol before the arguments of a stack. Without rules for so many arguments it takes no memory.
+#[tactic(auto, using(crate::proofs::Turning::width_within, crate::proofs::Turning::columns_are, crate::proofs::Turning::rows_are))]
+fn matrix_of<'a>(
+    alloc: Global,
+    signature: &'a Signature,
+    rules: &[&'a Rule],
+    symbol: u32,
+    stack: &[Term],
+) -> Result<(Vec<Column>, Vec<Row<'a>>), NoMemory>
+    requires { AreRules signature.now rules.now }
+    ensures columns { IfOk result (λ m. AreColumns signature.now symbol stack.now m.0.items) }
+    ensures rows { IfOk result (λ m. AreRows signature.now symbol stack.now m.1.items) }
+{
+    let sources = rules_of(alloc, signature, rules, symbol)?;
+    let width = width(stack.len(), sources.as_slice());
+    let columns = first_columns(alloc, width, stack)?;
+    let rows = rows_for(alloc, stack.len(), width, sources.as_slice())?;
+    Ok((columns, rows))
+}
+
+/// The right side of a rule that was taken, in the place of the arguments of its patterns.
+#[tactic(auto, using(crate::proofs::Winding::put_before))]
+fn put_right(
+    alloc: Global,
+    captures: &[Option<Term>],
+    source: &Source,
+    stack: &mut Vec<Term>,
+) -> Result<Term, NoMemory>
+    ensures term { IfOk result (λ h. wound (tree h) (trees stack.new.items) ≡ applied (filled (captures_of captures.now) 0 (source_rule source.now).right)
+        (drop (length (source_rule source.now).pats) (from_top stack.old.items))) }
+    ensures head { IfOk result (λ h. is_application (tree h) ≡ false) }
+{
+    let right = filled(alloc, captures, 0, right_of(source))?;
+    let kept = stack.len().saturating_sub(patterns_of(source));
+    stack.truncate(kept);
+    unwind(right, stack)
+}
+
+fn right_of<'a>(source: &Source<'a>) -> &'a Term
+    ensures { tree result.now ≡ (source_rule source.now).right }
+{
+    match source {
+        Source::Body(_, body) => body,
+        Source::Rule(rule) => &rule.right,
     }
 }

@@ -4,12 +4,13 @@ ghost use Rattle.dk_model.specs.Trees.{tree};
 ghost use Rattle.dk_model.specs.Signatures.{plain_signature};
 ghost use Rattle.dk_model.specs.Typing.{symbol_type, not_kind};
 ghost use Rattle.plain_check.specs.Given.{GivesType, fault_of};
-ghost use Rattle.plain_check.specs.Clauses.{NoRules, ExpectsProduct, ExpectsSort, ExpectsStar, ExpectsSame};
+ghost use Rattle.plain_check.specs.Matrix.{AreRules};
+ghost use Rattle.plain_check.specs.Clauses.{ExpectsProduct, ExpectsSort, ExpectsStar, ExpectsSame};
 
 use crate::compare::same;
 use crate::evaluate::whnf;
 use crate::fault::{Stop, TypeFault};
-use dk_model::{Code, Entry, NoMemory, Signature, Term};
+use dk_model::{Code, Entry, NoMemory, Rule, Signature, Term};
 use std::alloc::Global;
 
 /// The two parts of a product.
@@ -33,14 +34,15 @@ fn fault_of(stop: Stop) -> TypeFault
 pub fn as_product(
     alloc: Global,
     signature: &Signature,
+    rules: &[&Rule],
     code: Code,
     typ: Term,
     left: &mut u64,
 ) -> Result<Product, TypeFault>
-    requires { NoRules signature.now }
+    requires { AreRules signature.now rules.now }
     ensures { ExpectsProduct signature.now code typ left.old result left.new }
 {
-    match whnf(alloc, signature, typ, left) {
+    match whnf(alloc, signature, rules, typ, left) {
         Ok(found) => match found {
             Term::Prod(a, b) => Ok(Product {
                 domain: Box::into_inner(a),
@@ -56,13 +58,14 @@ pub fn as_product(
 pub fn as_sort(
     alloc: Global,
     signature: &Signature,
+    rules: &[&Rule],
     typ: Term,
     left: &mut u64,
 ) -> Result<Term, TypeFault>
-    requires { NoRules signature.now }
+    requires { AreRules signature.now rules.now }
     ensures { ExpectsSort signature.now typ left.old result left.new }
 {
-    match whnf(alloc, signature, typ, left) {
+    match whnf(alloc, signature, rules, typ, left) {
         Ok(found) => match found {
             Term::Star => Ok(Term::Star),
             Term::Kind => Ok(Term::Kind),
@@ -76,13 +79,14 @@ pub fn as_sort(
 pub fn as_star(
     alloc: Global,
     signature: &Signature,
+    rules: &[&Rule],
     typ: Term,
     left: &mut u64,
 ) -> Result<(), TypeFault>
-    requires { NoRules signature.now }
+    requires { AreRules signature.now rules.now }
     ensures { ExpectsStar signature.now typ left.old result left.new }
 {
-    match whnf(alloc, signature, typ, left) {
+    match whnf(alloc, signature, rules, typ, left) {
         Ok(found) => match found {
             Term::Star => Ok(()),
             _ => Err(TypeFault::Refused(Code::E22)),
@@ -95,14 +99,15 @@ pub fn as_star(
 pub fn as_same(
     alloc: Global,
     signature: &Signature,
+    rules: &[&Rule],
     found: &Term,
     expected: &Term,
     left: &mut u64,
 ) -> Result<(), TypeFault>
-    requires { NoRules signature.now }
+    requires { AreRules signature.now rules.now }
     ensures { ExpectsSame signature.now found.now expected.now left.old result left.new }
 {
-    match same(alloc, signature, found, expected, left) {
+    match same(alloc, signature, rules, found, expected, left) {
         Ok(true) => Ok(()),
         Ok(false) => Err(TypeFault::Refused(Code::E21)),
         Err(stop) => Err(fault_of(stop)),

@@ -5,17 +5,18 @@ ghost use Rattle.std.specs.Prelude.{◌≡◌, ◌+◌, ◌≤◌, ◌<◌, fals
 ghost use Rattle.dk_model.specs.Trees.{tree, bare, annotated, product};
 ghost use Rattle.plain_check.specs.Machine.{is_application, wound};
 ghost use Rattle.plain_check.specs.Spine.{behind_references, size, total_size};
-ghost use Rattle.plain_check.specs.Clauses.{NoRules, Infers, Checks, FitsDomain, Applies, Keeps};
+ghost use Rattle.plain_check.specs.Matrix.{AreRules};
+ghost use Rattle.plain_check.specs.Clauses.{Infers, Checks, FitsDomain, Applies, Keeps};
 
 use crate::context::Context;
 use crate::expect::{as_product, as_same, as_sort, as_star, not_kind, symbol_type};
 use crate::fault::TypeFault;
-use dk_model::{Code, NoMemory, Signature, Term, make_product};
+use dk_model::{Code, NoMemory, Rule, Signature, Term, make_product};
 use std::alloc::Global;
 
 /// Takes an application apart by references: its arguments go onto the stack, the first one on top.
 #[tactic(auto, using(crate::proofs::Spines::references_pushed))]
-fn spine<'a>(alloc: Global, term: &'a Term) -> Result<(&'a Term, Vec<&'a Term>), NoMemory>
+pub fn spine<'a>(alloc: Global, term: &'a Term) -> Result<(&'a Term, Vec<&'a Term>), NoMemory>
     ensures term { IfOk result (λ s. wound (tree s.0.now) (behind_references s.1.items) ≡ tree term.now) }
     ensures head { IfOk result (λ s. is_application (tree s.0.now) ≡ false) }
     ensures size { IfOk result (λ s. size (tree s.0.now) + total_size (behind_references s.1.items) ≤ size (tree term.now)) }
@@ -41,22 +42,23 @@ fn spine<'a>(alloc: Global, term: &'a Term) -> Result<(&'a Term, Vec<&'a Term>),
 pub fn infer(
     alloc: Global,
     signature: &Signature,
+    rules: &[&Rule],
     context: &mut Context,
     term: &Term,
     left: &mut u64,
 ) -> Result<Term, TypeFault>
-    requires { NoRules signature.now }
+    requires { AreRules signature.now rules.now }
     ensures gives { Infers signature.now context.old (tree term.now) left.old result left.new }
     ensures kept { IfOk result (λ _. Keeps context.old context.new) }
 {
     let (head, arguments) = spine(alloc, term)?;
     let mut arguments = arguments;
-    let mut typ = match infer_head(alloc, signature, context, head, left) {
+    let mut typ = match infer_head(alloc, signature, rules, context, head, left) {
         Ok(typ) => typ,
         Err(fault) => return Err(fault),
     };
     while let Some(argument) = arguments.pop() {
-        typ = match apply(alloc, signature, context, typ, argument, left) {
+        typ = match apply(alloc, signature, rules, context, typ, argument, left) {
             Ok(typ) => typ,
             Err(fault) => return Err(fault),
         };
@@ -69,11 +71,12 @@ pub fn infer(
 fn infer_head(
     alloc: Global,
     signature: &Signature,
+    rules: &[&Rule],
     context: &mut Context,
     head: &Term,
     left: &mut u64,
 ) -> Result<Term, TypeFault>
-    requires no_rules { NoRules signature.now }
+    requires rules { AreRules signature.now rules.now }
     requires head { is_application (tree head.now) ≡ false }
     ensures gives { Infers signature.now context.old (tree head.now) left.old result left.new }
     ensures kept { IfOk result (λ _. Keeps context.old context.new) }
@@ -85,8 +88,8 @@ fn infer_head(
         Term::Var(k) => Ok(context.type_of(alloc, *k)?),
         Term::Rvar(_) => Ok(Term::Kind),
         Term::Abs(None, _) => Err(TypeFault::Refused(Code::E23)),
-        Term::Abs(Some(d), b) => infer_abstraction(alloc, signature, context, d, b, left),
-        Term::Prod(d, b) => infer_product(alloc, signature, context, d, b, left),
+        Term::Abs(Some(d), b) => infer_abstraction(alloc, signature, rules, context, d, b, left),
+        Term::Prod(d, b) => infer_product(alloc, signature, rules, context, d, b, left),
         Term::App(..) => Err(TypeFault::NoMemory),
     }
 }
@@ -97,21 +100,22 @@ fn infer_head(
 fn infer_abstraction(
     alloc: Global,
     signature: &Signature,
+    rules: &[&Rule],
     context: &mut Context,
     domain: &Term,
     body: &Term,
     left: &mut u64,
 ) -> Result<Term, TypeFault>
-    requires { NoRules signature.now }
+    requires { AreRules signature.now rules.now }
     ensures gives { Infers signature.now context.old (annotated (tree domain.now) (tree body.now)) left.old result left.new }
     ensures kept { IfOk result (λ _. Keeps context.old context.new) }
 {
-    match infer_domain(alloc, signature, context, domain, left) {
+    match infer_domain(alloc, signature, rules, context, domain, left) {
         Ok(()) => {}
         Err(fault) => return Err(fault),
     }
     context.bind(domain.erased(alloc)?)?;
-    let found = match infer(alloc, signature, context, body, left) {
+    let found = match infer(alloc, signature, rules, context, body, left) {
         Ok(found) => found,
         Err(fault) => return Err(fault),
     };
@@ -128,26 +132,27 @@ fn infer_abstraction(
 fn infer_product(
     alloc: Global,
     signature: &Signature,
+    rules: &[&Rule],
     context: &mut Context,
     domain: &Term,
     codomain: &Term,
     left: &mut u64,
 ) -> Result<Term, TypeFault>
-    requires { NoRules signature.now }
+    requires { AreRules signature.now rules.now }
     ensures gives { Infers signature.now context.old (product (tree domain.now) (tree codomain.now)) left.old result left.new }
     ensures kept { IfOk result (λ _. Keeps context.old context.new) }
 {
-    match infer_domain(alloc, signature, context, domain, left) {
+    match infer_domain(alloc, signature, rules, context, domain, left) {
         Ok(()) => {}
         Err(fault) => return Err(fault),
     }
     context.bind(domain.erased(alloc)?)?;
-    let found = match infer(alloc, signature, context, codomain, left) {
+    let found = match infer(alloc, signature, rules, context, codomain, left) {
         Ok(found) => found,
         Err(fault) => return Err(fault),
     };
     context.leave();
-    as_sort(alloc, signature, found, left)
+    as_sort(alloc, signature, rules, found, left)
 }
 
 /// That a domain has the type `Type`.
@@ -156,16 +161,17 @@ fn infer_product(
 fn infer_domain(
     alloc: Global,
     signature: &Signature,
+    rules: &[&Rule],
     context: &mut Context,
     domain: &Term,
     left: &mut u64,
 ) -> Result<(), TypeFault>
-    requires { NoRules signature.now }
+    requires { AreRules signature.now rules.now }
     ensures gives { FitsDomain signature.now context.old domain.now left.old result left.new }
     ensures kept { IfOk result (λ _. Keeps context.old context.new) }
 {
-    match infer(alloc, signature, context, domain, left) {
-        Ok(found) => as_star(alloc, signature, found, left),
+    match infer(alloc, signature, rules, context, domain, left) {
+        Ok(found) => as_star(alloc, signature, rules, found, left),
         Err(fault) => Err(fault),
     }
 }
@@ -176,20 +182,22 @@ fn infer_domain(
 fn apply(
     alloc: Global,
     signature: &Signature,
+    rules: &[&Rule],
     context: &mut Context,
     typ: Term,
     argument: &Term,
     left: &mut u64,
 ) -> Result<Term, TypeFault>
-    requires { NoRules signature.now }
+    requires { AreRules signature.now rules.now }
     ensures gives { Applies signature.now context.old argument.now typ left.old result left.new }
     ensures kept { IfOk result (λ _. Keeps context.old context.new) }
 {
-    let function = match as_product(alloc, signature, Code::E20, typ, left) {
+    let function = match as_product(alloc, signature, rules, Code::E20, typ, left) {
         Ok(function) => function,
         Err(fault) => return Err(fault),
     };
-    match check(alloc, signature, context, argument, &function.domain, left) {
+    let domain = &function.domain;
+    match check(alloc, signature, rules, context, argument, domain, left) {
         Ok(()) => {}
         Err(fault) => return Err(fault),
     }
@@ -206,20 +214,21 @@ fn apply(
 pub fn check(
     alloc: Global,
     signature: &Signature,
+    rules: &[&Rule],
     context: &mut Context,
     term: &Term,
     typ: &Term,
     left: &mut u64,
 ) -> Result<(), TypeFault>
-    requires { NoRules signature.now }
+    requires { AreRules signature.now rules.now }
     ensures gives { Checks signature.now context.old (tree term.now) typ.now left.old result left.new }
     ensures kept { IfOk result (λ _. Keeps context.old context.new) }
 {
     match term {
-        Term::Abs(None, b) => check_bare(alloc, signature, context, b, typ, left),
-        Term::Abs(Some(d), b) => check_annotated(alloc, signature, context, d, b, typ, left),
-        other => match infer(alloc, signature, context, other, left) {
-            Ok(found) => as_same(alloc, signature, &found, typ, left),
+        Term::Abs(None, b) => check_bare(alloc, signature, rules, context, b, typ, left),
+        Term::Abs(Some(d), b) => check_annotated(alloc, signature, rules, context, d, b, typ, left),
+        other => match infer(alloc, signature, rules, context, other, left) {
+            Ok(found) => as_same(alloc, signature, rules, &found, typ, left),
             Err(fault) => Err(fault),
         },
     }
@@ -231,21 +240,30 @@ pub fn check(
 fn check_bare(
     alloc: Global,
     signature: &Signature,
+    rules: &[&Rule],
     context: &mut Context,
     body: &Term,
     typ: &Term,
     left: &mut u64,
 ) -> Result<(), TypeFault>
-    requires { NoRules signature.now }
+    requires { AreRules signature.now rules.now }
     ensures gives { Checks signature.now context.old (bare (tree body.now)) typ.now left.old result left.new }
     ensures kept { IfOk result (λ _. Keeps context.old context.new) }
 {
-    let expected = match as_product(alloc, signature, Code::E24, typ.copy(alloc)?, left) {
+    let expected = match as_product(alloc, signature, rules, Code::E24, typ.copy(alloc)?, left) {
         Ok(expected) => expected,
         Err(fault) => return Err(fault),
     };
     context.bind(expected.domain)?;
-    match check(alloc, signature, context, body, &expected.codomain, left) {
+    match check(
+        alloc,
+        signature,
+        rules,
+        context,
+        body,
+        &expected.codomain,
+        left,
+    ) {
         Ok(()) => {}
         Err(fault) => return Err(fault),
     }
@@ -259,31 +277,40 @@ fn check_bare(
 fn check_annotated(
     alloc: Global,
     signature: &Signature,
+    rules: &[&Rule],
     context: &mut Context,
     annotation: &Term,
     body: &Term,
     typ: &Term,
     left: &mut u64,
 ) -> Result<(), TypeFault>
-    requires { NoRules signature.now }
+    requires { AreRules signature.now rules.now }
     ensures gives { Checks signature.now context.old (annotated (tree annotation.now) (tree body.now)) typ.now left.old result left.new }
     ensures kept { IfOk result (λ _. Keeps context.old context.new) }
 {
-    let expected = match as_product(alloc, signature, Code::E24, typ.copy(alloc)?, left) {
+    let expected = match as_product(alloc, signature, rules, Code::E24, typ.copy(alloc)?, left) {
         Ok(expected) => expected,
         Err(fault) => return Err(fault),
     };
-    match infer_domain(alloc, signature, context, annotation, left) {
+    match infer_domain(alloc, signature, rules, context, annotation, left) {
         Ok(()) => {}
         Err(fault) => return Err(fault),
     }
     let erased = annotation.erased(alloc)?;
-    match as_same(alloc, signature, &erased, &expected.domain, left) {
+    match as_same(alloc, signature, rules, &erased, &expected.domain, left) {
         Ok(()) => {}
         Err(fault) => return Err(fault),
     }
     context.bind(expected.domain)?;
-    match check(alloc, signature, context, body, &expected.codomain, left) {
+    match check(
+        alloc,
+        signature,
+        rules,
+        context,
+        body,
+        &expected.codomain,
+        left,
+    ) {
         Ok(()) => {}
         Err(fault) => return Err(fault),
     }

@@ -3,6 +3,7 @@
 //! Begin at `check_plain`.
 #![tactic(auto)]
 
+mod capture;
 mod check;
 mod compare;
 mod context;
@@ -12,8 +13,13 @@ mod fault;
 mod infer;
 pub mod laws;
 mod machine;
+mod matrix;
+mod normal;
+mod select;
 
 pub use check::{add_entry, check_plain, enter_plain, entry_of, infer_plain, is_untyped};
 
+#[cfg(test)]
+mod rule_tests;
 #[cfg(test)]
 mod tests;

@@ -1,10 +1,11 @@
 //! A term taken apart: its head, and its arguments on a stack.
-ghost use Rattle.std.specs.Prelude.{◌≡◌, IfOk, MatchOption, Some, None, true, false};
+ghost use Rattle.std.specs.Prelude.{◌≡◌, ◌≤◌, IfOk, false, length, map, take};
 ghost use Rattle.dk_model.specs.Trees.{tree};
-ghost use Rattle.dk_model.specs.Signatures.{plain_signature};
-ghost use Rattle.plain_check.specs.Machine.{trees, wound, is_application, body_at};
+ghost use Rattle.plain_check.specs.Machine.{trees, wound, is_application, from_top, unbound};
+ghost use Rattle.plain_check.specs.Matrix.{column};
 
-use dk_model::{Entry, NoMemory, Signature, Term, make_app};
+use crate::matrix::Column;
+use dk_model::{NoMemory, Term, make_app};
 use std::alloc::Global;
 
 /// Takes a term apart: its arguments go onto the stack, the first one on top.
@@ -38,12 +39,18 @@ pub fn wind(alloc: Global, head: Term, stack: Vec<Term>) -> Result<Term, NoMemor
     Ok(term)
 }
 
-/// The body of a definition.
-pub fn body_at(signature: &Signature, symbol: u32) -> Option<&Term>
-    ensures { MatchOption result (body_at (plain_signature signature.now) symbol ≡ None) (λ b. body_at (plain_signature signature.now) symbol ≡ Some (tree b.now)) }
+/// Columns of the first `width` arguments of a stack, each copied.
+#[tactic(auto, using(crate::proofs::Winding::column_pushed))]
+pub fn first_columns(alloc: Global, width: usize, stack: &[Term]) -> Result<Vec<Column>, NoMemory>
+    requires { width ≤ length stack.now }
+    ensures { IfOk result (λ columns. map column columns.items ≡ map unbound (take width (from_top stack.now))) }
 {
-    match signature.entries.get(symbol as usize) {
-        Some(Entry::Symbol { body: Some(b), .. }) => Some(b),
-        _ => None,
+    let mut columns = Vec::new(alloc);
+    for i in 0..width {
+        columns.push(Column {
+            depth: 0,
+            term: stack[stack.len() - 1 - i].copy(alloc)?,
+        })?;
     }
+    Ok(columns)
 }

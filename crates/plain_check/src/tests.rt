@@ -1,7 +1,4 @@
 //! Small files, as the commands that scoping makes of them.
-ghost use Rattle.dk_model.specs.Signatures.{plain_signature};
-ghost use Rattle.dk_model.specs.Verdicts.{HasNoRules};
-
 use crate::{add_entry, enter_plain};
 use dk_model::{
     Code, Listed, NoMemory, Scoped, Signature, SymSort, Term, Verdict, make_annotated, make_app,
