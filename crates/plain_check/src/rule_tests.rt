@@ -199,7 +199,7 @@ fn takes(alloc: Global, number: usize, units: u64) -> Result<bool, NoMemory> {
     let signature = signature(alloc)?;
     let rules = rules_in(alloc, &signature)?;
     let (term, value) = row(alloc, number)?;
-    let mut left = units - 1;
+    let mut left = units.saturating_sub(1);
     let short = whnf(
         alloc,
         &signature,
