@@ -10,6 +10,8 @@ mod Contexts
 mod Judging
 mod Spines
 mod Verdict
+mod Shaping
+mod Mentioning
 mod Refining
 mod Sources
 mod References

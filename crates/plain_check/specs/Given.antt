@@ -1,16 +1,31 @@
 -- What a call gives, by the cases of its result. Want of memory says nothing.
-use Rattle.std.specs.Prelude.{ℕ, ◌≡◌, Some, None, Bool, Result, Ok, Err}
+use Rattle.std.specs.Prelude.{ℕ, ◌≡◌, Some, None, Bool, Result, Ok, Err, List, map}
 use Rattle.dk_model.specs.Trees.{Tree, tree}
 use Rattle.dk_model.specs.Units.{Units}
 use Rattle.dk_model.specs.Typing.{Judged, answer, refused, ended}
 use Rattle.dk_model.specs.declared.term.Term.{Term}
+use Rattle.dk_model.specs.declared.code.Code.{Code}
 use Rattle.dk_model.specs.declared.code.Verdict.{Verdict}
-use Rattle.dk_model.specs.declared.code.Verdict.TheVariants.{Refused as RefusedBy, Ended as OutOfUnits, Memory as OutOfMemory}
+use Rattle.dk_model.specs.declared.signature.Rule.{Rule}
+use Rattle.dk_model.specs.Signatures.{PlainRule, plain_rule}
+use Rattle.dk_model.specs.declared.code.Verdict.TheVariants.{Accepted as Agreed, Refused as RefusedBy, Ended as OutOfUnits, Memory as OutOfMemory}
 use Rattle.plain_check.specs.declared.fault.Stop.{Stop}
 use Rattle.plain_check.specs.declared.fault.Stop.TheVariants.{Ended as Over, NoMemory as NoRoom}
 use Rattle.plain_check.specs.declared.fault.TypeFault.{TypeFault}
 use Rattle.plain_check.specs.declared.expect.Product.{Product}
 use Rattle.plain_check.specs.declared.fault.TypeFault.TheVariants.{Refused, Ended, NoMemory}
+
+-- the verdict of rules that have no shapes, which isn't that they are accepted
+abbrev pub IsVerdictOfShapes : {A : Type 0} → Result A Code → Verdict → Type 0
+IsVerdictOfShapes due (RefusedBy c) = due ≡ Err c
+IsVerdictOfShapes due OutOfMemory = Unit {0}
+IsVerdictOfShapes due OutOfUnits = ⊥
+IsVerdictOfShapes due Agreed = ⊥
+
+-- the rules of these shapes, or the verdict
+abbrev pub GivesShapes : Result (List PlainRule) Code → Result (List Rule) Verdict → Type 0
+GivesShapes due (Ok rs) = due ≡ Ok (map plain_rule rs)
+GivesShapes due (Err v) = IsVerdictOfShapes due v
 
 -- a term, with the units left
 abbrev pub GivesTerm : Units Tree → Result Term Stop → ℕ → Type 0

@@ -4,5 +4,6 @@ pub mod Pending
 pub mod Contexts
 pub mod Spine
 pub mod Matrix
+pub mod Mentions
 pub mod Selecting
 pub mod Clauses

@@ -1,10 +1,12 @@
 //! The verdict on a command, the type of a definition without one, and the entry of an accepted command.
 ghost use Rattle.std.specs.Prelude.{◌≡◌, ◌++◌, ◌∷◌, OnOk, OnErr, [], IfOk, IfErr, IsTrue, Some};
 ghost use Rattle.dk_model.specs.Trees.{tree};
-ghost use Rattle.dk_model.specs.Signatures.{plain_signature, plain_entry, maybe_tree};
+ghost use Rattle.dk_model.specs.Signatures.{plain_signature, plain_entry, maybe_tree, rules_entry};
 ghost use Rattle.dk_model.specs.Scoping.{plain_command};
-ghost use Rattle.dk_model.specs.Verdicts.{is_untyped, AddsNoRules, entry_type_of, kept_body};
-ghost use Rattle.plain_check.specs.Given.{fault_verdict};
+ghost use Rattle.dk_model.specs.Verdicts.{is_untyped, verdict, rules_checked, entry_type_of, kept_body, IsVerdictOrMemory};
+ghost use Rattle.dk_model.specs.Shapes.{kept_rules};
+ghost use Rattle.pattern_compile.specs.Answers.{command_shapes};
+ghost use Rattle.plain_check.specs.Given.{fault_verdict, GivesShapes};
 ghost use Rattle.plain_check.specs.Matrix.{AreRules};
 ghost use Rattle.plain_check.specs.Clauses.{due, IsDue, inferred_for, IsEntryOf, ChecksDeclaration, ChecksBody, GivesSort, GivesBodyType};
 
@@ -13,13 +15,18 @@ use crate::expect::{as_sort, not_kind};
 use crate::fault::TypeFault;
 use crate::infer::{check, infer};
 use crate::matrix::rules_in;
-use dk_model::{Code, Entry, Listed, NoMemory, Rule, Scoped, Signature, SymSort, Term, Verdict};
+use dk_model::{
+    Entry, Fault, Listed, NoMemory, Rule, Scoped, ScopedRule, Signature, SymSort, Term, Verdict,
+};
+use pattern_compile::{erase_all, shape_all};
 use std::alloc::Global;
 
 /// The verdict on a command over the signature of the commands before it (docs/typing.md).
 ///
 /// The check may take `budget` units; `Ended` says that it needs more. `Memory` says nothing of the command.
-#[tactic(auto, using(crate::proofs::Verdict::fit_verdict))]
+///
+/// Rules have the verdict of their shapes, which take no unit (docs/rules.md); their types aren't looked at.
+#[tactic(auto, using(crate::proofs::Verdict::fit_verdict, crate::proofs::Shaping::shapes_accepted, crate::proofs::Shaping::shapes_refused))]
 pub fn check_plain(alloc: Global, signature: &Signature, command: &Scoped, budget: u64) -> Verdict
     ensures { IsDue signature.now command.now budget result }
 {
@@ -35,7 +42,25 @@ pub fn check_plain(alloc: Global, signature: &Signature, command: &Scoped, budge
                 Err(fault) => fault_verdict(fault),
             }
         }
-        Scoped::Rules(_) => Verdict::Refused(Code::E31),
+        Scoped::Rules(rules) => match shaped(alloc, signature, rules) {
+            Ok(_) => Verdict::Accepted,
+            Err(verdict) => verdict,
+        },
+    }
+}
+
+/// The rules of a command, where each has its shape; else the verdict on the command.
+fn shaped(
+    alloc: Global,
+    signature: &Signature,
+    rules: &Listed<ScopedRule>,
+) -> Result<Listed<Rule>, Verdict>
+    ensures { GivesShapes (command_shapes signature.now rules.now) result }
+{
+    match shape_all(alloc, signature, rules) {
+        Ok(rules) => Ok(rules),
+        Err(Fault::Refused(code)) => Err(Verdict::Refused(code)),
+        Err(Fault::NoMemory) => Err(Verdict::Memory),
     }
 }
 
@@ -84,6 +109,9 @@ pub fn is_untyped(command: &Scoped) -> bool
 }
 
 /// The entry that a command adds, where it is accepted; else its verdict.
+///
+/// The entry has the declared type without annotations, or the inferred one; a definition keeps its body, a theorem
+/// none. Rules are kept without the annotations in guards and right sides.
 pub fn enter_plain(
     alloc: Global,
     signature: &Signature,
@@ -92,7 +120,47 @@ pub fn enter_plain(
 ) -> Result<Entry, Verdict>
     ensures ok { IfOk result (λ e. IsEntryOf signature.now command.now (inferred_for signature.now command.now budget) e) }
     ensures accepted { IfOk result (λ _. due signature.now command.now budget ≡ Verdict.Accepted) }
-    ensures no_rules { IfOk result (λ e. AddsNoRules (plain_entry e)) }
+    ensures err { IfErr result (λ v. IsDue signature.now command.now budget v) }
+    ensures refused { IfErr result (λ v. ¬ (v ≡ Verdict.Accepted)) }
+{
+    match command {
+        Scoped::Declare { .. } => enter_declaration(alloc, signature, command, budget),
+        Scoped::Rules(rules) => enter_rules(alloc, signature, rules, budget),
+    }
+}
+
+/// The same for rules.
+#[tactic(auto, using(crate::proofs::Shaping::shapes_accepted, crate::proofs::Shaping::shapes_refused, crate::proofs::Shaping::not_accepted, crate::proofs::Shaping::rules_kept))]
+fn enter_rules(
+    alloc: Global,
+    signature: &Signature,
+    rules: &Listed<ScopedRule>,
+    budget: u64,
+) -> Result<Entry, Verdict>
+    ensures ok { IfOk result (λ e. plain_entry e ≡ rules_entry (kept_rules (command_shapes signature.now rules.now))) }
+    ensures accepted { IfOk result (λ _. verdict (rules_checked (command_shapes signature.now rules.now) budget) ≡ Verdict.Accepted) }
+    ensures err { IfErr result (λ v. IsVerdictOrMemory (verdict (rules_checked (command_shapes signature.now rules.now) budget)) v) }
+    ensures refused { IfErr result (λ v. ¬ (v ≡ Verdict.Accepted)) }
+{
+    let shapes = match shaped(alloc, signature, rules) {
+        Ok(shapes) => shapes,
+        Err(verdict) => return Err(verdict),
+    };
+    match erase_all(alloc, shapes) {
+        Ok(kept) => Ok(Entry::Rules(kept)),
+        Err(_) => Err(Verdict::Memory),
+    }
+}
+
+/// The same for a declaration, definition or theorem.
+fn enter_declaration(
+    alloc: Global,
+    signature: &Signature,
+    command: &Scoped,
+    budget: u64,
+) -> Result<Entry, Verdict>
+    ensures ok { IfOk result (λ e. IsEntryOf signature.now command.now (inferred_for signature.now command.now budget) e) }
+    ensures accepted { IfOk result (λ _. due signature.now command.now budget ≡ Verdict.Accepted) }
     ensures err { IfErr result (λ v. IsDue signature.now command.now budget v) }
     ensures refused { IfErr result (λ v. ¬ (v ≡ Verdict.Accepted)) }
 {
@@ -215,17 +283,14 @@ fn infer_body(
     }
 }
 
-/// The entry that an accepted command adds, with the type that was inferred for a definition without a declared one.
-///
-/// A definition keeps its body; a theorem keeps none.
-pub fn entry_of(
+/// The entry of an accepted declaration, with the type that was inferred for a definition without a declared one.
+fn entry_of(
     alloc: Global,
     signature: &Signature,
     command: &Scoped,
     inferred: Option<Term>,
 ) -> Result<Entry, NoMemory>
-    ensures value { IfOk result (λ e. IsEntryOf signature.now command.now (maybe_tree inferred) e) }
-    ensures no_rules { IfOk result (λ e. AddsNoRules (plain_entry e)) }
+    ensures { IfOk result (λ e. IsEntryOf signature.now command.now (maybe_tree inferred) e) }
 {
     match command {
         Scoped::Declare { sort, typ, body } => {
@@ -237,7 +302,7 @@ pub fn entry_of(
                 body,
             })
         }
-        Scoped::Rules(_) => Ok(Entry::Rules(Listed::new(alloc))),
+        Scoped::Rules(_) => Err(NoMemory),
     }
 }
 

@@ -11,6 +11,7 @@ ghost use Rattle.plain_check.specs.Clauses.{Infers, Checks, FitsDomain, Applies,
 use crate::context::Context;
 use crate::expect::{as_product, as_same, as_sort, as_star, not_kind, symbol_type};
 use crate::fault::TypeFault;
+use crate::instance::instance;
 use dk_model::{Code, NoMemory, Rule, Signature, Term, make_product};
 use std::alloc::Global;
 
@@ -201,11 +202,7 @@ fn apply(
         Ok(()) => {}
         Err(fault) => return Err(fault),
     }
-    Ok(
-        function
-            .codomain
-            .substitute(alloc, 0, &argument.erased(alloc)?)?,
-    )
+    Ok(instance(alloc, &function.codomain, argument)?)
 }
 
 /// That a term fits a type.

@@ -11,13 +11,14 @@ mod evaluate;
 mod expect;
 mod fault;
 mod infer;
+mod instance;
 pub mod laws;
 mod machine;
 mod matrix;
 mod normal;
 mod select;
 
-pub use check::{add_entry, check_plain, enter_plain, entry_of, infer_plain, is_untyped};
+pub use check::{add_entry, check_plain, enter_plain, infer_plain, is_untyped};
 
 #[cfg(test)]
 mod rule_tests;
