@@ -89,6 +89,18 @@ fn read(alloc: Global, text: &str) -> Result<Outcome, NoMemory> {
     })
 }
 
+// Whether a text is read as so many commands, this fault and this line.
+fn is_read(
+    alloc: Global,
+    text: &str,
+    commands: u32,
+    fault: Option<Code>,
+    begun: Option<u32>,
+) -> Result<bool, NoMemory> {
+    let outcome = read(alloc, text)?;
+    Ok(outcome.commands == commands && outcome.fault == fault && outcome.begun == begun)
+}
+
 #[test]
 fn reads_up_to_the_first_fault(rt: HostRuntime) -> Result<(), Fail> {
     for (text, commands, fault, begun) in [
@@ -105,6 +117,18 @@ fn reads_up_to_the_first_fault(rt: HostRuntime) -> Result<(), Fail> {
         ("a : Type . thm t : a .", 1, Some(Code::E02), Some(1)),
         ("a : Type := a .", 0, Some(Code::E02), Some(1)),
         ("a : Type .\n_ . c : a .", 1, Some(Code::E02), Some(2)),
+    ] {
+        assert!(rt;
+            is_read(rt.alloc(), text, commands, fault, begun)?,
+            "at {text}"
+        );
+    }
+    Ok(())
+}
+
+#[test]
+fn reads_terms(rt: HostRuntime) -> Result<(), Fail> {
+    for (text, commands, fault, begun) in [
         (
             "s : n -> n . p : x : n -> e x x . q : ( x : n ) -> e x x .",
             3,
@@ -120,49 +144,58 @@ fn reads_up_to_the_first_fault(rt: HostRuntime) -> Result<(), Fail> {
         ("x : ( x : n => Type ) z .", 1, None, None),
         ("x : y : a -> b -> c .", 1, None, None),
         ("x : y : a .", 0, Some(Code::E02), Some(1)),
-        ("x : y => a .", 0, Some(Code::E02), Some(1)),
+        ("x : y => a .", 1, None, None),
         ("x : f ( x : a ) -> b .", 0, Some(Code::E02), Some(1)),
         ("x : y : ( x : a ) -> b .", 0, Some(Code::E02), Some(1)),
         ("x : ( ( x : a ) ) -> b .", 0, Some(Code::E02), Some(1)),
         ("x : ( x : a ) => b .", 0, Some(Code::E02), Some(1)),
         ("x : m.n : a -> b .", 0, Some(Code::E02), Some(1)),
-        ("def id ( x : a ) : a := x .", 1, None, None),
-        (
-            "def y := x . def f : a -> a . def {|x|} : a := x .",
-            3,
-            None,
-            None,
-        ),
-        (
-            "thm t ( x : a ) ( y : b x ) : a := x => y => x .",
-            1,
-            None,
-            None,
-        ),
-        (
-            "def b ( x : A ) := t . c ( _ : A -> A ) : B .",
-            2,
-            None,
-            None,
-        ),
-        ("def k := ( x => _ => x : a => x ) z .", 1, None, None),
-        ("def c .", 0, Some(Code::E02), Some(1)),
-        ("def : a .", 0, Some(Code::E02), Some(1)),
-        ("thm t : a .", 0, Some(Code::E02), Some(1)),
-        ("c ( x : A ) .", 0, Some(Code::E02), Some(1)),
-        ("thm t := x .", 0, Some(Code::E02), Some(1)),
-        ("x : A := t .", 0, Some(Code::E02), Some(1)),
-        ("x := t .", 0, Some(Code::E02), Some(1)),
-        ("c ( x ) : A .", 0, Some(Code::E02), Some(1)),
-        ("c ( m.n : A ) : B .", 0, Some(Code::E02), Some(1)),
-        ("c ( x : A ) ) : B .", 0, Some(Code::E02), Some(1)),
-        ("def f := a b => c .", 0, Some(Code::E02), Some(1)),
-        ("def f : x => .", 0, Some(Code::E02), Some(1)),
     ] {
-        let outcome = read(rt.alloc(), text)?;
-        assert_eq!(rt; outcome.commands, commands, "at {text}");
-        assert_eq!(rt; outcome.fault, fault, "at {text}");
-        assert_eq!(rt; outcome.begun, begun, "at {text}");
+        assert!(rt;
+            is_read(rt.alloc(), text, commands, fault, begun)?,
+            "at {text}"
+        );
+    }
+    Ok(())
+}
+
+#[test]
+fn reads_definitions(rt: HostRuntime) -> Result<(), Fail> {
+    for (text, commands) in [
+        ("def id ( x : a ) : a := x .", 1),
+        ("def y := x . def f : a -> a . def {|x|} : a := x .", 3),
+        ("thm t ( x : a ) ( y : b x ) : a := x => y => x .", 1),
+        ("def b ( x : A ) := t . c ( _ : A -> A ) : B .", 2),
+        ("def k := ( x => _ => x : a => x ) z .", 1),
+    ] {
+        assert!(rt;
+            is_read(rt.alloc(), text, commands, None, None)?,
+            "at {text}"
+        );
+    }
+    Ok(())
+}
+
+#[test]
+fn refuses_what_is_no_command(rt: HostRuntime) -> Result<(), Fail> {
+    for text in [
+        "def c .",
+        "def : a .",
+        "thm t : a .",
+        "c ( x : A ) .",
+        "thm t := x .",
+        "x : A := t .",
+        "x := t .",
+        "c ( x ) : A .",
+        "c ( m.n : A ) : B .",
+        "c ( x : A ) ) : B .",
+        "def f := a b => c .",
+        "def f : x => .",
+    ] {
+        assert!(rt;
+            is_read(rt.alloc(), text, 0, Some(Code::E02), Some(1))?,
+            "at {text}"
+        );
     }
     Ok(())
 }
@@ -220,16 +253,16 @@ fn ends_levels_and_arguments_at_the_limit(rt: HostRuntime) -> Result<(), Fail> {
 fn counts_parameters_as_levels(rt: HostRuntime) -> Result<(), Fail> {
     let alloc = rt.alloc();
     for (words, levels, code) in [
-        ("c ( x : A ) ( y :", 2, Err(Code::E03)),
-        ("c ( x : A ) (", 1, Err(Code::E04)),
-        ("c ( x : A -> B ) : A .", 2, Ok(())),
-        ("c ( x : A -> B ) : A .", 1, Err(Code::E04)),
-        ("def c ( x : A ) : A -> A := a .", 2, Ok(())),
-        ("def c ( x : A ) : A -> A := a .", 1, Err(Code::E04)),
-        ("def c ( x : A ) : A := ( a ) .", 2, Ok(())),
-        ("def c ( x : A ) : A := ( a ) .", 1, Err(Code::E04)),
-        ("def c ( x : A ) := y => y .", 1, Err(Code::E04)),
-        ("def c ( x : A ) := y . def d ( x : A ) := y .", 1, Ok(())),
+        ("c ( x : A ) ( y :", 2, Some(Code::E03)),
+        ("c ( x : A ) (", 1, Some(Code::E04)),
+        ("c ( x : A -> B ) : A .", 2, None),
+        ("c ( x : A -> B ) : A .", 1, Some(Code::E04)),
+        ("def c ( x : A ) : A -> A := a .", 2, None),
+        ("def c ( x : A ) : A -> A := a .", 1, Some(Code::E04)),
+        ("def c ( x : A ) : A := ( a ) .", 2, None),
+        ("def c ( x : A ) : A := ( a ) .", 1, Some(Code::E04)),
+        ("def c ( x : A ) := y => y .", 1, Some(Code::E04)),
+        ("def c ( x : A ) := y . def d ( x : A ) := y .", 1, None),
     ] {
         let limits = Limits {
             levels,
@@ -237,7 +270,7 @@ fn counts_parameters_as_levels(rt: HostRuntime) -> Result<(), Fail> {
         };
         let mut parser = Parser::new(alloc, limits)?;
         feed_times(alloc, &mut parser, words, 1)?;
-        assert_eq!(rt; parser.finish(), code, "at {words} and {levels}");
+        assert_eq!(rt; parser.finish().err(), code, "at {words} and {levels}");
     }
     Ok(())
 }
