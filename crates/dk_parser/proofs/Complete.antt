@@ -66,10 +66,10 @@ ended_out None fs b e = cc
 ended_out (Some a) fs b e = whole_out fs a b e
 
 -- a terminal that ends a whole term
-abbrev Enders : Terminal → Type 0
+abbrev pub Enders : Terminal → Type 0
 Enders x = (p : TermPart) (a : Written) → term_done p ≡ Some a → takes p x ≡ false
 
-close_enders : Enders close_bracket
+pub close_enders : Enders close_bracket
 close_enders p a e = ended_out (slot_term p.slot) p.frames a e
 
 abbrev pub at : Frames → Slot → TermPart
@@ -369,10 +369,10 @@ param_complete h {x} {v} {xs} {a} s k rest =
     binder_complete h x v (colon ∷ (xs ++ close_bracket ∷ rest)) s
     ∙ term_complete (as_param h v) k (level_behind h + 1) close_bracket rest close_enders
 
-abbrev head_of : SymSort → List ℕ → List WrittenParam → Head
+abbrev pub head_of : SymSort → List ℕ → List WrittenParam → Head
 head_of s n ps = record { sort = s; name = n; params = ps }
 
-params_complete : (s : SymSort) (n : List ℕ) (ps : List WrittenParam) {xs : List Terminal} {qs : List WrittenParam} → SpellsParams xs qs → (rest : List Terminal) → run (head_due (head_of s n ps)) (xs ++ rest) ≡ run (head_due (head_of s n (ps ++ qs))) rest
+pub params_complete : (s : SymSort) (n : List ℕ) (ps : List WrittenParam) {xs : List Terminal} {qs : List WrittenParam} → SpellsParams xs qs → (rest : List Terminal) → run (head_due (head_of s n ps)) (xs ++ rest) ≡ run (head_due (head_of s n (ps ++ qs))) rest
 params_complete s n ps spells_no_params rest = ap (λ qs. run (head_due (head_of s n qs)) rest) (sym (append_nil ps))
 params_complete s n ps (spells_params {x} {v} {xs} {ys} {a} {ps = qs} b k h) rest =
     ap (λ zs. run (head_due (head_of s n ps)) (open_bracket ∷ x ∷ colon ∷ zs)) (append_assoc xs (close_bracket ∷ ys) rest)
@@ -380,28 +380,8 @@ params_complete s n ps (spells_params {x} {v} {xs} {ys} {a} {ps = qs} b k h) res
     ∙ params_complete s n (ps ++ param v a ∷ []) h rest
     ∙ ap (λ qs. run (head_due (head_of s n qs)) rest) (append_assoc ps (param v a ∷ []) qs)
 
-type_complete : (h : Head) {xs : List Terminal} {a : Written} → SpellsTerm xs a → (x : Terminal) (rest : List Terminal) → Enders x → run (head_due h) (colon ∷ (xs ++ x ∷ rest)) ≡ run_by (behind_term (as_type h) a x) (λ q. run q rest) rest
+pub type_complete : (h : Head) {xs : List Terminal} {a : Written} → SpellsTerm xs a → (x : Terminal) (rest : List Terminal) → Enders x → run (head_due h) (colon ∷ (xs ++ x ∷ rest)) ≡ run_by (behind_term (as_type h) a x) (λ q. run q rest) rest
 type_complete h k x rest enders = term_complete (as_type h) k (level_behind h) x rest enders
 
-body_complete : (h : Head) (typ : Option Written) {xs : List Terminal} {b : Written} → SpellsTerm xs b → run (in_term (as_body h typ) (term_due (level_behind h))) (xs ++ dot ∷ []) ≡ ended (written_declare h.sort h.name h.params typ (Some b)) []
+pub body_complete : (h : Head) (typ : Option Written) {xs : List Terminal} {b : Written} → SpellsTerm xs b → run (in_term (as_body h typ) (term_due (level_behind h))) (xs ++ dot ∷ []) ≡ ended (written_declare h.sort h.name h.params typ (Some b)) []
 body_complete h typ k = term_complete (as_body h typ) k (level_behind h) dot [] (λ p a e. refl)
-
--- a command is read as what it spells
-pub complete : {xs : List Terminal} {form : WrittenForm} → SpellsForm xs form → run command_due xs ≡ ended form []
-complete (spells_static {n} {xs} {ys} {ps} {a} h k) =
-    params_complete Static n [] h (colon ∷ (ys ++ dot ∷ []))
-    ∙ type_complete (head_of Static n ps) k dot [] (λ p a e. refl)
-complete (spells_definable {n} {xs} {ys} {ps} {a} h k) =
-    params_complete Definable n [] h (colon ∷ (ys ++ dot ∷ []))
-    ∙ type_complete (head_of Definable n ps) k dot [] (λ p a e. refl)
-complete (spells_definition {n} {xs} {ys} {ps} {b} h k) =
-    params_complete Definable n [] h (defined ∷ (ys ++ dot ∷ []))
-    ∙ body_complete (head_of Definable n ps) None k
-complete (spells_typed_definition {n} {xs} {ys} {zs} {ps} {a} {b} h k j) =
-    params_complete Definable n [] h (colon ∷ (ys ++ defined ∷ (zs ++ dot ∷ [])))
-    ∙ type_complete (head_of Definable n ps) k defined (zs ++ dot ∷ []) (λ p a e. refl)
-    ∙ body_complete (head_of Definable n ps) (Some a) j
-complete (spells_theorem {n} {xs} {ys} {zs} {ps} {a} {b} h k j) =
-    params_complete Theorem n [] h (colon ∷ (ys ++ defined ∷ (zs ++ dot ∷ [])))
-    ∙ type_complete (head_of Theorem n ps) k defined (zs ++ dot ∷ []) (λ p a e. refl)
-    ∙ body_complete (head_of Theorem n ps) (Some a) j

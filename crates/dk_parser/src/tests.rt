@@ -12,18 +12,27 @@ struct Outcome {
     begun: Option<u32>,
 }
 
-fn kind_of(word: &str) -> TokenKind {
+fn sign_of(word: &str) -> Option<Sign> {
     match word {
-        ":" => TokenKind::Sign(Sign::Colon),
-        ":=" => TokenKind::Sign(Sign::Defined),
-        "->" => TokenKind::Sign(Sign::Arrow),
-        "=>" => TokenKind::Sign(Sign::DoubleArrow),
-        "-->" => TokenKind::Sign(Sign::LongArrow),
-        "." => TokenKind::Sign(Sign::Dot),
-        "(" => TokenKind::Sign(Sign::OpenBracket),
-        ")" => TokenKind::Sign(Sign::CloseBracket),
-        "[" => TokenKind::Sign(Sign::OpenSquare),
-        "]" => TokenKind::Sign(Sign::CloseSquare),
+        ":" => Some(Sign::Colon),
+        ":=" => Some(Sign::Defined),
+        "->" => Some(Sign::Arrow),
+        "=>" => Some(Sign::DoubleArrow),
+        "-->" => Some(Sign::LongArrow),
+        "." => Some(Sign::Dot),
+        "," => Some(Sign::Comma),
+        "(" => Some(Sign::OpenBracket),
+        ")" => Some(Sign::CloseBracket),
+        "[" => Some(Sign::OpenSquare),
+        "]" => Some(Sign::CloseSquare),
+        "{" => Some(Sign::OpenBrace),
+        "}" => Some(Sign::CloseBrace),
+        _ => None,
+    }
+}
+
+fn word_kind(word: &str) -> TokenKind {
+    match word {
         "Type" => TokenKind::Star,
         "def" => TokenKind::Def,
         "thm" => TokenKind::Thm,
@@ -33,6 +42,13 @@ fn kind_of(word: &str) -> TokenKind {
         "{|x|}" => TokenKind::Quoted,
         "m.n" => TokenKind::Qualified,
         _ => TokenKind::Plain,
+    }
+}
+
+fn kind_of(word: &str) -> TokenKind {
+    match sign_of(word) {
+        Some(sign) => TokenKind::Sign(sign),
+        None => word_kind(word),
     }
 }
 
@@ -201,6 +217,50 @@ fn refuses_what_is_no_command(rt: HostRuntime) -> Result<(), Fail> {
 }
 
 #[test]
+fn reads_rules(rt: HostRuntime) -> Result<(), Fail> {
+    for (text, commands) in [
+        ("[ ] f --> a .", 1),
+        ("{ g_rule } [ x : a ] g x --> x .", 1),
+        (
+            "[ n ] plus z n --> n [ m , n ] plus ( s m ) n --> s ( plus m n ) .",
+            1,
+        ),
+        ("[ F ] sw ( x => y => F x y ) --> a => b => F b a .", 1),
+        ("[ ] g { c } --> a . [ ] { c } --> a .", 2),
+        ("{ m.n } [ ] f --> a { r } [ ] g --> b . x : Type .", 2),
+        ("[ x : a -> b , y ] f ( _ => x ) { m.n } --> x .", 1),
+    ] {
+        assert!(rt;
+            is_read(rt.alloc(), text, commands, None, None)?,
+            "at {text}"
+        );
+    }
+    Ok(())
+}
+
+#[test]
+fn refuses_what_is_no_rule(rt: HostRuntime) -> Result<(), Fail> {
+    for text in [
+        "[ x , ] f --> x .",
+        "[ x f --> x .",
+        "[ m.n ] f --> a .",
+        "[ ] Type --> a .",
+        "[ ] f ( x : A => x ) --> a .",
+        "[ ] x => f --> a .",
+        "[ ] f ( a --> b .",
+        "[ ] f { a --> b .",
+        "[ ] --> a .",
+        "{ r } f : a .",
+    ] {
+        assert!(rt;
+            is_read(rt.alloc(), text, 0, Some(Code::E02), Some(1))?,
+            "at {text}"
+        );
+    }
+    Ok(())
+}
+
+#[test]
 fn gives_the_command_as_written(rt: HostRuntime) -> Result<(), Fail> {
     let alloc = rt.alloc();
     let mut parser = Parser::new(alloc, Limits::standard())?;
@@ -249,28 +309,47 @@ fn ends_levels_and_arguments_at_the_limit(rt: HostRuntime) -> Result<(), Fail> {
     Ok(())
 }
 
+// What the end answers where these words are read with so many levels.
+fn read_within(alloc: Global, words: &str, levels: u32) -> Result<Option<Code>, NoMemory> {
+    let mut limits = Limits::standard();
+    limits.levels = levels;
+    let mut parser = Parser::new(alloc, limits)?;
+    feed_times(alloc, &mut parser, words, 1)?;
+    Ok(parser.finish().err())
+}
+
 #[test]
 fn counts_parameters_as_levels(rt: HostRuntime) -> Result<(), Fail> {
-    let alloc = rt.alloc();
-    for (words, levels, code) in [
-        ("c ( x : A ) ( y :", 2, Some(Code::E03)),
-        ("c ( x : A ) (", 1, Some(Code::E04)),
-        ("c ( x : A -> B ) : A .", 2, None),
-        ("c ( x : A -> B ) : A .", 1, Some(Code::E04)),
-        ("def c ( x : A ) : A -> A := a .", 2, None),
-        ("def c ( x : A ) : A -> A := a .", 1, Some(Code::E04)),
-        ("def c ( x : A ) : A := ( a ) .", 2, None),
-        ("def c ( x : A ) : A := ( a ) .", 1, Some(Code::E04)),
-        ("def c ( x : A ) := y => y .", 1, Some(Code::E04)),
-        ("def c ( x : A ) := y . def d ( x : A ) := y .", 1, None),
+    for (words, levels) in [
+        ("c ( x : A -> B ) : A .", 2),
+        ("def c ( x : A ) : A -> A := a .", 2),
+        ("def c ( x : A ) : A := ( a ) .", 2),
+        ("def c ( x : A ) := y => y .", 2),
+        ("def c ( x : A ) := y . def d ( x : A ) := y .", 1),
     ] {
-        let limits = Limits {
-            levels,
-            ..Limits::standard()
-        };
-        let mut parser = Parser::new(alloc, limits)?;
-        feed_times(alloc, &mut parser, words, 1)?;
-        assert_eq!(rt; parser.finish().err(), code, "at {words} and {levels}");
+        let code = read_within(rt.alloc(), words, levels)?;
+        assert_eq!(rt; code, None, "at {words}");
+        let code = read_within(rt.alloc(), words, levels - 1)?;
+        assert_eq!(rt; code, Some(Code::E04), "at {words}");
+    }
+    Ok(())
+}
+
+#[test]
+fn counts_the_levels_of_rules(rt: HostRuntime) -> Result<(), Fail> {
+    for (words, levels) in [
+        ("[ ] f ( x => a ) --> b .", 2),
+        ("[ ] f { a } --> ( b ) .", 1),
+        ("[ ] f { ( a ) } --> b .", 2),
+        ("[ ] f { a } --> b -> c -> d .", 2),
+        ("[ ] f a b --> c .", 2),
+        ("[ ] f ( a ) { b } --> c .", 2),
+        ("[ x : ( a ) ] f --> c .", 1),
+    ] {
+        let code = read_within(rt.alloc(), words, levels)?;
+        assert_eq!(rt; code, None, "at {words}");
+        let code = read_within(rt.alloc(), words, levels - 1)?;
+        assert_eq!(rt; code, Some(Code::E04), "at {words}");
     }
     Ok(())
 }
