@@ -10,7 +10,7 @@ use Rattle.dk_parser.specs.declared.terminal.Terminal.TheVariants as terminal
 use Rattle.dk_parser.specs.Written.{Written, written_qualified, written_star, written_apply, written_arrow, written_product, written_bare, written_annotated, WrittenParam, WrittenPattern, pattern_qualified, pattern_guard, WrittenForm}
 use Rattle.dk_parser.specs.Grammar.{dot, param, entry}
 use Rattle.dk_parser.specs.Levels.{Group, empty_group, atom_more, Groups, no_groups, with_inner, closed, grouped, Side, in_head, behind_head, on_left, Standing, at_start, params_closed, side_at_colon, stands, standing_from, standing, arrows_of, level_of, argument_in, load}
-use Rattle.dk_parser.specs.Parsing.{at_front, domain, Slot, due, bindable, applied, bracketed, Frame, bracket_frame, arrow_frame, product_frame, bare_frame, annotated_frame, Frames, bottom, on, TermPart, depth, pushed, binder_term, atoms, slot_more, slot_binder, takes_atom, in_frames, unwound, next_open, next_close, next_close_term, next_close_domain, next_colon, next_arrow, next_double_arrow, framed, term_next, term_argument, term_done, in_bracket, takes, PatternSlot, pattern_due, pattern_bindable, pattern_applied, Binders, no_binders, binder_on, PatternFrames, no_bracket, bracket_on, PatternPart, left_due, pattern_depth, pattern_atoms, pattern_more, pattern_binder, slot_pattern, under_binders, with_atom, with_binder, pattern_opened, pattern_closed, pattern_bound, pattern_next, pattern_argument, pattern_done, RuleHead, with_entry, with_rule, Head, level_behind, with_param, Purpose, as_param, as_type, as_body, as_entry, as_guard, as_right, Part, command_due, name_due, head_due, binder_due, binder_colon_due, rule_name_due, rule_brace_due, square_due, context_due, entry_due, entry_named, in_left, in_term, PartStep, goes, ends, refuses, body_due, body_behind_head, body_behind_type, dot_behind_type, behind_entry, behind_rule, behind_term, named_next, left_goes, right_due, guard_due, left_next, term_goes, term_ends, in_term_next, head_next, part_next}
+use Rattle.dk_parser.specs.Parsing.{at_front, domain, Slot, due, bindable, applied, bracketed, Frame, bracket_frame, arrow_frame, product_frame, bare_frame, annotated_frame, Frames, bottom, on, TermPart, depth, pushed, binder_term, atoms, slot_more, slot_binder, takes_atom, in_frames, unwound, next_open, next_close, next_close_term, next_close_domain, next_colon, next_arrow, next_double_arrow, framed, term_next, term_argument, term_done, in_bracket, takes, PatternSlot, pattern_due, pattern_bindable, pattern_applied, Binders, no_binders, binder_on, PatternFrames, no_bracket, bracket_on, PatternPart, pattern_depth, pattern_atoms, pattern_more, pattern_binder, slot_pattern, under_binders, with_atom, with_binder, pattern_opened, pattern_closed, pattern_bound, pattern_next, pattern_argument, pattern_done, RuleHead, with_entry, with_rule, Head, level_behind, with_param, Purpose, as_param, as_type, as_body, as_entry, as_guard, as_right, Part, command_due, name_due, head_due, binder_due, binder_colon_due, rule_name_due, rule_brace_due, square_due, context_due, entry_due, entry_named, in_left, in_term, PartStep, goes, ends, refuses, body_due, body_behind_head, body_behind_type, dot_behind_type, behind_entry, behind_rule, behind_term, named_next, left_goes, right_due, guard_due, left_next, term_goes, term_ends, in_term_next, head_next, part_next}
 use Rattle.dk_parser.proofs.Machine.{going, run, follow}
 use Rattle.dk_parser.proofs.Complete.{at, next_takes, close_enders}
 

@@ -1,11 +1,11 @@
 -- What may stand behind a part of a rule.
-use Rattle.std.proofs.Common.{◌≡◌, ℕ, ◌+◌, List, [], ◌∷◌, ◌++◌, refl, sym, ap, ◌∙◌, subst, append_assoc}
-use Rattle.std.specs.Prelude.{Option, Some, None}
+use Rattle.std.proofs.Common.{◌≡◌, ℕ, List, [], ◌∷◌, ◌++◌, refl, sym, ap, ◌∙◌, subst, append_assoc}
+use Rattle.std.specs.Prelude.{Some, None}
 use Rattle.dk_parser.specs.declared.terminal.Terminal.{Terminal}
 use Rattle.dk_parser.specs.declared.terminal.Terminal.TheVariants as terminal
 use Rattle.dk_parser.specs.Written.{Written, written_star, WrittenPattern, pattern_wild, WrittenNote, WrittenRule, WrittenForm, written_rules}
-use Rattle.dk_parser.specs.Grammar.{colon, dot, open_square, close_square, open_brace, close_brace, comma, long_arrow, open_bracket, close_bracket, entry, rule, SpellsTerm, spells_star, spells_head, spells_application, SpellsPatternApplication, spells_pattern_head, spells_pattern_wildcard, SpellsEntry, spells_entry, spells_typed_entry, SpellsEntries, spells_last_entry, spells_more_entries, SpellsContext, spells_no_context, spells_context, SpellsRuleName, spells_no_rule_name, spells_rule_name, SpellsRule, spells_rule, SpellsRules, spells_last_rule, spells_more_rules}
-use Rattle.dk_parser.specs.Parsing.{PatternSlot, pattern_due, pattern_bindable, pattern_applied, PatternFrames, no_bracket, bracket_on, PatternPart, left_due, binder_pattern, pattern_more, slot_pattern, under_binders, with_binder, pattern_closed, pattern_next, RuleHead, with_entry, with_rule}
+use Rattle.dk_parser.specs.Grammar.{colon, dot, open_square, close_square, open_brace, close_brace, comma, long_arrow, close_bracket, entry, rule, SpellsTerm, spells_star, spells_head, spells_application, SpellsPatternApplication, spells_pattern_head, spells_pattern_wildcard, SpellsEntry, spells_entry, spells_typed_entry, SpellsEntries, spells_last_entry, spells_more_entries, SpellsContext, spells_no_context, spells_context, SpellsRuleName, spells_rule_name, SpellsRule, spells_rule, SpellsRules, spells_last_rule, spells_more_rules}
+use Rattle.dk_parser.specs.Parsing.{PatternSlot, pattern_due, pattern_bindable, pattern_applied, PatternFrames, no_bracket, bracket_on, PatternPart, left_due, binder_pattern, pattern_more, slot_pattern, under_binders, pattern_closed, pattern_next, RuleHead, with_entry}
 use Rattle.dk_parser.proofs.Left.{ReachedLeft, left_reached_nothing, left_reached, left_sound}
 
 -- something may stand behind

@@ -6,6 +6,7 @@ ghost use Rattle.dk_model.specs.declared.limits.Limits.{Limits};
 ghost use Rattle.dk_parser.specs.declared.part.Part.{Part};
 ghost use Rattle.dk_parser.specs.declared.parser.Step.{Step};
 ghost use Rattle.dk_parser.specs.Parsing.{parsing_after, part_next, turn, turn_by_step};
+ghost use Rattle.dk_parser.specs.Parsing as plain;
 ghost use Rattle.dk_parser.specs.Reading.{AddsStep, Answers, finished, read_tokens};
 ghost use Rattle.dk_parser.specs.Views.{CameTo, parsing, plain_part, plain_step};
 
@@ -124,15 +125,21 @@ impl Parser {
         ensures { CameTo (turn_by_step (parsing self.old) line (plain_step step)) result (parsing self.new) }
     {
         match step {
-            PartStep::Goes(made, part) => {
-                if made > self.limits.levels as u64 {
-                    self.refuse(line, Code::E04)
-                } else {
-                    self.go_on(line, part)
-                }
-            }
+            PartStep::Goes(made, part) => self.goes(line, made, part),
             PartStep::Ends(form) => self.end(line, form),
             PartStep::Refuses => self.refuse(line, Code::E02),
+        }
+    }
+
+    fn goes(&mut self, line: u32, made: u64, part: Part) -> Result<Step, Fault>
+        ensures { CameTo (turn_by_step (parsing self.old) line (plain.goes made (plain_part part)))
+            result (parsing self.new) }
+    {
+        if made > self.limits.levels as u64 {
+            drop(part);
+            self.refuse(line, Code::E04)
+        } else {
+            self.go_on(line, part)
         }
     }
 
