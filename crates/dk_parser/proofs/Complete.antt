@@ -2,13 +2,12 @@
 use Rattle.std.proofs.Common.{◌≡◌, ℕ, ◌+◌, true, false, List, [], ◌∷◌, ◌++◌, refl, sym, ap, ◌∙◌, append_assoc, inl, inr}
 use Rattle.std.specs.Prelude.{Option, Some, None, ◌⊎◌}
 use Rattle.dk_model.specs.declared.signature.SymSort.{SymSort}
-use Rattle.dk_model.specs.declared.signature.SymSort.TheVariants.{Static, Definable, Theorem}
 use Rattle.dk_lexer.specs.declared.token.Sign.TheVariants as sign
 use Rattle.dk_parser.specs.declared.terminal.Terminal.{Terminal}
 use Rattle.dk_parser.specs.declared.terminal.Terminal.TheVariants as terminal
-use Rattle.dk_parser.specs.Written.{Written, written_qualified, written_star, written_apply, written_arrow, written_product, written_bare, written_annotated, WrittenParam, WrittenForm, written_declare}
-use Rattle.dk_parser.specs.Grammar.{colon, defined, dot, arrow, double_arrow, open_bracket, close_bracket, param, SpellsBinder, spells_binder, spells_no_binder, SpellsAtom, spells_name, spells_qualified, spells_star, spells_wildcard, spells_brackets, SpellsApplication, spells_head, spells_applied, SpellsTerm, spells_application, spells_arrow, spells_product, spells_bracketed_product, spells_bare, spells_annotated, SpellsParams, spells_no_params, spells_params, SpellsForm, spells_static, spells_definable, spells_definition, spells_typed_definition, spells_theorem}
-use Rattle.dk_parser.specs.Parsing.{Place, at_front, domain, Slot, due, bindable, applied, bracketed, bracket_frame, arrow_frame, product_frame, bare_frame, annotated_frame, Frames, bottom, on, TermPart, term_due, pushed, binder_term, slot_more, slot_binder, takes_atom, slot_term, in_frames, unwound, unwound_all, next_open, next_close, next_close_term, next_close_domain, next_arrow, framed, term_next, term_argument, term_done, slot_ended, in_bracket, takes, Head, level_behind, with_param, Purpose, as_param, as_type, as_body, Part, command_due, head_due, binder_due, binder_colon_due, in_term, behind_term, term_goes, term_ends, in_term_next}
+use Rattle.dk_parser.specs.Written.{Written, written_qualified, written_star, written_apply, written_arrow, written_product, written_bare, written_annotated, WrittenParam, written_declare}
+use Rattle.dk_parser.specs.Grammar.{colon, dot, arrow, double_arrow, open_bracket, close_bracket, param, SpellsBinder, spells_binder, spells_no_binder, SpellsAtom, spells_name, spells_qualified, spells_star, spells_wildcard, spells_brackets, SpellsApplication, spells_head, spells_applied, SpellsTerm, spells_application, spells_arrow, spells_product, spells_bracketed_product, spells_bare, spells_annotated, SpellsParams, spells_no_params, spells_params}
+use Rattle.dk_parser.specs.Parsing.{Place, at_front, domain, Slot, due, bindable, applied, bracketed, bracket_frame, arrow_frame, product_frame, bare_frame, annotated_frame, Frames, bottom, on, TermPart, term_due, pushed, binder_term, slot_more, slot_binder, takes_atom, slot_term, in_frames, unwound, unwound_all, next_open, next_close, next_close_term, next_close_domain, next_arrow, framed, term_next, term_argument, term_done, slot_ended, in_bracket, takes, Head, level_behind, with_param, Purpose, as_param, as_type, as_body, Part, head_due, binder_due, binder_colon_due, in_term, behind_term, term_goes, term_ends, in_term_next}
 use Rattle.dk_parser.proofs.Machine.{ended, run_by, run}
 
 append_nil : {A : Type 0} (xs : List A) → xs ++ [] ≡ xs
@@ -66,10 +65,10 @@ ended_out None fs b e = cc
 ended_out (Some a) fs b e = whole_out fs a b e
 
 -- a terminal that ends a whole term
-abbrev Enders : Terminal → Type 0
+abbrev pub Enders : Terminal → Type 0
 Enders x = (p : TermPart) (a : Written) → term_done p ≡ Some a → takes p x ≡ false
 
-close_enders : Enders close_bracket
+pub close_enders : Enders close_bracket
 close_enders p a e = ended_out (slot_term p.slot) p.frames a e
 
 abbrev pub at : Frames → Slot → TermPart
@@ -369,10 +368,10 @@ param_complete h {x} {v} {xs} {a} s k rest =
     binder_complete h x v (colon ∷ (xs ++ close_bracket ∷ rest)) s
     ∙ term_complete (as_param h v) k (level_behind h + 1) close_bracket rest close_enders
 
-abbrev head_of : SymSort → List ℕ → List WrittenParam → Head
+abbrev pub head_of : SymSort → List ℕ → List WrittenParam → Head
 head_of s n ps = record { sort = s; name = n; params = ps }
 
-params_complete : (s : SymSort) (n : List ℕ) (ps : List WrittenParam) {xs : List Terminal} {qs : List WrittenParam} → SpellsParams xs qs → (rest : List Terminal) → run (head_due (head_of s n ps)) (xs ++ rest) ≡ run (head_due (head_of s n (ps ++ qs))) rest
+pub params_complete : (s : SymSort) (n : List ℕ) (ps : List WrittenParam) {xs : List Terminal} {qs : List WrittenParam} → SpellsParams xs qs → (rest : List Terminal) → run (head_due (head_of s n ps)) (xs ++ rest) ≡ run (head_due (head_of s n (ps ++ qs))) rest
 params_complete s n ps spells_no_params rest = ap (λ qs. run (head_due (head_of s n qs)) rest) (sym (append_nil ps))
 params_complete s n ps (spells_params {x} {v} {xs} {ys} {a} {ps = qs} b k h) rest =
     ap (λ zs. run (head_due (head_of s n ps)) (open_bracket ∷ x ∷ colon ∷ zs)) (append_assoc xs (close_bracket ∷ ys) rest)
@@ -380,28 +379,8 @@ params_complete s n ps (spells_params {x} {v} {xs} {ys} {a} {ps = qs} b k h) res
     ∙ params_complete s n (ps ++ param v a ∷ []) h rest
     ∙ ap (λ qs. run (head_due (head_of s n qs)) rest) (append_assoc ps (param v a ∷ []) qs)
 
-type_complete : (h : Head) {xs : List Terminal} {a : Written} → SpellsTerm xs a → (x : Terminal) (rest : List Terminal) → Enders x → run (head_due h) (colon ∷ (xs ++ x ∷ rest)) ≡ run_by (behind_term (as_type h) a x) (λ q. run q rest) rest
+pub type_complete : (h : Head) {xs : List Terminal} {a : Written} → SpellsTerm xs a → (x : Terminal) (rest : List Terminal) → Enders x → run (head_due h) (colon ∷ (xs ++ x ∷ rest)) ≡ run_by (behind_term (as_type h) a x) (λ q. run q rest) rest
 type_complete h k x rest enders = term_complete (as_type h) k (level_behind h) x rest enders
 
-body_complete : (h : Head) (typ : Option Written) {xs : List Terminal} {b : Written} → SpellsTerm xs b → run (in_term (as_body h typ) (term_due (level_behind h))) (xs ++ dot ∷ []) ≡ ended (written_declare h.sort h.name h.params typ (Some b)) []
+pub body_complete : (h : Head) (typ : Option Written) {xs : List Terminal} {b : Written} → SpellsTerm xs b → run (in_term (as_body h typ) (term_due (level_behind h))) (xs ++ dot ∷ []) ≡ ended (written_declare h.sort h.name h.params typ (Some b)) []
 body_complete h typ k = term_complete (as_body h typ) k (level_behind h) dot [] (λ p a e. refl)
-
--- a command is read as what it spells
-pub complete : {xs : List Terminal} {form : WrittenForm} → SpellsForm xs form → run command_due xs ≡ ended form []
-complete (spells_static {n} {xs} {ys} {ps} {a} h k) =
-    params_complete Static n [] h (colon ∷ (ys ++ dot ∷ []))
-    ∙ type_complete (head_of Static n ps) k dot [] (λ p a e. refl)
-complete (spells_definable {n} {xs} {ys} {ps} {a} h k) =
-    params_complete Definable n [] h (colon ∷ (ys ++ dot ∷ []))
-    ∙ type_complete (head_of Definable n ps) k dot [] (λ p a e. refl)
-complete (spells_definition {n} {xs} {ys} {ps} {b} h k) =
-    params_complete Definable n [] h (defined ∷ (ys ++ dot ∷ []))
-    ∙ body_complete (head_of Definable n ps) None k
-complete (spells_typed_definition {n} {xs} {ys} {zs} {ps} {a} {b} h k j) =
-    params_complete Definable n [] h (colon ∷ (ys ++ defined ∷ (zs ++ dot ∷ [])))
-    ∙ type_complete (head_of Definable n ps) k defined (zs ++ dot ∷ []) (λ p a e. refl)
-    ∙ body_complete (head_of Definable n ps) (Some a) j
-complete (spells_theorem {n} {xs} {ys} {zs} {ps} {a} {b} h k j) =
-    params_complete Theorem n [] h (colon ∷ (ys ++ defined ∷ (zs ++ dot ∷ [])))
-    ∙ type_complete (head_of Theorem n ps) k defined (zs ++ dot ∷ []) (λ p a e. refl)
-    ∙ body_complete (head_of Theorem n ps) (Some a) j

@@ -15,7 +15,7 @@ use Rattle.dk_parser.specs.Levels.{load, IsWithin}
 use Rattle.dk_parser.specs.Parsing.{Part, command_due, PartStep, goes, ends, refuses, part_next, Parsing, started, more, refused, Turn, turn, turn_refused, turn_by_step, turn_by_terminal, turn_by_fault, parsing_from, answered, commands_from}
 use Rattle.dk_parser.specs.Reading.{IsFault, IsFront, TokenReading, with_command, Reads, reads_nothing, reads_front, reads_fault, reads_command, fault_of, read_tokens, Extends}
 use Rattle.dk_parser.proofs.Machine.{going, ended, stuck, run_by, run, run_next, run_goes, front_goes}
-use Rattle.dk_parser.proofs.Complete.{complete}
+use Rattle.dk_parser.proofs.Commands.{complete}
 use Rattle.dk_parser.proofs.Reached.{sound, begins}
 use Rattle.dk_parser.proofs.Leveled.{loaded, end_load, profile_refused}
 use Rattle.dk_parser.proofs.Turns.{reading_at}

@@ -7,12 +7,12 @@ use Rattle.dk_model.specs.declared.signature.SymSort.TheVariants.{Static, Defina
 use Rattle.dk_lexer.specs.declared.token.Sign.TheVariants as sign
 use Rattle.dk_parser.specs.declared.terminal.Terminal.{Terminal}
 use Rattle.dk_parser.specs.declared.terminal.Terminal.TheVariants as terminal
-use Rattle.dk_parser.specs.Written.{Written, written_qualified, written_star, written_apply, written_arrow, written_product, written_bare, written_annotated, WrittenParam, WrittenForm}
-use Rattle.dk_parser.specs.Grammar.{dot, param}
-use Rattle.dk_parser.specs.Levels.{Group, empty_group, Groups, closed, grouped, Side, in_head, behind_head, Standing, at_start, params_closed, side_at_colon, stands, standing_from, standing, arrows_of, level_of, argument_in, load}
-use Rattle.dk_parser.specs.Parsing.{at_front, domain, Slot, due, bindable, applied, bracketed, Frame, bracket_frame, arrow_frame, product_frame, bare_frame, annotated_frame, Frames, bottom, on, TermPart, depth, pushed, binder_term, atoms, slot_more, slot_binder, takes_atom, in_frames, unwound, next_open, next_close, next_close_term, next_close_domain, next_colon, next_arrow, next_double_arrow, framed, term_next, term_argument, term_done, in_bracket, takes, Head, level_behind, with_param, Purpose, as_param, as_type, as_body, Part, command_due, name_due, head_due, binder_due, binder_colon_due, in_term, PartStep, goes, ends, refuses, body_due, body_behind_head, body_behind_type, dot_behind_type, behind_term, term_goes, term_ends, in_term_next, head_next, part_next}
+use Rattle.dk_parser.specs.Written.{Written, written_qualified, written_star, written_apply, written_arrow, written_product, written_bare, written_annotated, WrittenParam, WrittenPattern, pattern_qualified, pattern_guard, WrittenForm}
+use Rattle.dk_parser.specs.Grammar.{dot, param, entry}
+use Rattle.dk_parser.specs.Levels.{Group, empty_group, atom_more, Groups, no_groups, with_inner, closed, grouped, Side, in_head, behind_head, on_left, Standing, at_start, params_closed, side_at_colon, stands, standing_from, standing, arrows_of, level_of, argument_in, load}
+use Rattle.dk_parser.specs.Parsing.{at_front, domain, Slot, due, bindable, applied, bracketed, Frame, bracket_frame, arrow_frame, product_frame, bare_frame, annotated_frame, Frames, bottom, on, TermPart, depth, pushed, binder_term, atoms, slot_more, slot_binder, takes_atom, in_frames, unwound, next_open, next_close, next_close_term, next_close_domain, next_colon, next_arrow, next_double_arrow, framed, term_next, term_argument, term_done, in_bracket, takes, PatternSlot, pattern_due, pattern_bindable, pattern_applied, Binders, no_binders, binder_on, PatternFrames, no_bracket, bracket_on, PatternPart, pattern_depth, pattern_atoms, pattern_more, pattern_binder, slot_pattern, under_binders, with_atom, with_binder, pattern_opened, pattern_closed, pattern_bound, pattern_next, pattern_argument, pattern_done, RuleHead, with_entry, with_rule, Head, level_behind, with_param, Purpose, as_param, as_type, as_body, as_entry, as_guard, as_right, Part, command_due, name_due, head_due, binder_due, binder_colon_due, rule_name_due, rule_brace_due, square_due, context_due, entry_due, entry_named, in_left, in_term, PartStep, goes, ends, refuses, body_due, body_behind_head, body_behind_type, dot_behind_type, behind_entry, behind_rule, behind_term, named_next, left_goes, right_due, guard_due, left_next, term_goes, term_ends, in_term_next, head_next, part_next}
 use Rattle.dk_parser.proofs.Machine.{going, run, follow}
-use Rattle.dk_parser.proofs.Complete.{at, next_takes}
+use Rattle.dk_parser.proofs.Complete.{at, next_takes, close_enders}
 
 -- a term in these groups, behind so many parameters
 module _ (params : ℕ) (under : List Group) where
@@ -212,16 +212,61 @@ module _ (params : ℕ) (under : List Group) where
 abbrev standing_in : ℕ → Side → Groups → Standing
 standing_in params side gs = record { params = params; side = side; groups = gs }
 
+-- Left sides
+
+abbrev binder_count : Binders → ℕ
+binder_count no_binders = 0
+binder_count (binder_on v vs) = binder_count vs + 1
+
+-- the groups of a part of a left side, with so many atoms in the innermost
+abbrev frame_groups : PatternFrames → ℕ → Groups
+frame_groups no_bracket n = record { inner = record { arrows = 0; atoms = n }; outer = [] }
+frame_groups (bracket_on d s vs fs) n = record { inner = record { arrows = binder_count vs; atoms = n }; outer = (frame_groups fs (pattern_atoms s + 1)).inner ∷ (frame_groups fs (pattern_atoms s + 1)).outer }
+
+abbrev left_groups : PatternPart → Groups
+left_groups part = frame_groups part.frames (pattern_atoms part.slot)
+
+-- the brackets count the levels
+abbrev LeftCounted : PatternFrames → Type 0
+LeftCounted no_bracket = Unit {0}
+LeftCounted (bracket_on d s vs fs) = (d ≡ (pattern_depth fs + 1) + binder_count vs) × LeftCounted fs
+
+level_in_bracket : (d depth_fs binders arrows rest : ℕ) → d ≡ (depth_fs + 1) + binders → arrows + rest ≡ depth_fs → binders + ((arrows + 1) + rest) ≡ d
+level_in_bracket d depth_fs binders arrows rest e h = omega arith
+
+left_level : (fs : PatternFrames) (n : ℕ) → LeftCounted fs → (frame_groups fs n).inner.arrows + arrows_of (frame_groups fs n).outer ≡ pattern_depth fs
+left_level no_bracket n c = refl
+left_level (bracket_on d s vs fs) n c =
+    level_in_bracket d (pattern_depth fs) (binder_count vs) (frame_groups fs (pattern_atoms s + 1)).inner.arrows (arrows_of (frame_groups fs (pattern_atoms s + 1)).outer) c.0 (left_level fs (pattern_atoms s + 1) c.1)
+
+left_atoms : (fs : PatternFrames) (n : ℕ) → (frame_groups fs n).inner.atoms ≡ n
+left_atoms no_bracket n = refl
+left_atoms (bracket_on d s vs fs) n = refl
+
+left_atoms_more : (fs : PatternFrames) (n : ℕ) → with_inner atom_more (frame_groups fs n) ≡ frame_groups fs (n + 1)
+left_atoms_more no_bracket n = refl
+left_atoms_more (bracket_on d s vs fs) n = refl
+
+-- the groups around a guard
+abbrev guard_under : PatternPart → List Group
+guard_under part = atom_more (left_groups part).inner ∷ (left_groups part).outer
+
 -- the parameters that have closed, the side and the groups around a term
 abbrev params_of : Purpose → ℕ
 params_of (as_param h v) = level_behind h
 params_of (as_type h) = level_behind h
 params_of (as_body h typ) = level_behind h
+params_of (as_entry h n) = 0
+params_of (as_guard h part) = 0
+params_of (as_right h l) = 0
 
 abbrev side_of : Purpose → Side
 side_of (as_param h v) = in_head
 side_of (as_type h) = behind_head
 side_of (as_body h typ) = behind_head
+side_of (as_entry h n) = behind_head
+side_of (as_guard h part) = on_left
+side_of (as_right h l) = behind_head
 
 abbrev name_group : ℕ → Group
 name_group n = record { arrows = 0; atoms = n + 1 }
@@ -233,12 +278,30 @@ abbrev under_of : Purpose → List Group
 under_of (as_param h v) = param_group (level_behind h)
 under_of (as_type h) = []
 under_of (as_body h typ) = []
+under_of (as_entry h n) = []
+under_of (as_guard h part) = guard_under part
+under_of (as_right h l) = []
 
 abbrev term_groups : Purpose → TermPart → Groups
 term_groups purpose p = part_groups (params_of purpose) (under_of purpose) p
 
 abbrev CountedIn : Purpose → Frames → Type 0
 CountedIn purpose fs = Counted (params_of purpose) (under_of purpose) fs
+
+-- the left side around a guard counts the levels
+abbrev CountedAround : Purpose → Type 0
+CountedAround (as_param h v) = Unit {0}
+CountedAround (as_type h) = Unit {0}
+CountedAround (as_body h typ) = Unit {0}
+CountedAround (as_entry h n) = Unit {0}
+CountedAround (as_guard h part) = LeftCounted part.frames
+CountedAround (as_right h l) = Unit {0}
+
+abbrev rule_standing : Groups → Standing
+rule_standing gs = standing_in 0 behind_head gs
+
+abbrev one_atom : Groups
+one_atom = record { inner = record { arrows = 0; atoms = 1 }; outer = [] }
 
 -- this is where a part of a command stands
 abbrev StandsAt : Standing → Part → Type 0
@@ -247,7 +310,14 @@ StandsAt st (name_due s) = st ≡ at_start
 StandsAt st (head_due h) = st ≡ standing_in (level_behind h) in_head (record { inner = name_group (level_behind h); outer = [] })
 StandsAt st (binder_due h) = st ≡ standing_in (level_behind h) in_head (record { inner = empty_group; outer = param_group (level_behind h) })
 StandsAt st (binder_colon_due h v) = st ≡ standing_in (level_behind h) in_head (record { inner = record { arrows = 0; atoms = 1 }; outer = param_group (level_behind h) })
-StandsAt st (in_term purpose p) = (st ≡ standing_in (params_of purpose) (side_of purpose) (term_groups purpose p)) × CountedIn purpose p.frames
+StandsAt st (rule_name_due h) = st ≡ rule_standing no_groups
+StandsAt st (rule_brace_due h) = st ≡ rule_standing one_atom
+StandsAt st (square_due h) = st ≡ rule_standing one_atom
+StandsAt st (context_due h) = st ≡ rule_standing no_groups
+StandsAt st (entry_due h) = st ≡ rule_standing no_groups
+StandsAt st (entry_named h n) = st ≡ rule_standing one_atom
+StandsAt st (in_left h part) = (st ≡ standing_in 0 on_left (left_groups part)) × LeftCounted part.frames
+StandsAt st (in_term purpose p) = (st ≡ standing_in (params_of purpose) (side_of purpose) (term_groups purpose p)) × CountedIn purpose p.frames × CountedAround purpose
 
 -- the load of a terminal that stands behind this
 abbrev load_in : Standing → Terminal → ℕ
@@ -268,6 +338,7 @@ closed_two : (side : Side) (g : Group) (gs : List Group) (m : ℕ) → (gs ≡ [
 closed_two in_head g [] m h = absurd (h refl)
 closed_two in_head g (f ∷ gs) m h = refl
 closed_two behind_head g gs m h = refl
+closed_two on_left g gs m h = refl
 
 some_under : (params : ℕ) (g : Group) (gs : List Group) (fs : Frames) (k n : ℕ) → (groups_of params (g ∷ gs) fs k n).outer ≡ [] → ⊥
 some_under params g gs (bottom level) k n e = cc
@@ -295,11 +366,17 @@ params_stay : (purpose : Purpose) (p : TermPart) → in_bracket p.frames ≡ tru
 params_stay (as_param h v) p e = inner_closed (level_behind h) (record { arrows = 0; atoms = (level_behind h + 1) + 1 }) [] p.frames 0 (atoms p.slot) in_head (level_behind h) e
 params_stay (as_type h) p e = refl
 params_stay (as_body h typ) p e = refl
+params_stay (as_entry h n) p e = refl
+params_stay (as_guard h part) p e = refl
+params_stay (as_right h l) p e = refl
 
 side_stays : (purpose : Purpose) (p : TermPart) → side_at_colon (side_of purpose) (term_groups purpose p).outer ≡ side_of purpose
 side_stays (as_param h v) p = colon_in_head (term_groups (as_param h v) p).outer (some_under (level_behind h) (record { arrows = 0; atoms = (level_behind h + 1) + 1 }) [] p.frames 0 (atoms p.slot))
 side_stays (as_type h) p = refl
 side_stays (as_body h typ) p = refl
+side_stays (as_entry h n) p = refl
+side_stays (as_guard h part) p = refl
+side_stays (as_right h l) p = refl
 
 -- a terminal of a term changes its groups alone
 term_stands : (purpose : Purpose) (p q : TermPart) (x : Terminal) → term_next p x ≡ Some q → stands (standing_in (params_of purpose) (side_of purpose) (term_groups purpose p)) x ≡ standing_in (params_of purpose) (side_of purpose) (grouped (term_groups purpose p) x)
@@ -309,22 +386,29 @@ term_stands purpose p q (terminal.Sign sign.Colon) e =
     ap (λ side. standing_in (params_of purpose) side (grouped (term_groups purpose p) (terminal.Sign sign.Colon))) (side_stays purpose p)
 term_stands purpose p q (terminal.Sign sign.Defined) e = cc
 term_stands purpose p q (terminal.Sign sign.Dot) e = cc
+term_stands purpose p q (terminal.Sign sign.LongArrow) e = cc
+term_stands purpose p q (terminal.Sign sign.Comma) e = cc
+term_stands purpose p q (terminal.Sign sign.OpenSquare) e = cc
+term_stands purpose p q (terminal.Sign sign.CloseSquare) e = cc
+term_stands purpose p q (terminal.Sign sign.OpenBrace) e = cc
+term_stands purpose p q (terminal.Sign sign.CloseBrace) e = cc
 term_stands purpose p q x e = refl
 
-argument_same : (purpose : Purpose) (p : TermPart) (x : Terminal) → argument_in (standing_in (params_of purpose) (side_of purpose) (term_groups purpose p)) x ≡ term_argument p x
-argument_same purpose p (terminal.Name n) = inner_atoms (params_of purpose) (under_of purpose) p.frames 0 (atoms p.slot)
-argument_same purpose p (terminal.Qualified m n) = inner_atoms (params_of purpose) (under_of purpose) p.frames 0 (atoms p.slot)
-argument_same purpose p terminal.Star = inner_atoms (params_of purpose) (under_of purpose) p.frames 0 (atoms p.slot)
-argument_same purpose p terminal.Wildcard = inner_atoms (params_of purpose) (under_of purpose) p.frames 0 (atoms p.slot)
-argument_same purpose p (terminal.Sign sign.OpenBracket) = inner_atoms (params_of purpose) (under_of purpose) p.frames 0 (atoms p.slot)
-argument_same purpose p x = refl
+argument_same : (purpose : Purpose) (p q : TermPart) (x : Terminal) → term_next p x ≡ Some q → argument_in (standing_in (params_of purpose) (side_of purpose) (term_groups purpose p)) x ≡ term_argument p x
+argument_same purpose p q (terminal.Name n) e = inner_atoms (params_of purpose) (under_of purpose) p.frames 0 (atoms p.slot)
+argument_same purpose p q (terminal.Qualified m n) e = inner_atoms (params_of purpose) (under_of purpose) p.frames 0 (atoms p.slot)
+argument_same purpose p q terminal.Star e = inner_atoms (params_of purpose) (under_of purpose) p.frames 0 (atoms p.slot)
+argument_same purpose p q terminal.Wildcard e = inner_atoms (params_of purpose) (under_of purpose) p.frames 0 (atoms p.slot)
+argument_same purpose p q (terminal.Sign sign.OpenBracket) e = inner_atoms (params_of purpose) (under_of purpose) p.frames 0 (atoms p.slot)
+argument_same purpose p q (terminal.Sign sign.OpenBrace) e = cc
+argument_same purpose p q x e = refl
 
-term_stepped : (o : Option TermPart) (purpose : Purpose) (p : TermPart) (x : Terminal) → CountedIn purpose p.frames → term_next p x ≡ o → Stepped (standing_in (params_of purpose) (side_of purpose) (term_groups purpose p)) x (term_goes purpose (term_argument p x) o)
-term_stepped None purpose p x c e = tt
-term_stepped (Some q) purpose p x c e =
+term_stepped : (o : Option TermPart) (purpose : Purpose) (p : TermPart) (x : Terminal) → CountedIn purpose p.frames → CountedAround purpose → term_next p x ≡ o → Stepped (standing_in (params_of purpose) (side_of purpose) (term_groups purpose p)) x (term_goes purpose (term_argument p x) o)
+term_stepped None purpose p x c d e = tt
+term_stepped (Some q) purpose p x c d e =
     let k = term_grouped (params_of purpose) (under_of purpose) p q x c e in
     let s = term_stands purpose p q x e ∙ ap (standing_in (params_of purpose) (side_of purpose)) k.same in
-    ((s, k.counted), ap (λ l. max l (argument_in (standing_in (params_of purpose) (side_of purpose) (term_groups purpose p)) x)) (ap level_of s ∙ part_depth (params_of purpose) (under_of purpose) q k.counted) ∙ ap (max (depth q.frames)) (argument_same purpose p x))
+    ((s, k.counted, d), ap (λ l. max l (argument_in (standing_in (params_of purpose) (side_of purpose) (term_groups purpose p)) x)) (ap level_of s ∙ part_depth (params_of purpose) (under_of purpose) q k.counted) ∙ ap (max (depth q.frames)) (argument_same purpose p q x e))
 
 -- Steps of a command
 
@@ -344,7 +428,7 @@ max_level : (n : ℕ) → max (n + 0) 0 ≡ n
 max_level n = grind (arith, nat_tests)
 
 body_stepped : (h : Head) (typ : Option Written) (gs : Groups) (side : Side) → Stepped (standing_in (level_behind h) side gs) (terminal.Sign sign.Defined) (body_due h typ)
-body_stepped h typ gs side = ((refl, nothing_behind (level_behind h)), max_level (level_behind h))
+body_stepped h typ gs side = ((refl, nothing_behind (level_behind h), tt), max_level (level_behind h))
 
 body_behind_type_stepped : (s : SymSort) (h : Head) (a : Written) (gs : Groups) → Stepped (standing_in (level_behind h) behind_head gs) (terminal.Sign sign.Defined) (body_behind_type s h a)
 body_behind_type_stepped Static h a gs = tt
@@ -387,33 +471,175 @@ param_stepped h v a gs e =
     let s = param_stands (level_behind h) gs e in
     (s ∙ ap head_standing (sym (one_more h.params (param v a))), ap (λ (st : Standing). max (level_of st) 0) s ∙ max_level (level_behind h + 1))
 
-behind_stepped : (purpose : Purpose) (p : TermPart) (a : Written) (x : Terminal) → takes p x ≡ false → Stepped (standing_in (params_of purpose) (side_of purpose) (term_groups purpose p)) x (behind_term purpose a x)
-behind_stepped (as_param h v) p a (terminal.Sign sign.CloseBracket) e =
+entry_stepped : (h : RuleHead) (x : Terminal) (gs : Groups) → Stepped (rule_standing gs) x (behind_entry h x)
+entry_stepped h (terminal.Sign sign.Comma) gs = (refl, refl)
+entry_stepped h (terminal.Sign sign.CloseSquare) gs = ((refl, tt), refl)
+entry_stepped h x gs = tt
+
+rule_stepped : (h : RuleHead) (x : Terminal) (gs : Groups) → Stepped (rule_standing gs) x (behind_rule h x)
+rule_stepped h (terminal.Sign sign.Dot) gs = refl
+rule_stepped h (terminal.Sign sign.OpenSquare) gs = (refl, refl)
+rule_stepped h (terminal.Sign sign.OpenBrace) gs = (refl, refl)
+rule_stepped h x gs = tt
+
+more_atoms : (s : PatternSlot) (p : WrittenPattern) → pattern_atoms s + 1 ≡ pattern_atoms (pattern_more s p)
+more_atoms pattern_due p = refl
+more_atoms (pattern_bindable v) p = refl
+more_atoms (pattern_applied f n) p = refl
+
+more_binders : (s : PatternSlot) (v : Option (List ℕ)) → pattern_atoms s + 1 ≡ pattern_atoms (pattern_binder s v)
+more_binders pattern_due v = refl
+more_binders (pattern_bindable w) v = refl
+more_binders (pattern_applied f n) v = refl
+
+abbrev left_standing : Groups → Standing
+left_standing gs = standing_in 0 on_left gs
+
+abbrev guarded : Groups → Groups
+guarded gs = closed gs gs.outer
+
+guard_closes : (gs : Groups) (part : PatternPart) (p : WrittenPattern) → gs.outer ≡ guard_under part → guarded gs ≡ left_groups (with_atom part p)
+guard_closes gs part p e =
+    ap (closed gs) e
+    ∙ left_atoms_more part.frames (pattern_atoms part.slot)
+    ∙ ap (frame_groups part.frames) (more_atoms part.slot p)
+
+max_left : (m n : ℕ) → m ≡ n → max (0 + m) 0 ≡ n
+max_left m n e = grind (arith, nat_tests)
+
+guard_stepped : (h : RuleHead) (part : PatternPart) (a : Written) (gs : Groups) → LeftCounted part.frames → gs.outer ≡ guard_under part → Stepped (left_standing gs) (terminal.Sign sign.CloseBrace) (goes (pattern_depth part.frames) (in_left h (with_atom part (pattern_guard a))))
+guard_stepped h part a gs c e =
+    let k = guard_closes gs part (pattern_guard a) e in
+    ((ap left_standing k, c), ap (λ gs. max (level_of (left_standing gs)) 0) k ∙ max_left _ (pattern_depth part.frames) (left_level part.frames (pattern_atoms (pattern_more part.slot (pattern_guard a))) c))
+
+behind_stepped : (purpose : Purpose) (p : TermPart) (a : Written) (x : Terminal) → takes p x ≡ false → term_done p ≡ Some a → CountedAround purpose → Stepped (standing_in (params_of purpose) (side_of purpose) (term_groups purpose p)) x (behind_term purpose a x)
+behind_stepped (as_param h v) p a (terminal.Sign sign.CloseBracket) e d c =
     param_stepped h v a (term_groups (as_param h v) p) (outer_under (level_behind h) (param_group (level_behind h)) p.frames 0 (atoms p.slot) e)
-behind_stepped (as_type h) p a (terminal.Sign sign.Dot) e = dot_stepped h.sort h a (standing_in (level_behind h) behind_head (term_groups (as_type h) p))
-behind_stepped (as_type h) p a (terminal.Sign sign.Defined) e = body_behind_type_stepped h.sort h a (term_groups (as_type h) p)
-behind_stepped (as_body h typ) p b (terminal.Sign sign.Dot) e = refl
-behind_stepped purpose p a x e = tt
+behind_stepped (as_type h) p a (terminal.Sign sign.Dot) e d c = dot_stepped h.sort h a (standing_in (level_behind h) behind_head (term_groups (as_type h) p))
+behind_stepped (as_type h) p a (terminal.Sign sign.Defined) e d c = body_behind_type_stepped h.sort h a (term_groups (as_type h) p)
+behind_stepped (as_body h typ) p b (terminal.Sign sign.Dot) e d c = refl
+behind_stepped (as_entry h n) p a x e d c = entry_stepped (with_entry h (entry n (Some a))) x (term_groups (as_entry h n) p)
+behind_stepped (as_guard h part) p a (terminal.Sign sign.CloseBrace) e d c =
+    guard_stepped h part a (term_groups (as_guard h part) p) c (outer_under 0 (guard_under part) p.frames 0 (atoms p.slot) (close_enders p a d))
+behind_stepped (as_right h l) p a x e d c = rule_stepped (with_rule h l a) x (term_groups (as_right h l) p)
+behind_stepped purpose p a x e d c = tt
 
-ends_stepped : (o : Option Written) (purpose : Purpose) (p : TermPart) (x : Terminal) → takes p x ≡ false → Stepped (standing_in (params_of purpose) (side_of purpose) (term_groups purpose p)) x (term_ends purpose x o)
-ends_stepped None purpose p x e = tt
-ends_stepped (Some a) purpose p x e = behind_stepped purpose p a x e
+ends_stepped : (o : Option Written) (purpose : Purpose) (p : TermPart) (x : Terminal) → takes p x ≡ false → term_done p ≡ o → CountedAround purpose → Stepped (standing_in (params_of purpose) (side_of purpose) (term_groups purpose p)) x (term_ends purpose x o)
+ends_stepped None purpose p x e d c = tt
+ends_stepped (Some a) purpose p x e d c = behind_stepped purpose p a x e d c
 
-in_term_stepped : (b : Bool) (purpose : Purpose) (p : TermPart) (x : Terminal) → CountedIn purpose p.frames → takes p x ≡ b → Stepped (standing_in (params_of purpose) (side_of purpose) (term_groups purpose p)) x (in_term_next b purpose p x)
-in_term_stepped true purpose p x c e = term_stepped (term_next p x) purpose p x c refl
-in_term_stepped false purpose p x c e = ends_stepped (term_done p) purpose p x e
+in_term_stepped : (b : Bool) (purpose : Purpose) (p : TermPart) (x : Terminal) → CountedIn purpose p.frames → CountedAround purpose → takes p x ≡ b → Stepped (standing_in (params_of purpose) (side_of purpose) (term_groups purpose p)) x (in_term_next b purpose p x)
+in_term_stepped true purpose p x c d e = term_stepped (term_next p x) purpose p x c d refl
+in_term_stepped false purpose p x c d e = ends_stepped (term_done p) purpose p x e refl d
 
 head_stepped : (h : Head) (x : Terminal) → Stepped (head_standing (level_behind h)) x (head_next h x)
 head_stepped h (terminal.Sign sign.OpenBracket) = (refl, max_same (level_behind h + 1))
-head_stepped h (terminal.Sign sign.Colon) = ((refl, nothing_behind (level_behind h)), max_level (level_behind h))
+head_stepped h (terminal.Sign sign.Colon) = ((refl, nothing_behind (level_behind h), tt), max_level (level_behind h))
 head_stepped h (terminal.Sign sign.Defined) = body_behind_head_stepped h.sort h (record { inner = name_group (level_behind h); outer = [] })
 head_stepped h x = tt
+
+-- Rules
+
+named_stepped : (h : RuleHead) (n : List ℕ) (x : Terminal) → Stepped (rule_standing one_atom) x (named_next h n x)
+named_stepped h n (terminal.Sign sign.Colon) = ((refl, refl, tt), refl)
+named_stepped h n x = entry_stepped (with_entry h (entry n None)) x one_atom
+
+right_stepped : (o : Option WrittenPattern) (h : RuleHead) (gs : Groups) → Stepped (left_standing gs) (terminal.Sign sign.LongArrow) (right_due h o)
+right_stepped None h gs = tt
+right_stepped (Some l) h gs = ((refl, refl, tt), refl)
+
+level_in_guard : (arrows rest depth_fs : ℕ) → arrows + rest ≡ depth_fs → depth_fs + 1 ≡ 0 + ((arrows + 1) + rest)
+level_in_guard arrows rest depth_fs e = omega arith
+
+level_of_guard : (arrows rest depth_fs : ℕ) → arrows + rest ≡ depth_fs → 0 + (0 + ((arrows + 1) + rest)) ≡ depth_fs + 1
+level_of_guard arrows rest depth_fs e = omega arith
+
+guard_begins : (h : RuleHead) (part : PatternPart) → LeftCounted part.frames → Stepped (left_standing (left_groups part)) (terminal.Sign sign.OpenBrace) (guard_due h part)
+guard_begins h part c =
+    let l = left_level part.frames (pattern_atoms part.slot) c in
+    let gs = left_groups part in (
+      (refl, level_in_guard gs.inner.arrows (arrows_of gs.outer) (pattern_depth part.frames) l, c),
+      ap (λ n. max n gs.inner.atoms) (level_of_guard gs.inner.arrows (arrows_of gs.outer) (pattern_depth part.frames) l) ∙ ap (max (pattern_depth part.frames + 1)) (left_atoms part.frames (pattern_atoms part.slot)),
+    )
+
+some_left : (p q : PatternPart) → Some p ≡ Some q → p ≡ q
+some_left p q e = cc
+
+-- where a left side stands behind a terminal
+abbrev LeftStands : PatternPart → Terminal → PatternPart → Type 0
+LeftStands part x q = (stands (left_standing (left_groups part)) x ≡ left_standing (left_groups q)) × LeftCounted q.frames
+
+to_left : (part p q : PatternPart) (x : Terminal) → Some p ≡ Some q → LeftStands part x p → LeftStands part x q
+to_left part p q x e h = subst (λ q. LeftStands part x q) (some_left p q e) h
+
+atom_stands : (part : PatternPart) (p : WrittenPattern) → left_standing (with_inner atom_more (left_groups part)) ≡ left_standing (left_groups (with_atom part p))
+atom_stands part p = ap left_standing (left_atoms_more part.frames (pattern_atoms part.slot) ∙ ap (frame_groups part.frames) (more_atoms part.slot p))
+
+binder_stands : (part : PatternPart) (v : Option (List ℕ)) → left_standing (with_inner atom_more (left_groups part)) ≡ left_standing (left_groups (with_binder part v))
+binder_stands part v = ap left_standing (left_atoms_more part.frames (pattern_atoms part.slot) ∙ ap (frame_groups part.frames) (more_binders part.slot v))
+
+nothing_first : (n : ℕ) → n ≡ n + 0
+nothing_first n = omega arith
+
+opened_stands : (part : PatternPart) → LeftCounted part.frames → LeftStands part (terminal.Sign sign.OpenBracket) (pattern_opened part)
+opened_stands part c =
+    (ap (λ (gs : Groups). left_standing (record { inner = empty_group; outer = gs.inner ∷ gs.outer })) (left_atoms_more part.frames (pattern_atoms part.slot)), (nothing_first (pattern_depth part.frames + 1), c))
+
+closed_stands : (fs : PatternFrames) (s : PatternSlot) (o : Option WrittenPattern) (q : PatternPart) → LeftCounted fs → pattern_closed fs o ≡ Some q → LeftStands (record { frames = fs; slot = s }) (terminal.Sign sign.CloseBracket) q
+closed_stands no_bracket s o q c e = cc
+closed_stands (bracket_on d t vs fs) s None q c e = cc
+closed_stands (bracket_on d t vs fs) s (Some p) q c e =
+    to_left (record { frames = bracket_on d t vs fs; slot = s }) (record { frames = fs; slot = pattern_more t (under_binders vs p) }) q (terminal.Sign sign.CloseBracket) e
+    (ap (λ n. left_standing (frame_groups fs n)) (more_atoms t (under_binders vs p)), c.1)
+
+one_binder : (d n m : ℕ) → d ≡ (n + 1) + m → d + 1 ≡ (n + 1) + (m + 1)
+one_binder d n m e = omega arith
+
+bound_stands : (fs : PatternFrames) (s : PatternSlot) (q : PatternPart) → LeftCounted fs → pattern_bound fs s ≡ Some q → LeftStands (record { frames = fs; slot = s }) (terminal.Sign sign.DoubleArrow) q
+bound_stands (bracket_on d t vs fs) (pattern_bindable v) q c e =
+    to_left (record { frames = bracket_on d t vs fs; slot = pattern_bindable v }) (record { frames = bracket_on (d + 1) t (binder_on v vs) fs; slot = pattern_due }) q (terminal.Sign sign.DoubleArrow) e
+    (refl, (one_binder d (pattern_depth fs) (binder_count vs) c.0, c.1))
+bound_stands fs s q c e = cc
+
+left_stands : (part q : PatternPart) (x : Terminal) → LeftCounted part.frames → pattern_next part x ≡ Some q → LeftStands part x q
+left_stands part q (terminal.Name n) c e = to_left part (with_binder part (Some n)) q (terminal.Name n) e (binder_stands part (Some n), c)
+left_stands part q terminal.Wildcard c e = to_left part (with_binder part None) q terminal.Wildcard e (binder_stands part None, c)
+left_stands part q (terminal.Qualified m n) c e = to_left part (with_atom part (pattern_qualified m n)) q (terminal.Qualified m n) e (atom_stands part (pattern_qualified m n), c)
+left_stands part q (terminal.Sign sign.OpenBracket) c e = to_left part (pattern_opened part) q (terminal.Sign sign.OpenBracket) e (opened_stands part c)
+left_stands part q (terminal.Sign sign.CloseBracket) c e = closed_stands part.frames part.slot (slot_pattern part.slot) q c e
+left_stands part q (terminal.Sign sign.DoubleArrow) c e = bound_stands part.frames part.slot q c e
+left_stands part q x c e = cc
+
+left_argument : (part q : PatternPart) (x : Terminal) → pattern_next part x ≡ Some q → argument_in (left_standing (left_groups part)) x ≡ pattern_argument part x
+left_argument part q (terminal.Name n) e = left_atoms part.frames (pattern_atoms part.slot)
+left_argument part q terminal.Wildcard e = left_atoms part.frames (pattern_atoms part.slot)
+left_argument part q (terminal.Qualified m n) e = left_atoms part.frames (pattern_atoms part.slot)
+left_argument part q terminal.Star e = cc
+left_argument part q (terminal.Sign sign.OpenBracket) e = left_atoms part.frames (pattern_atoms part.slot)
+left_argument part q (terminal.Sign sign.OpenBrace) e = cc
+left_argument part q x e = refl
+
+zero_more : (m n : ℕ) → m ≡ n → 0 + m ≡ n
+zero_more m n e = omega arith
+
+left_goes_stepped : (o : Option PatternPart) (h : RuleHead) (part : PatternPart) (x : Terminal) → LeftCounted part.frames → pattern_next part x ≡ o → Stepped (left_standing (left_groups part)) x (left_goes h (pattern_argument part x) o)
+left_goes_stepped None h part x c e = tt
+left_goes_stepped (Some q) h part x c e =
+    let s = left_stands part q x c e in
+    (s, ap (λ n. max n (argument_in (left_standing (left_groups part)) x)) (ap level_of s.0 ∙ zero_more _ (pattern_depth q.frames) (left_level q.frames (pattern_atoms q.slot) s.1)) ∙ ap (max (pattern_depth q.frames)) (left_argument part q x e))
+
+left_stepped : (h : RuleHead) (part : PatternPart) (x : Terminal) → LeftCounted part.frames → Stepped (left_standing (left_groups part)) x (left_next h part x)
+left_stepped h part (terminal.Sign sign.LongArrow) c = right_stepped (pattern_done part) h (left_groups part)
+left_stepped h part (terminal.Sign sign.OpenBrace) c = guard_begins h part c
+left_stepped h part x c = left_goes_stepped (pattern_next part x) h part x c refl
 
 -- one terminal more of a command
 part_stepped : (st : Standing) (p : Part) (x : Terminal) → StandsAt st p → Stepped st x (part_next p x)
 part_stepped st command_due (terminal.Name n) e = stepped_from st at_start (terminal.Name n) (part_next command_due (terminal.Name n)) e (refl, refl)
 part_stepped st command_due terminal.Def e = stepped_from st at_start terminal.Def (part_next command_due terminal.Def) e (refl, refl)
 part_stepped st command_due terminal.Thm e = stepped_from st at_start terminal.Thm (part_next command_due terminal.Thm) e (refl, refl)
+part_stepped st command_due (terminal.Sign sign.OpenSquare) e = stepped_from st at_start (terminal.Sign sign.OpenSquare) (part_next command_due (terminal.Sign sign.OpenSquare)) e (refl, refl)
+part_stepped st command_due (terminal.Sign sign.OpenBrace) e = stepped_from st at_start (terminal.Sign sign.OpenBrace) (part_next command_due (terminal.Sign sign.OpenBrace)) e (refl, refl)
 part_stepped st command_due x e = tt
 part_stepped st (name_due s) (terminal.Name n) e = stepped_from st at_start (terminal.Name n) (part_next (name_due s) (terminal.Name n)) e (refl, refl)
 part_stepped st (name_due s) x e = tt
@@ -424,10 +650,24 @@ part_stepped st (binder_due h) terminal.Wildcard e =
     stepped_from st (standing_in (level_behind h) in_head (record { inner = empty_group; outer = param_group (level_behind h) })) terminal.Wildcard (part_next (binder_due h) terminal.Wildcard) e (refl, max_none (level_behind h + 1))
 part_stepped st (binder_due h) x e = tt
 part_stepped st (binder_colon_due h v) (terminal.Sign sign.Colon) e =
-    stepped_from st (standing_in (level_behind h) in_head (record { inner = record { arrows = 0; atoms = 1 }; outer = param_group (level_behind h) })) (terminal.Sign sign.Colon) (part_next (binder_colon_due h v) (terminal.Sign sign.Colon)) e ((refl, refl), max_none (level_behind h + 1))
+    stepped_from st (standing_in (level_behind h) in_head (record { inner = record { arrows = 0; atoms = 1 }; outer = param_group (level_behind h) })) (terminal.Sign sign.Colon) (part_next (binder_colon_due h v) (terminal.Sign sign.Colon)) e ((refl, refl, tt), max_none (level_behind h + 1))
 part_stepped st (binder_colon_due h v) x e = tt
+part_stepped st (rule_name_due h) (terminal.Name n) e = stepped_from st (rule_standing no_groups) (terminal.Name n) (part_next (rule_name_due h) (terminal.Name n)) e (refl, refl)
+part_stepped st (rule_name_due h) (terminal.Qualified m n) e = stepped_from st (rule_standing no_groups) (terminal.Qualified m n) (part_next (rule_name_due h) (terminal.Qualified m n)) e (refl, refl)
+part_stepped st (rule_name_due h) x e = tt
+part_stepped st (rule_brace_due h) (terminal.Sign sign.CloseBrace) e = stepped_from st (rule_standing one_atom) (terminal.Sign sign.CloseBrace) (part_next (rule_brace_due h) (terminal.Sign sign.CloseBrace)) e (refl, refl)
+part_stepped st (rule_brace_due h) x e = tt
+part_stepped st (square_due h) (terminal.Sign sign.OpenSquare) e = stepped_from st (rule_standing one_atom) (terminal.Sign sign.OpenSquare) (part_next (square_due h) (terminal.Sign sign.OpenSquare)) e (refl, refl)
+part_stepped st (square_due h) x e = tt
+part_stepped st (context_due h) (terminal.Sign sign.CloseSquare) e = stepped_from st (rule_standing no_groups) (terminal.Sign sign.CloseSquare) (part_next (context_due h) (terminal.Sign sign.CloseSquare)) e ((refl, tt), refl)
+part_stepped st (context_due h) (terminal.Name n) e = stepped_from st (rule_standing no_groups) (terminal.Name n) (part_next (context_due h) (terminal.Name n)) e (refl, refl)
+part_stepped st (context_due h) x e = tt
+part_stepped st (entry_due h) (terminal.Name n) e = stepped_from st (rule_standing no_groups) (terminal.Name n) (part_next (entry_due h) (terminal.Name n)) e (refl, refl)
+part_stepped st (entry_due h) x e = tt
+part_stepped st (entry_named h n) x e = stepped_from st (rule_standing one_atom) x (named_next h n x) e (named_stepped h n x)
+part_stepped st (in_left h part) x e = stepped_from st (left_standing (left_groups part)) x (left_next h part x) e.0 (left_stepped h part x e.1)
 part_stepped st (in_term purpose p) x h =
-    stepped_from st (standing_in (params_of purpose) (side_of purpose) (term_groups purpose p)) x (in_term_next (takes p x) purpose p x) h.0 (in_term_stepped (takes p x) purpose p x h.1 refl)
+    stepped_from st (standing_in (params_of purpose) (side_of purpose) (term_groups purpose p)) x (in_term_next (takes p x) purpose p x) h.0 (in_term_stepped (takes p x) purpose p x h.1 h.2 refl)
 
 standing_more : (st : Standing) (xs : List Terminal) (x : Terminal) → standing_from st (xs ++ x ∷ []) ≡ stands (standing_from st xs) x
 standing_more st [] x = refl
@@ -458,6 +698,9 @@ profile_behind purpose None = refl
 profile_behind (as_param h v) (Some a) = refl
 profile_behind (as_type h) (Some a) = refl
 profile_behind (as_body h typ) (Some a) = refl
+profile_behind (as_entry h n) (Some a) = refl
+profile_behind (as_guard h part) (Some a) = refl
+profile_behind (as_right h l) (Some a) = refl
 
 -- a word outside the profile is no part of a command
 pub profile_refused : (p : Part) → part_next p terminal.Profile ≡ refuses
@@ -466,4 +709,11 @@ profile_refused (name_due s) = refl
 profile_refused (head_due h) = refl
 profile_refused (binder_due h) = refl
 profile_refused (binder_colon_due h v) = refl
+profile_refused (rule_name_due h) = refl
+profile_refused (rule_brace_due h) = refl
+profile_refused (square_due h) = refl
+profile_refused (context_due h) = refl
+profile_refused (entry_due h) = refl
+profile_refused (entry_named h n) = refl
+profile_refused (in_left h part) = refl
 profile_refused (in_term purpose p) = profile_behind purpose (term_done p)

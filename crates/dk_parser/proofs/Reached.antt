@@ -6,10 +6,12 @@ use Rattle.dk_model.specs.declared.signature.SymSort.TheVariants.{Static, Defina
 use Rattle.dk_lexer.specs.declared.token.Sign.TheVariants as sign
 use Rattle.dk_parser.specs.declared.terminal.Terminal.{Terminal}
 use Rattle.dk_parser.specs.declared.terminal.Terminal.TheVariants as terminal
-use Rattle.dk_parser.specs.Written.{Written, written_star, WrittenParam, WrittenForm, written_declare}
-use Rattle.dk_parser.specs.Grammar.{colon, defined, dot, open_bracket, close_bracket, param, SpellsBinder, spells_binder, spells_no_binder, SpellsTerm, SpellsParams, spells_no_params, spells_params, SpellsForm, spells_star, spells_head, spells_application, spells_static, spells_definable, spells_definition, spells_typed_definition, spells_theorem, IsBegun}
-use Rattle.dk_parser.specs.Parsing.{TermPart, term_due, term_next, term_argument, term_done, takes, Head, level_behind, with_param, Purpose, as_param, as_type, as_body, Part, command_due, name_due, head_due, binder_due, binder_colon_due, in_term, PartStep, goes, ends, refuses, body_due, term_goes, term_ends, in_term_next, behind_term, dot_behind_type, body_behind_type, body_behind_head, head_next, part_next}
+use Rattle.dk_parser.specs.Written.{Written, written_star, WrittenParam, WrittenPattern, pattern_guard, WrittenRule, WrittenForm, written_declare, written_rules}
+use Rattle.dk_parser.specs.Grammar.{colon, defined, dot, open_bracket, close_bracket, open_square, close_square, open_brace, close_brace, comma, long_arrow, param, entry, rule, SpellsBinder, spells_binder, spells_no_binder, SpellsTerm, SpellsParams, spells_no_params, spells_params, SpellsForm, spells_star, spells_head, spells_application, spells_static, spells_definable, spells_definition, spells_typed_definition, spells_theorem, spells_guard, spells_no_rule_name, spells_rule_name, spells_qualified_rule_name, spells_rules, IsBegun}
+use Rattle.dk_parser.specs.Parsing.{TermPart, term_due, term_next, term_argument, term_done, takes, Head, level_behind, with_param, PatternPart, left_due, pattern_depth, pattern_more, with_atom, pattern_next, pattern_argument, pattern_done, RuleHead, no_rules, with_entry, Purpose, as_param, as_type, as_body, as_entry, as_guard, as_right, Part, command_due, name_due, head_due, binder_due, binder_colon_due, rule_name_due, rule_brace_due, square_due, context_due, entry_due, entry_named, in_left, in_term, PartStep, goes, ends, refuses, body_due, term_goes, term_ends, in_term_next, behind_entry, behind_rule, behind_term, named_next, left_goes, right_due, left_next, dot_behind_type, body_behind_type, body_behind_head, head_next, part_next}
 use Rattle.dk_parser.proofs.Machine.{going, run, follow}
+use Rattle.dk_parser.proofs.Left.{left_atom_reached, left_sound}
+use Rattle.dk_parser.proofs.Rules.{Due, rules_head, RulesFrom, BehindRule, rules_end, rules_go, RightBehind, LeftBehind, LeftRest, EntriesRest, ContextRest, context_ends, context_goes, BehindEntry, comma_behind, square_behind, NamedRest, typed_rest, named_rest, SquareBehind, RuleBraceBehind, RuleNameBehind, named_is_entry, rules_from, named_rules_from, left_step, left_begins, rule_ended, left_goes_on, entry_ended, named_ended, entries_begin, context_ended, square_begins, rule_brace_begins, rule_name_begins}
 use Rattle.dk_parser.proofs.Language.{ReachedTerm, nothing_reached, term_reached, term_sound, term_begun}
 
 append_nil : (xs : List Terminal) → xs ++ [] ≡ xs
@@ -39,6 +41,9 @@ abbrev pub Behind : Purpose → Written → List Terminal → WrittenForm → Ty
 Behind (as_param h v) a zs form = (rest : List Terminal) × (zs ≡ close_bracket ∷ rest) × BehindHead (with_param h v a) rest form
 Behind (as_type h) a zs form = TypeRest h.sort h.name h.params a zs form
 Behind (as_body h typ) b zs form = (zs ≡ dot ∷ []) × (form ≡ written_declare h.sort h.name h.params typ (Some b))
+Behind (as_entry h n) a zs form = BehindEntry (with_entry h (entry n (Some a))) zs form
+Behind (as_guard h part) a zs form = (rest : List Terminal) × (zs ≡ close_brace ∷ rest) × LeftRest h (with_atom part (pattern_guard a)) rest form
+Behind (as_right h l) a zs form = BehindRule (h.rules ++ rule h.context l a ∷ []) zs form
 
 -- a term, and what is behind it
 pub record TermBehind (purpose : Purpose) (zs : List Terminal) (form : WrittenForm) : Type 0 where
@@ -88,6 +93,13 @@ Reached xs (name_due s) = Leads xs (NameBehind s)
 Reached xs (head_due h) = Leads xs (BehindHead h)
 Reached xs (binder_due h) = Leads xs (BinderBehind h)
 Reached xs (binder_colon_due h v) = Leads xs (ColonBehind h v)
+Reached xs (rule_name_due h) = Leads xs (RuleNameBehind h)
+Reached xs (rule_brace_due h) = Leads xs (RuleBraceBehind h)
+Reached xs (square_due h) = Leads xs (SquareBehind h)
+Reached xs (context_due h) = Leads xs (ContextRest h)
+Reached xs (entry_due h) = Leads xs (EntriesRest h)
+Reached xs (entry_named h n) = Leads xs (NamedRest h n)
+Reached xs (in_left h part) = Leads xs (LeftRest h part)
 Reached xs (in_term purpose p) = ReachedIn xs purpose p
 
 -- one terminal more, that what is behind begins with
@@ -185,11 +197,25 @@ made_dot_behind_type Static h a xs l = l (dot ∷ []) (written_declare Static h.
 made_dot_behind_type Definable h a xs l = l (dot ∷ []) (written_declare Definable h.name h.params (Some a) None) definable_alone
 made_dot_behind_type Theorem h a xs l = tt
 
+made_behind_entry : (h : RuleHead) (x : Terminal) (xs : List Terminal) → Leads xs (BehindEntry h) → Made (xs ++ x ∷ []) (behind_entry h x)
+made_behind_entry h (terminal.Sign sign.Comma) xs l = lead_more (BehindEntry h) (EntriesRest h) xs comma l (λ zs form r. comma_behind r)
+made_behind_entry h (terminal.Sign sign.CloseSquare) xs l = lead_more (BehindEntry h) (LeftRest h left_due) xs close_square l (λ zs form r. square_behind (left_begins h zs form r))
+made_behind_entry h x xs l = tt
+
+made_behind_rule : (done : List WrittenRule) (x : Terminal) (xs : List Terminal) → Leads xs (BehindRule done) → Made (xs ++ x ∷ []) (behind_rule (rules_head done) x)
+made_behind_rule done (terminal.Sign sign.Dot) xs l = l (dot ∷ []) (written_rules done) rules_end
+made_behind_rule done (terminal.Sign sign.OpenSquare) xs l = lead_more (BehindRule done) (ContextRest (rules_head done)) xs open_square l (λ zs form r. rules_go (rules_from done [] zs form spells_no_rule_name r))
+made_behind_rule done (terminal.Sign sign.OpenBrace) xs l = lead_more (BehindRule done) (RuleNameBehind (rules_head done)) xs open_brace l (λ zs form r. rules_go (named_rules_from done zs form r))
+made_behind_rule done x xs l = tt
+
 made_behind : (purpose : Purpose) (a : Written) (x : Terminal) (xs : List Terminal) → Leads xs (Behind purpose a) → Made (xs ++ x ∷ []) (behind_term purpose a x)
 made_behind (as_param h v) a (terminal.Sign sign.CloseBracket) xs l = lead_more (Behind (as_param h v) a) (BehindHead (with_param h v a)) xs close_bracket l (λ zs form r. (zs, refl, r))
 made_behind (as_type h) a (terminal.Sign sign.Dot) xs l = made_dot_behind_type h.sort h a xs l
 made_behind (as_type h) a (terminal.Sign sign.Defined) xs l = made_body_behind_type h.sort h a xs refl l
 made_behind (as_body h typ) b (terminal.Sign sign.Dot) xs l = l (dot ∷ []) (written_declare h.sort h.name h.params typ (Some b)) (refl, refl)
+made_behind (as_entry h n) a x xs l = made_behind_entry (with_entry h (entry n (Some a))) x xs l
+made_behind (as_guard h part) a (terminal.Sign sign.CloseBrace) xs l = lead_more (Behind (as_guard h part) a) (LeftRest h (with_atom part (pattern_guard a))) xs close_brace l (λ zs form r. (zs, refl, r))
+made_behind (as_right h l) a x xs m = made_behind_rule (h.rules ++ rule h.context l a ∷ []) x xs m
 made_behind purpose a x xs l = tt
 
 made_goes : (o : Option TermPart) (purpose : Purpose) (p : TermPart) (x : Terminal) (xs : List Terminal) → ReachedIn xs purpose p → term_next p x ≡ o → Made (xs ++ x ∷ []) (term_goes purpose (term_argument p x) o)
@@ -219,6 +245,52 @@ made_head h (terminal.Sign sign.Colon) xs l = begin_term (xs ++ colon ∷ []) (a
 made_head h (terminal.Sign sign.Defined) xs l = made_body_behind_head h.sort h xs refl l
 made_head h x xs l = tt
 
+-- Rules
+
+entry_behind_colon : (h : RuleHead) (n : List ℕ) (zs : List Terminal) (form : WrittenForm) → TermBehind (as_entry h n) zs form → NamedRest h n (colon ∷ zs) form
+entry_behind_colon h n zs form t = subst (λ us. NamedRest h n (colon ∷ us) form) (sym t.is) (typed_rest t.spelt t.behind)
+
+made_named : (h : RuleHead) (n : List ℕ) (x : Terminal) (xs : List Terminal) → Leads xs (NamedRest h n) → Made (xs ++ x ∷ []) (named_next h n x)
+made_named h n (terminal.Sign sign.Colon) xs l = begin_term (xs ++ colon ∷ []) (as_entry h n) 0 (lead_more (NamedRest h n) (TermBehind (as_entry h n)) xs colon l (entry_behind_colon h n))
+made_named h n x xs l = made_behind_entry (with_entry h (entry n None)) x xs (λ zs form r. l zs form (named_rest r))
+
+right_is : (h : RuleHead) (part : PatternPart) (l : WrittenPattern) → pattern_done part ≡ Some l → (zs : List Terminal) (form : WrittenForm) → TermBehind (as_right h l) zs form → LeftRest h part (long_arrow ∷ zs) form
+right_is h part l e zs form t ws r =
+    let right : RightBehind h l zs form = record { ys = t.ys; rest = t.rest; term = t.term; is = t.is; spelt = t.spelt; behind = t.behind } in
+    record { ys = ws; rest = zs; left = l; is = refl; spelt = left_sound ws part l r e; right = right }
+
+made_right : (o : Option WrittenPattern) (h : RuleHead) (part : PatternPart) (xs : List Terminal) → Leads xs (LeftRest h part) → pattern_done part ≡ o → Made (xs ++ long_arrow ∷ []) (right_due h o)
+made_right None h part xs m e = tt
+made_right (Some l) h part xs m e = begin_term (xs ++ long_arrow ∷ []) (as_right h l) 0 (lead_more (LeftRest h part) (TermBehind (as_right h l)) xs long_arrow m (right_is h part l e))
+
+guard_lists : (ws ys rest : List Terminal) → (ws ++ (open_brace ∷ (ys ++ close_brace ∷ []))) ++ rest ≡ ws ++ (open_brace ∷ (ys ++ close_brace ∷ rest))
+guard_lists ws ys rest = simp append_assoc
+
+guard_is : (h : RuleHead) (part : PatternPart) (zs : List Terminal) (form : WrittenForm) → TermBehind (as_guard h part) zs form → LeftRest h part (open_brace ∷ zs) form
+guard_is h part zs form t ws r =
+    let b = t.behind in
+    let lists : (ws ++ (open_brace ∷ (t.ys ++ close_brace ∷ []))) ++ b.0 ≡ ws ++ open_brace ∷ zs = guard_lists ws t.ys b.0 ∙ ap (λ us. ws ++ open_brace ∷ us) (sym (t.is ∙ ap (λ us. t.ys ++ us) b.1)) in
+    subst (λ us. LeftBehind h us form) lists
+    (b.2 (ws ++ (open_brace ∷ (t.ys ++ close_brace ∷ []))) (left_atom_reached ws (open_brace ∷ (t.ys ++ close_brace ∷ [])) part (pattern_guard t.term) r (spells_guard t.spelt)))
+
+made_left_goes : (o : Option PatternPart) (h : RuleHead) (part : PatternPart) (x : Terminal) (argument : ℕ) (xs : List Terminal) → Leads xs (LeftRest h part) → pattern_next part x ≡ o → Made (xs ++ x ∷ []) (left_goes h argument o)
+made_left_goes None h part x argument xs l e = tt
+made_left_goes (Some q) h part x argument xs l e = lead_more (LeftRest h part) (LeftRest h q) xs x l (λ zs form r. left_step h part q x zs form e r)
+
+made_left : (h : RuleHead) (part : PatternPart) (x : Terminal) (xs : List Terminal) → Leads xs (LeftRest h part) → Made (xs ++ x ∷ []) (left_next h part x)
+made_left h part (terminal.Sign sign.LongArrow) xs l = made_right (pattern_done part) h part xs l refl
+made_left h part (terminal.Sign sign.OpenBrace) xs l = begin_term (xs ++ open_brace ∷ []) (as_guard h part) (pattern_depth part.frames + 1) (lead_more (LeftRest h part) (TermBehind (as_guard h part)) xs open_brace l (guard_is h part))
+made_left h part x xs l = made_left_goes (pattern_next part x) h part x (pattern_argument part x) xs l refl
+
+rules_are : (zs : List Terminal) (form : WrittenForm) → RulesFrom [] zs form → SpellsForm zs form
+rules_are zs form r = subst (λ us. SpellsForm us form) (sym r.is) (subst (SpellsForm (r.ys ++ dot ∷ [])) (sym r.form_is) (spells_rules r.spelt))
+
+context_begins_rules : (xs zs : List Terminal) (form : WrittenForm) → xs ≡ [] → ContextRest no_rules zs form → SpellsForm ((xs ++ open_square ∷ []) ++ zs) form
+context_begins_rules xs zs form h r = subst (λ us. SpellsForm ((us ++ open_square ∷ []) ++ zs) form) (sym h) (rules_are (open_square ∷ zs) form (rules_from [] [] zs form spells_no_rule_name r))
+
+name_begins_rules : (xs zs : List Terminal) (form : WrittenForm) → xs ≡ [] → RuleNameBehind no_rules zs form → SpellsForm ((xs ++ open_brace ∷ []) ++ zs) form
+name_begins_rules xs zs form h r = subst (λ us. SpellsForm ((us ++ open_brace ∷ []) ++ zs) form) (sym h) (rules_are (open_brace ∷ zs) form (named_rules_from [] zs form r))
+
 named_is : (s : SymSort) (zs : List Terminal) (form : WrittenForm) (first : List Terminal) → ((n : List ℕ) → start s n ≡ first ++ terminal.Name n ∷ []) → NameBehind s zs form → SpellsForm (first ++ zs) form
 named_is s zs form first e r =
     subst (λ us. SpellsForm us form)
@@ -230,6 +302,8 @@ made : (p : Part) (x : Terminal) (xs : List Terminal) → Reached xs p → Made 
 made command_due (terminal.Name n) xs h = λ zs form r. subst (λ us. SpellsForm ((us ++ terminal.Name n ∷ []) ++ zs) form) (sym h) (head_spelt r [] spells_no_params)
 made command_due terminal.Def xs h = λ zs form r. subst (λ us. SpellsForm ((us ++ terminal.Def ∷ []) ++ zs) form) (sym h) (named_is Definable zs form (terminal.Def ∷ []) (λ n. refl) r)
 made command_due terminal.Thm xs h = λ zs form r. subst (λ us. SpellsForm ((us ++ terminal.Thm ∷ []) ++ zs) form) (sym h) (named_is Theorem zs form (terminal.Thm ∷ []) (λ n. refl) r)
+made command_due (terminal.Sign sign.OpenSquare) xs h = λ zs form r. context_begins_rules xs zs form h r
+made command_due (terminal.Sign sign.OpenBrace) xs h = λ zs form r. name_begins_rules xs zs form h r
 made command_due x xs h = tt
 made (name_due s) (terminal.Name n) xs l = lead_more (NameBehind s) (HeadRest s n []) xs (terminal.Name n) l (λ zs form r. record { n = n; rest = zs; is = refl; head = r })
 made (name_due s) x xs l = tt
@@ -239,6 +313,20 @@ made (binder_due h) terminal.Wildcard xs l = lead_more (BinderBehind h) (ColonBe
 made (binder_due h) x xs l = tt
 made (binder_colon_due h v) (terminal.Sign sign.Colon) xs l = begin_term (xs ++ colon ∷ []) (as_param h v) (level_behind h + 1) (lead_more (ColonBehind h v) (TermBehind (as_param h v)) xs colon l (λ zs form t. record { rest = zs; is = refl; term = t }))
 made (binder_colon_due h v) x xs l = tt
+made (rule_name_due h) (terminal.Name n) xs l = lead_more (RuleNameBehind h) (RuleBraceBehind h) xs (terminal.Name n) l (λ zs form r. record { x = terminal.Name n; rest = zs; is = refl; spelt = spells_rule_name; brace = r })
+made (rule_name_due h) (terminal.Qualified m n) xs l = lead_more (RuleNameBehind h) (RuleBraceBehind h) xs (terminal.Qualified m n) l (λ zs form r. record { x = terminal.Qualified m n; rest = zs; is = refl; spelt = spells_qualified_rule_name; brace = r })
+made (rule_name_due h) x xs l = tt
+made (rule_brace_due h) (terminal.Sign sign.CloseBrace) xs l = lead_more (RuleBraceBehind h) (SquareBehind h) xs close_brace l (λ zs form r. record { rest = zs; is = refl; square = r })
+made (rule_brace_due h) x xs l = tt
+made (square_due h) (terminal.Sign sign.OpenSquare) xs l = lead_more (SquareBehind h) (ContextRest h) xs open_square l (λ zs form r. record { rest = zs; is = refl; context = r })
+made (square_due h) x xs l = tt
+made (context_due h) (terminal.Sign sign.CloseSquare) xs l = lead_more (ContextRest h) (LeftRest h left_due) xs close_square l (λ zs form r. context_ends (left_begins h zs form r))
+made (context_due h) (terminal.Name n) xs l = lead_more (ContextRest h) (NamedRest h n) xs (terminal.Name n) l (λ zs form r. context_goes (named_is_entry r))
+made (context_due h) x xs l = tt
+made (entry_due h) (terminal.Name n) xs l = lead_more (EntriesRest h) (NamedRest h n) xs (terminal.Name n) l (λ zs form r. named_is_entry r)
+made (entry_due h) x xs l = tt
+made (entry_named h n) x xs l = made_named h n x xs l
+made (in_left h part) x xs l = made_left h part x xs l
 made (in_term purpose p) x xs h = made_in_term (takes p x) purpose p x xs h
 
 -- what leads to a part
@@ -253,13 +341,6 @@ sound xs p x form is e = subst (Made (xs ++ x ∷ [])) e (made p x xs (reached x
 
 a_term : SpellsTerm (terminal.Star ∷ []) written_star
 a_term = spells_application (spells_head spells_star)
-
--- something may stand behind
-record Due (R : List Terminal → WrittenForm → Type 0) : Type 0 where
-  pub first : Terminal
-  pub rest : List Terminal
-  pub form : WrittenForm
-  pub is : R (first ∷ rest) form
 
 type_due : (s : SymSort) (n : List ℕ) (ps : List WrittenParam) (a : Written) → Due (TypeRest s n ps a)
 type_due Static n ps a = record { first = dot; rest = []; form = written_declare Static n ps (Some a) None; is = static_alone }
@@ -276,6 +357,11 @@ due_behind (as_param h v) a =
     let r = head_rest h.sort h.name (h.params ++ param v a ∷ []) in
     record { first = close_bracket; rest = r.first ∷ r.rest; form = r.form; is = (r.first ∷ r.rest, refl, r.is) }
 due_behind (as_type h) a = type_due h.sort h.name h.params a
+due_behind (as_entry h n) a = entry_ended (with_entry h (entry n (Some a)))
+due_behind (as_guard h part) a =
+    let r = left_goes_on h part.frames (pattern_more part.slot (pattern_guard a)) in
+    record { first = close_brace; rest = r.first ∷ r.rest; form = r.form; is = (r.first ∷ r.rest, refl, r.is) }
+due_behind (as_right h l) a = rule_ended (h.rules ++ rule h.context l a ∷ [])
 due_behind (as_body h typ) b = record { first = dot; rest = []; form = written_declare h.sort h.name h.params typ (Some b); is = (refl, refl) }
 
 term_begins : (purpose : Purpose) → Due (TermBehind purpose)
@@ -323,6 +409,13 @@ begun_by (name_due s) xs l = due_begun xs (NameBehind s) l (name_begins s)
 begun_by (head_due h) xs l = due_begun xs (BehindHead h) l (head_rest h.sort h.name h.params)
 begun_by (binder_due h) xs l = due_begun xs (BinderBehind h) l (binder_begins h)
 begun_by (binder_colon_due h v) xs l = due_begun xs (ColonBehind h v) l (colon_begins h v)
+begun_by (rule_name_due h) xs l = due_begun xs (RuleNameBehind h) l (rule_name_begins h)
+begun_by (rule_brace_due h) xs l = due_begun xs (RuleBraceBehind h) l (rule_brace_begins h)
+begun_by (square_due h) xs l = due_begun xs (SquareBehind h) l (square_begins h)
+begun_by (context_due h) xs l = due_begun xs (ContextRest h) l (context_ended h)
+begun_by (entry_due h) xs l = due_begun xs (EntriesRest h) l (entries_begin h)
+begun_by (entry_named h n) xs l = due_begun xs (NamedRest h n) l (named_ended h n)
+begun_by (in_left h part) xs l = due_begun xs (LeftRest h part) l (left_goes_on h part.frames part.slot)
 begun_by (in_term purpose p) xs h = term_due_more xs purpose p h
 
 -- terminals that lead to a part begin a command

@@ -6,7 +6,7 @@ use Rattle.dk_lexer.specs.declared.token.Sign.TheVariants as sign
 use Rattle.dk_parser.specs.declared.terminal.Terminal.{Terminal}
 use Rattle.dk_parser.specs.declared.terminal.Terminal.TheVariants as terminal
 use Rattle.dk_parser.specs.Terminals.{terminal_of}
-use Rattle.dk_parser.specs.Written.{Written, written_name, written_qualified, written_star, written_wild, written_apply, written_arrow, written_product, written_bare, written_annotated, WrittenParam, WrittenForm, written_declare, WrittenCommand}
+use Rattle.dk_parser.specs.Written.{Written, written_name, written_qualified, written_star, written_wild, written_apply, written_arrow, written_product, written_bare, written_annotated, WrittenParam, WrittenPattern, pattern_name, pattern_qualified, pattern_wild, pattern_guard, pattern_apply, pattern_bare, WrittenNote, WrittenRule, WrittenForm, written_declare, written_rules, WrittenCommand}
 
 abbrev pub colon : Terminal
 colon = terminal.Sign sign.Colon
@@ -28,6 +28,24 @@ open_bracket = terminal.Sign sign.OpenBracket
 
 abbrev pub close_bracket : Terminal
 close_bracket = terminal.Sign sign.CloseBracket
+
+abbrev pub open_square : Terminal
+open_square = terminal.Sign sign.OpenSquare
+
+abbrev pub close_square : Terminal
+close_square = terminal.Sign sign.CloseSquare
+
+abbrev pub open_brace : Terminal
+open_brace = terminal.Sign sign.OpenBrace
+
+abbrev pub close_brace : Terminal
+close_brace = terminal.Sign sign.CloseBrace
+
+abbrev pub comma : Terminal
+comma = terminal.Sign sign.Comma
+
+abbrev pub long_arrow : Terminal
+long_arrow = terminal.Sign sign.LongArrow
 
 -- this terminal spells this binder: a name, or the wildcard, which is None
 pub data SpellsBinder : Terminal → Option (List ℕ) → Type 0 where
@@ -65,13 +83,69 @@ pub data SpellsParams : List Terminal → List WrittenParam → Type 0 where
   spells_no_params : SpellsParams [] []
   spells_params : {x : Terminal} {v : Option (List ℕ)} {xs ys : List Terminal} {a : Written} {ps : List WrittenParam} → SpellsBinder x v → SpellsTerm xs a → SpellsParams ys ps → SpellsParams (open_bracket ∷ x ∷ colon ∷ (xs ++ close_bracket ∷ ys)) (param v a ∷ ps)
 
--- this command: `c : A.`, `def c : A.`, `def c := t.`, `def c : A := t.` or `thm c : A := t.`, each with its parameters behind the name
+mutual
+  -- this atom of a pattern: a name, the wildcard, a guard `{t}`, or a pattern in brackets
+  pub data SpellsPatternAtom : List Terminal → WrittenPattern → Type 0 where
+    spells_pattern_name : {n : List ℕ} → SpellsPatternAtom (terminal.Name n ∷ []) (pattern_name n)
+    spells_pattern_qualified : {m n : List ℕ} → SpellsPatternAtom (terminal.Qualified m n ∷ []) (pattern_qualified m n)
+    spells_pattern_wildcard : SpellsPatternAtom (terminal.Wildcard ∷ []) pattern_wild
+    spells_guard : {xs : List Terminal} {a : Written} → SpellsTerm xs a → SpellsPatternAtom (open_brace ∷ (xs ++ close_brace ∷ [])) (pattern_guard a)
+    spells_pattern_brackets : {xs : List Terminal} {p : WrittenPattern} → SpellsPattern xs p → SpellsPatternAtom (open_bracket ∷ (xs ++ close_bracket ∷ [])) p
+
+  -- this application of patterns, which the left side of a rule is too
+  pub data SpellsPatternApplication : List Terminal → WrittenPattern → Type 0 where
+    spells_pattern_head : {xs : List Terminal} {p : WrittenPattern} → SpellsPatternAtom xs p → SpellsPatternApplication xs p
+    spells_pattern_applied : {xs ys : List Terminal} {f p : WrittenPattern} → SpellsPatternApplication xs f → SpellsPatternAtom ys p → SpellsPatternApplication (xs ++ ys) (pattern_apply f p)
+
+  -- this pattern: an application, or `x => p`
+  pub data SpellsPattern : List Terminal → WrittenPattern → Type 0 where
+    spells_pattern_application : {xs : List Terminal} {p : WrittenPattern} → SpellsPatternApplication xs p → SpellsPattern xs p
+    spells_pattern_bare : {x : Terminal} {v : Option (List ℕ)} {xs : List Terminal} {p : WrittenPattern} → SpellsBinder x v → SpellsPattern xs p → SpellsPattern (x ∷ double_arrow ∷ xs) (pattern_bare v p)
+
+abbrev pub entry : List ℕ → Option Written → WrittenNote
+entry n typ = record { name = n; note = typ }
+
+-- this entry of a context: a name, perhaps with a type
+pub data SpellsEntry : List Terminal → WrittenNote → Type 0 where
+  spells_entry : {n : List ℕ} → SpellsEntry (terminal.Name n ∷ []) (entry n None)
+  spells_typed_entry : {n : List ℕ} {xs : List Terminal} {a : Written} → SpellsTerm xs a → SpellsEntry (terminal.Name n ∷ colon ∷ xs) (entry n (Some a))
+
+-- these entries, one or more
+pub data SpellsEntries : List Terminal → List WrittenNote → Type 0 where
+  spells_last_entry : {xs : List Terminal} {e : WrittenNote} → SpellsEntry xs e → SpellsEntries xs (e ∷ [])
+  spells_more_entries : {xs ys : List Terminal} {e : WrittenNote} {es : List WrittenNote} → SpellsEntry xs e → SpellsEntries ys es → SpellsEntries (xs ++ comma ∷ ys) (e ∷ es)
+
+-- this context, in its square brackets
+pub data SpellsContext : List Terminal → List WrittenNote → Type 0 where
+  spells_no_context : SpellsContext (open_square ∷ close_square ∷ []) []
+  spells_context : {xs : List Terminal} {es : List WrittenNote} → SpellsEntries xs es → SpellsContext (open_square ∷ (xs ++ close_square ∷ [])) es
+
+-- the name of a rule, or none; a command doesn't keep it
+pub data SpellsRuleName : List Terminal → Type 0 where
+  spells_no_rule_name : SpellsRuleName []
+  spells_rule_name : {n : List ℕ} → SpellsRuleName (open_brace ∷ terminal.Name n ∷ close_brace ∷ [])
+  spells_qualified_rule_name : {m n : List ℕ} → SpellsRuleName (open_brace ∷ terminal.Qualified m n ∷ close_brace ∷ [])
+
+abbrev pub rule : List WrittenNote → WrittenPattern → Written → WrittenRule
+rule es l r = record { context = es; left = l; right = r }
+
+-- this rule: its name, its context, and `left --> right`
+pub data SpellsRule : List Terminal → WrittenRule → Type 0 where
+  spells_rule : {ns xs ys zs : List Terminal} {es : List WrittenNote} {l : WrittenPattern} {r : Written} → SpellsRuleName ns → SpellsContext xs es → SpellsPatternApplication ys l → SpellsTerm zs r → SpellsRule (ns ++ (xs ++ (ys ++ long_arrow ∷ zs))) (rule es l r)
+
+-- these rules, one or more
+pub data SpellsRules : List Terminal → List WrittenRule → Type 0 where
+  spells_last_rule : {xs : List Terminal} {r : WrittenRule} → SpellsRule xs r → SpellsRules xs (r ∷ [])
+  spells_more_rules : {xs ys : List Terminal} {r : WrittenRule} {rs : List WrittenRule} → SpellsRule xs r → SpellsRules ys rs → SpellsRules (xs ++ ys) (r ∷ rs)
+
+-- this command: `c : A.`, `def c : A.`, `def c := t.`, `def c : A := t.` or `thm c : A := t.`, each with its parameters behind the name; or rules
 pub data SpellsForm : List Terminal → WrittenForm → Type 0 where
   spells_static : {n : List ℕ} {xs ys : List Terminal} {ps : List WrittenParam} {a : Written} → SpellsParams xs ps → SpellsTerm ys a → SpellsForm (terminal.Name n ∷ (xs ++ colon ∷ (ys ++ dot ∷ []))) (written_declare Static n ps (Some a) None)
   spells_definable : {n : List ℕ} {xs ys : List Terminal} {ps : List WrittenParam} {a : Written} → SpellsParams xs ps → SpellsTerm ys a → SpellsForm (terminal.Def ∷ terminal.Name n ∷ (xs ++ colon ∷ (ys ++ dot ∷ []))) (written_declare Definable n ps (Some a) None)
   spells_definition : {n : List ℕ} {xs ys : List Terminal} {ps : List WrittenParam} {b : Written} → SpellsParams xs ps → SpellsTerm ys b → SpellsForm (terminal.Def ∷ terminal.Name n ∷ (xs ++ defined ∷ (ys ++ dot ∷ []))) (written_declare Definable n ps None (Some b))
   spells_typed_definition : {n : List ℕ} {xs ys zs : List Terminal} {ps : List WrittenParam} {a b : Written} → SpellsParams xs ps → SpellsTerm ys a → SpellsTerm zs b → SpellsForm (terminal.Def ∷ terminal.Name n ∷ (xs ++ colon ∷ (ys ++ defined ∷ (zs ++ dot ∷ [])))) (written_declare Definable n ps (Some a) (Some b))
   spells_theorem : {n : List ℕ} {xs ys zs : List Terminal} {ps : List WrittenParam} {a b : Written} → SpellsParams xs ps → SpellsTerm ys a → SpellsTerm zs b → SpellsForm (terminal.Thm ∷ terminal.Name n ∷ (xs ++ colon ∷ (ys ++ defined ∷ (zs ++ dot ∷ [])))) (written_declare Theorem n ps (Some a) (Some b))
+  spells_rules : {xs : List Terminal} {rs : List WrittenRule} → SpellsRules xs rs → SpellsForm (xs ++ dot ∷ []) (written_rules rs)
 
 abbrev pub terminals : List Token → List Terminal
 terminals ts = map terminal_of ts

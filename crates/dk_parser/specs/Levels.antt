@@ -49,10 +49,11 @@ grouped gs (terminal.Sign sign.Arrow) = with_inner arrow_more gs
 grouped gs (terminal.Sign sign.DoubleArrow) = with_inner arrow_more gs
 grouped gs x = gs
 
--- where in its command a terminal stands: in the head, which its `:` or `:=` ends, or behind it
+-- where in its command a terminal stands: in the head, which its `:` or `:=` ends; on the left side of a rule; or elsewhere
 pub data Side : Type 0 where
   in_head : Side
   behind_head : Side
+  on_left : Side
 
 -- the parameters that have closed, the side, and the groups of the term
 pub record Standing : Type 0 where
@@ -68,14 +69,29 @@ params_closed in_head (g ∷ []) n = n + 1
 params_closed side outer n = n
 
 abbrev pub side_at_colon : Side → List Group → Side
-side_at_colon in_head (g ∷ outer) = in_head
-side_at_colon side outer = behind_head
+side_at_colon in_head [] = behind_head
+side_at_colon side outer = side
 
--- a bracket of the head that closes is a parameter; `:=` ends a term, and the dot a command
+-- a term begins anew
+abbrev pub anew : Standing → Side → Standing
+anew s side = record { params = s.params; side = side; groups = no_groups }
+
+-- a brace opens a guard on a left side, and elsewhere the name of a rule
+abbrev pub brace_opened : Side → Standing → Standing
+brace_opened on_left s = record { params = s.params; side = on_left; groups = record { inner = empty_group; outer = atom_more s.groups.inner ∷ s.groups.outer } }
+brace_opened side s = anew s behind_head
+
+-- a bracket of the head that closes is a parameter; a context and its commas, `-->`, `:=` and the name of a rule end a term, and the dot a command
 abbrev pub stands : Standing → Terminal → Standing
 stands s (terminal.Sign sign.CloseBracket) = record { params = params_closed s.side s.groups.outer s.params; side = s.side; groups = grouped s.groups (terminal.Sign sign.CloseBracket) }
 stands s (terminal.Sign sign.Colon) = record { params = s.params; side = side_at_colon s.side s.groups.outer; groups = grouped s.groups (terminal.Sign sign.Colon) }
-stands s (terminal.Sign sign.Defined) = record { params = s.params; side = behind_head; groups = no_groups }
+stands s (terminal.Sign sign.Defined) = anew s behind_head
+stands s (terminal.Sign sign.OpenSquare) = anew s behind_head
+stands s (terminal.Sign sign.Comma) = anew s behind_head
+stands s (terminal.Sign sign.CloseSquare) = anew s on_left
+stands s (terminal.Sign sign.LongArrow) = anew s behind_head
+stands s (terminal.Sign sign.OpenBrace) = brace_opened s.side s
+stands s (terminal.Sign sign.CloseBrace) = record { params = s.params; side = s.side; groups = closed s.groups s.groups.outer }
 stands s (terminal.Sign sign.Dot) = at_start
 stands s x = record { params = s.params; side = s.side; groups = grouped s.groups x }
 
@@ -94,6 +110,11 @@ arrows_of (g ∷ gs) = (g.arrows + 1) + arrows_of gs
 abbrev pub level_of : Standing → ℕ
 level_of s = s.params + (s.groups.inner.arrows + arrows_of s.groups.outer)
 
+-- the argument that a brace begins, where it opens a guard
+abbrev pub argument_of_brace : Side → Groups → ℕ
+argument_of_brace on_left gs = gs.inner.atoms
+argument_of_brace side gs = 0
+
 -- the number of the argument that a terminal begins, from 1; 0 where it begins none
 abbrev pub argument_in : Standing → Terminal → ℕ
 argument_in s (terminal.Name n) = s.groups.inner.atoms
@@ -101,6 +122,7 @@ argument_in s (terminal.Qualified m n) = s.groups.inner.atoms
 argument_in s terminal.Star = s.groups.inner.atoms
 argument_in s terminal.Wildcard = s.groups.inner.atoms
 argument_in s (terminal.Sign sign.OpenBracket) = s.groups.inner.atoms
+argument_in s (terminal.Sign sign.OpenBrace) = argument_of_brace s.side s.groups
 argument_in s x = 0
 
 -- the level that a terminal stands on behind these, or the number of the argument that it begins, whichever is greater; a parameter's bracket counts for an argument of the name too, but its level is as great

@@ -10,8 +10,8 @@ use Rattle.dk_lexer.specs.declared.token.Sign.TheVariants as sign
 use Rattle.dk_parser.specs.declared.terminal.Terminal.{Terminal}
 use Rattle.dk_parser.specs.declared.terminal.Terminal.TheVariants as terminal
 use Rattle.dk_parser.specs.Terminals.{terminal_of}
-use Rattle.dk_parser.specs.Written.{Written, written_name, written_qualified, written_star, written_wild, written_apply, written_arrow, written_product, written_bare, written_annotated, WrittenParam, WrittenForm, written_declare, WrittenCommand}
-use Rattle.dk_parser.specs.Grammar.{param}
+use Rattle.dk_parser.specs.Written.{Written, written_name, written_qualified, written_star, written_wild, written_apply, written_arrow, written_product, written_bare, written_annotated, WrittenParam, WrittenPattern, pattern_name, pattern_qualified, pattern_wild, pattern_guard, pattern_apply, pattern_bare, WrittenNote, WrittenRule, WrittenForm, written_declare, written_rules, WrittenCommand}
+use Rattle.dk_parser.specs.Grammar.{param, entry, rule}
 
 -- where an application stands: at the front of a term, or as the domain of a binder
 pub data Place : Type 0 where
@@ -208,6 +208,110 @@ takes p (terminal.Sign sign.Arrow) = true
 takes p (terminal.Sign sign.DoubleArrow) = true
 takes p x = false
 
+-- what has been read of an application of patterns: nothing; a binder or else a first atom; or some atoms
+pub data PatternSlot : Type 0 where
+  pattern_due : PatternSlot
+  pattern_bindable : Option (List ℕ) → PatternSlot
+  pattern_applied : WrittenPattern → ℕ → PatternSlot
+
+-- the binders of a pattern in brackets, the innermost first
+pub data Binders : Type 0 where
+  no_binders : Binders
+  binder_on : Option (List ℕ) → Binders → Binders
+
+-- the brackets that are open, the innermost first, each with the level in it, what stood before it and its binders
+pub data PatternFrames : Type 0 where
+  no_bracket : PatternFrames
+  bracket_on : ℕ → PatternSlot → Binders → PatternFrames → PatternFrames
+
+-- a left side that has begun
+pub record PatternPart : Type 0 where
+  pub frames : PatternFrames
+  pub slot : PatternSlot
+
+abbrev pub left_due : PatternPart
+left_due = record { frames = no_bracket; slot = pattern_due }
+
+abbrev pub pattern_depth : PatternFrames → ℕ
+pattern_depth no_bracket = 0
+pattern_depth (bracket_on d slot vs fs) = d
+
+abbrev pub pattern_atoms : PatternSlot → ℕ
+pattern_atoms pattern_due = 0
+pattern_atoms (pattern_bindable v) = 1
+pattern_atoms (pattern_applied p n) = n
+
+-- a binder read as a pattern
+abbrev pub binder_pattern : Option (List ℕ) → WrittenPattern
+binder_pattern None = pattern_wild
+binder_pattern (Some n) = pattern_name n
+
+-- one atom more
+abbrev pub pattern_more : PatternSlot → WrittenPattern → PatternSlot
+pattern_more pattern_due p = pattern_applied p 1
+pattern_more (pattern_bindable v) p = pattern_applied (pattern_apply (binder_pattern v) p) 2
+pattern_more (pattern_applied f n) p = pattern_applied (pattern_apply f p) (n + 1)
+
+-- one name or wildcard more
+abbrev pub pattern_binder : PatternSlot → Option (List ℕ) → PatternSlot
+pattern_binder pattern_due v = pattern_bindable v
+pattern_binder slot v = pattern_more slot (binder_pattern v)
+
+-- the application, where it may end
+abbrev pub slot_pattern : PatternSlot → Option WrittenPattern
+slot_pattern pattern_due = None
+slot_pattern (pattern_bindable v) = Some (binder_pattern v)
+slot_pattern (pattern_applied p n) = Some p
+
+-- a pattern under these binders
+abbrev pub under_binders : Binders → WrittenPattern → WrittenPattern
+under_binders no_binders p = p
+under_binders (binder_on v vs) p = under_binders vs (pattern_bare v p)
+
+abbrev pub with_atom : PatternPart → WrittenPattern → PatternPart
+with_atom part p = record { frames = part.frames; slot = pattern_more part.slot p }
+
+abbrev pub with_binder : PatternPart → Option (List ℕ) → PatternPart
+with_binder part v = record { frames = part.frames; slot = pattern_binder part.slot v }
+
+abbrev pub pattern_opened : PatternPart → PatternPart
+pattern_opened part = record { frames = bracket_on (pattern_depth part.frames + 1) part.slot no_binders part.frames; slot = pattern_due }
+
+abbrev pub pattern_closed : PatternFrames → Option WrittenPattern → Option PatternPart
+pattern_closed (bracket_on d slot vs fs) (Some p) = Some (record { frames = fs; slot = pattern_more slot (under_binders vs p) })
+pattern_closed fs p = None
+
+-- `x =>`, which stands in brackets
+abbrev pub pattern_bound : PatternFrames → PatternSlot → Option PatternPart
+pattern_bound (bracket_on d slot vs fs) (pattern_bindable v) = Some (record { frames = bracket_on (d + 1) slot (binder_on v vs) fs; slot = pattern_due })
+pattern_bound fs slot = None
+
+-- the left side with one terminal more that is not in a guard
+abbrev pub pattern_next : PatternPart → Terminal → Option PatternPart
+pattern_next part (terminal.Name n) = Some (with_binder part (Some n))
+pattern_next part terminal.Wildcard = Some (with_binder part None)
+pattern_next part (terminal.Qualified m n) = Some (with_atom part (pattern_qualified m n))
+pattern_next part (terminal.Sign sign.OpenBracket) = Some (pattern_opened part)
+pattern_next part (terminal.Sign sign.CloseBracket) = pattern_closed part.frames (slot_pattern part.slot)
+pattern_next part (terminal.Sign sign.DoubleArrow) = pattern_bound part.frames part.slot
+pattern_next part x = None
+
+-- the number of the argument that a terminal begins
+abbrev pub pattern_argument : PatternPart → Terminal → ℕ
+pattern_argument part (terminal.Name n) = pattern_atoms part.slot
+pattern_argument part terminal.Wildcard = pattern_atoms part.slot
+pattern_argument part (terminal.Qualified m n) = pattern_atoms part.slot
+pattern_argument part (terminal.Sign sign.OpenBracket) = pattern_atoms part.slot
+pattern_argument part x = 0
+
+abbrev pub done_outside : PatternFrames → Option WrittenPattern → Option WrittenPattern
+done_outside no_bracket p = p
+done_outside fs p = None
+
+-- the left side, where it may end here
+abbrev pub pattern_done : PatternPart → Option WrittenPattern
+pattern_done part = done_outside part.frames (slot_pattern part.slot)
+
 -- what stands before the colon of a declaration
 pub record Head : Type 0 where
   pub sort : SymSort
@@ -221,11 +325,28 @@ level_behind h = length h.params
 abbrev pub with_param : Head → Option (List ℕ) → Written → Head
 with_param h v a = record { sort = h.sort; name = h.name; params = h.params ++ param v a ∷ [] }
 
+-- the rules of a command so far, and the context of the next one so far
+pub record RuleHead : Type 0 where
+  pub rules : List WrittenRule
+  pub context : List WrittenNote
+
+abbrev pub no_rules : RuleHead
+no_rules = record { rules = []; context = [] }
+
+abbrev pub with_entry : RuleHead → WrittenNote → RuleHead
+with_entry h e = record { rules = h.rules; context = h.context ++ e ∷ [] }
+
+abbrev pub with_rule : RuleHead → WrittenPattern → Written → RuleHead
+with_rule h l r = record { rules = h.rules ++ rule h.context l r ∷ []; context = [] }
+
 -- what a term is read for
 pub data Purpose : Type 0 where
   as_param : Head → Option (List ℕ) → Purpose
   as_type : Head → Purpose
   as_body : Head → Option Written → Purpose
+  as_entry : RuleHead → List ℕ → Purpose
+  as_guard : RuleHead → PatternPart → Purpose
+  as_right : RuleHead → WrittenPattern → Purpose
 
 -- a command that has begun, by what is due next
 pub data Part : Type 0 where
@@ -234,6 +355,13 @@ pub data Part : Type 0 where
   head_due : Head → Part
   binder_due : Head → Part
   binder_colon_due : Head → Option (List ℕ) → Part
+  rule_name_due : RuleHead → Part
+  rule_brace_due : RuleHead → Part
+  square_due : RuleHead → Part
+  context_due : RuleHead → Part
+  entry_due : RuleHead → Part
+  entry_named : RuleHead → List ℕ → Part
+  in_left : RuleHead → PatternPart → Part
   in_term : Purpose → TermPart → Part
 
 -- what a terminal makes of it: a command that goes on, and the load of the terminal; a command; or nothing
@@ -258,12 +386,28 @@ abbrev pub body_behind_head : SymSort → Head → PartStep
 body_behind_head Definable h = body_due h None
 body_behind_head sort h = refuses
 
+-- a terminal behind an entry of a context
+abbrev pub behind_entry : RuleHead → Terminal → PartStep
+behind_entry h (terminal.Sign sign.Comma) = goes 0 (entry_due h)
+behind_entry h (terminal.Sign sign.CloseSquare) = goes 0 (in_left h left_due)
+behind_entry h x = refuses
+
+-- a terminal behind a rule
+abbrev pub behind_rule : RuleHead → Terminal → PartStep
+behind_rule h (terminal.Sign sign.Dot) = ends (written_rules h.rules)
+behind_rule h (terminal.Sign sign.OpenSquare) = goes 0 (context_due h)
+behind_rule h (terminal.Sign sign.OpenBrace) = goes 0 (rule_name_due h)
+behind_rule h x = refuses
+
 -- a terminal behind a whole term
 abbrev pub behind_term : Purpose → Written → Terminal → PartStep
 behind_term (as_param h v) a (terminal.Sign sign.CloseBracket) = goes (level_behind h + 1) (head_due (with_param h v a))
 behind_term (as_type h) a (terminal.Sign sign.Dot) = dot_behind_type h.sort h a
 behind_term (as_type h) a (terminal.Sign sign.Defined) = body_behind_type h.sort h a
 behind_term (as_body h typ) b (terminal.Sign sign.Dot) = ends (written_declare h.sort h.name h.params typ (Some b))
+behind_term (as_entry h n) a x = behind_entry (with_entry h (entry n (Some a))) x
+behind_term (as_guard h part) a (terminal.Sign sign.CloseBrace) = goes (pattern_depth part.frames) (in_left h (with_atom part (pattern_guard a)))
+behind_term (as_right h l) a x = behind_rule (with_rule h l a) x
 behind_term purpose a x = refuses
 
 abbrev pub term_goes : Purpose → ℕ → Option TermPart → PartStep
@@ -284,6 +428,26 @@ head_next h (terminal.Sign sign.Colon) = goes (level_behind h) (in_term (as_type
 head_next h (terminal.Sign sign.Defined) = body_behind_head h.sort h
 head_next h x = refuses
 
+abbrev pub named_next : RuleHead → List ℕ → Terminal → PartStep
+named_next h n (terminal.Sign sign.Colon) = goes 0 (in_term (as_entry h n) (term_due 0))
+named_next h n x = behind_entry (with_entry h (entry n None)) x
+
+abbrev pub left_goes : RuleHead → ℕ → Option PatternPart → PartStep
+left_goes h argument None = refuses
+left_goes h argument (Some part) = goes (max (pattern_depth part.frames) argument) (in_left h part)
+
+abbrev pub right_due : RuleHead → Option WrittenPattern → PartStep
+right_due h None = refuses
+right_due h (Some l) = goes 0 (in_term (as_right h l) (term_due 0))
+
+abbrev pub guard_due : RuleHead → PatternPart → PartStep
+guard_due h part = goes (max (pattern_depth part.frames + 1) (pattern_atoms part.slot)) (in_term (as_guard h part) (term_due (pattern_depth part.frames + 1)))
+
+abbrev pub left_next : RuleHead → PatternPart → Terminal → PartStep
+left_next h part (terminal.Sign sign.LongArrow) = right_due h (pattern_done part)
+left_next h part (terminal.Sign sign.OpenBrace) = guard_due h part
+left_next h part x = left_goes h (pattern_argument part x) (pattern_next part x)
+
 abbrev pub named : SymSort → List ℕ → PartStep
 named sort name = goes 0 (head_due record { sort = sort; name = name; params = [] })
 
@@ -294,11 +458,22 @@ abbrev pub part_next : Part → Terminal → PartStep
 part_next command_due (terminal.Name n) = named Static n
 part_next command_due terminal.Def = goes 0 (name_due Definable)
 part_next command_due terminal.Thm = goes 0 (name_due Theorem)
+part_next command_due (terminal.Sign sign.OpenBrace) = goes 0 (rule_name_due no_rules)
+part_next command_due (terminal.Sign sign.OpenSquare) = goes 0 (context_due no_rules)
 part_next (name_due sort) (terminal.Name n) = named sort n
 part_next (head_due h) x = head_next h x
 part_next (binder_due h) (terminal.Name n) = binder_named h (Some n)
 part_next (binder_due h) terminal.Wildcard = binder_named h None
 part_next (binder_colon_due h v) (terminal.Sign sign.Colon) = goes (level_behind h + 1) (in_term (as_param h v) (term_due (level_behind h + 1)))
+part_next (rule_name_due h) (terminal.Name n) = goes 0 (rule_brace_due h)
+part_next (rule_name_due h) (terminal.Qualified m n) = goes 0 (rule_brace_due h)
+part_next (rule_brace_due h) (terminal.Sign sign.CloseBrace) = goes 0 (square_due h)
+part_next (square_due h) (terminal.Sign sign.OpenSquare) = goes 0 (context_due h)
+part_next (context_due h) (terminal.Sign sign.CloseSquare) = goes 0 (in_left h left_due)
+part_next (context_due h) (terminal.Name n) = goes 0 (entry_named h n)
+part_next (entry_due h) (terminal.Name n) = goes 0 (entry_named h n)
+part_next (entry_named h n) x = named_next h n x
+part_next (in_left h part) x = left_next h part x
 part_next (in_term purpose part) x = in_term_next (takes part x) purpose part x
 part_next part x = refuses
 

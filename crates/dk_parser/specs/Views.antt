@@ -1,5 +1,5 @@
 -- The parser and its parts as plain data.
-use Rattle.std.specs.Prelude.{◌≡◌, Result, Ok, Err, map}
+use Rattle.std.specs.Prelude.{◌≡◌, Option, Some, None, Result, Ok, Err, map}
 use Rattle.dk_model.specs.declared.code.Fault.{Fault}
 use Rattle.dk_model.specs.declared.code.Fault.TheVariants as fault
 use Rattle.dk_parser.specs.declared.frames.Place.{Place}
@@ -14,6 +14,14 @@ use Rattle.dk_parser.specs.declared.frames.Frames.{Frames, On'}
 use Rattle.dk_parser.specs.declared.frames.Frames.TheVariants.{Bottom}
 use Rattle.dk_parser.specs.declared.term_part.TermPart.{TermPart}
 use Rattle.dk_parser.specs.declared.head.Head.{Head}
+use Rattle.dk_parser.specs.declared.pattern_part.PatternSlot.{PatternSlot}
+use Rattle.dk_parser.specs.declared.pattern_part.PatternSlot.TheVariants as pattern_slot
+use Rattle.dk_parser.specs.declared.pattern_part.Binders.{Binders, BinderOn'}
+use Rattle.dk_parser.specs.declared.pattern_part.Binders.TheVariants.{NoBinders}
+use Rattle.dk_parser.specs.declared.pattern_part.PatternFrames.{PatternFrames, BracketOn'}
+use Rattle.dk_parser.specs.declared.pattern_part.PatternFrames.TheVariants.{NoBracket}
+use Rattle.dk_parser.specs.declared.pattern_part.PatternPart.{PatternPart}
+use Rattle.dk_parser.specs.declared.rule_head.RuleHead.{RuleHead}
 use Rattle.dk_parser.specs.declared.part.Purpose.{Purpose}
 use Rattle.dk_parser.specs.declared.part.Purpose.TheVariants as purpose
 use Rattle.dk_parser.specs.declared.part.Part.{Part}
@@ -23,8 +31,13 @@ use Rattle.dk_parser.specs.declared.part.PartStep.TheVariants as part_step
 use Rattle.dk_parser.specs.declared.parser.Parser.{Parser}
 use Rattle.dk_parser.specs.declared.parser.Step.{Step}
 use Rattle.dk_parser.specs.declared.parser.Step.TheVariants as step
-use Rattle.dk_parser.specs.Written.{written, maybe_written, written_param, written_form, written_command}
+use Rattle.dk_parser.specs.declared.raw.RawPat.{RawPat}
+use Rattle.dk_parser.specs.Written.{WrittenPattern, written, maybe_written, written_param, written_pattern, written_note, written_rule, written_form, written_command}
 use Rattle.dk_parser.specs.Parsing as plain
+
+abbrev pub maybe_pattern : Option RawPat → Option WrittenPattern
+maybe_pattern None = None
+maybe_pattern (Some p) = Some (written_pattern p)
 
 abbrev pub plain_place : Place → plain.Place
 plain_place place.Front = plain.at_front
@@ -57,10 +70,32 @@ plain_term t = record { frames = plain_frames t.frames; slot = plain_slot t.slot
 abbrev pub plain_head : Head → plain.Head
 plain_head h = record { sort = h.sort; name = h.name; params = map written_param h.params }
 
+abbrev pub plain_rule_head : RuleHead → plain.RuleHead
+plain_rule_head h = record { rules = map written_rule h.rules; context = map written_note h.context }
+
+abbrev pub plain_pattern_slot : PatternSlot → plain.PatternSlot
+plain_pattern_slot pattern_slot.Due = plain.pattern_due
+plain_pattern_slot (pattern_slot.Bindable v) = plain.pattern_bindable v
+plain_pattern_slot (pattern_slot.Applied p n) = plain.pattern_applied (written_pattern p) n
+
+abbrev pub plain_binders : Binders → plain.Binders
+plain_binders NoBinders = plain.no_binders
+plain_binders (BinderOn' v p vs) = plain.binder_on v (plain_binders vs)
+
+abbrev pub plain_pattern_frames : PatternFrames → plain.PatternFrames
+plain_pattern_frames NoBracket = plain.no_bracket
+plain_pattern_frames (BracketOn' d s vs p fs) = plain.bracket_on d (plain_pattern_slot s) (plain_binders vs) (plain_pattern_frames fs)
+
+abbrev pub plain_pattern : PatternPart → plain.PatternPart
+plain_pattern p = record { frames = plain_pattern_frames p.frames; slot = plain_pattern_slot p.slot }
+
 abbrev pub plain_purpose : Purpose → plain.Purpose
 plain_purpose (purpose.Param h v) = plain.as_param (plain_head h) v
 plain_purpose (purpose.Type h) = plain.as_type (plain_head h)
 plain_purpose (purpose.Body h a) = plain.as_body (plain_head h) (maybe_written a)
+plain_purpose (purpose.Entry h n) = plain.as_entry (plain_rule_head h) n
+plain_purpose (purpose.Guard h p) = plain.as_guard (plain_rule_head h) (plain_pattern p)
+plain_purpose (purpose.Right h l) = plain.as_right (plain_rule_head h) (written_pattern l)
 
 abbrev pub plain_part : Part → plain.Part
 plain_part part.CommandDue = plain.command_due
@@ -68,6 +103,13 @@ plain_part (part.NameDue sort) = plain.name_due sort
 plain_part (part.HeadDue h) = plain.head_due (plain_head h)
 plain_part (part.BinderDue h) = plain.binder_due (plain_head h)
 plain_part (part.BinderColonDue h v) = plain.binder_colon_due (plain_head h) v
+plain_part (part.RuleNameDue h) = plain.rule_name_due (plain_rule_head h)
+plain_part (part.RuleBraceDue h) = plain.rule_brace_due (plain_rule_head h)
+plain_part (part.SquareDue h) = plain.square_due (plain_rule_head h)
+plain_part (part.ContextDue h) = plain.context_due (plain_rule_head h)
+plain_part (part.EntryDue h) = plain.entry_due (plain_rule_head h)
+plain_part (part.EntryNamed h n) = plain.entry_named (plain_rule_head h) n
+plain_part (part.InLeft h p) = plain.in_left (plain_rule_head h) (plain_pattern p)
 plain_part (part.InTerm u p) = plain.in_term (plain_purpose u) (plain_term p)
 
 abbrev pub plain_step : PartStep → plain.PartStep

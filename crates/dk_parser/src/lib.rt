@@ -8,7 +8,10 @@ mod head;
 mod laws;
 mod parser;
 mod part;
+mod pattern_part;
 mod raw;
+mod rule_head;
+mod rule_part;
 mod term_part;
 mod terminal;
 

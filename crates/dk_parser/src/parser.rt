@@ -5,9 +5,10 @@ ghost use Rattle.dk_model.specs.declared.code.Fault.{Fault};
 ghost use Rattle.dk_model.specs.declared.limits.Limits.{Limits};
 ghost use Rattle.dk_parser.specs.declared.part.Part.{Part};
 ghost use Rattle.dk_parser.specs.declared.parser.Step.{Step};
-ghost use Rattle.dk_parser.specs.Parsing.{parsing_after, turn, turn_by_step};
+ghost use Rattle.dk_parser.specs.Parsing.{parsing_after, part_next, turn, turn_by_step};
+ghost use Rattle.dk_parser.specs.Parsing as plain;
 ghost use Rattle.dk_parser.specs.Reading.{AddsStep, Answers, finished, read_tokens};
-ghost use Rattle.dk_parser.specs.Views.{CameTo, parsing, plain_step};
+ghost use Rattle.dk_parser.specs.Views.{CameTo, parsing, plain_part, plain_step};
 
 use crate::part::{Part, PartStep};
 use crate::terminal::Terminal;
@@ -99,27 +100,46 @@ impl Parser {
         let x = Terminal::of(alloc, token)?;
         match x {
             Terminal::Profile => self.refuse(line, Code::E06),
-            x => {
-                let part = replace(&mut self.part, Part::CommandDue);
-                let step = part.next(alloc, x)?;
-                self.step(line, step)
-            }
+            x => self.advance(alloc, line, x),
         }
+    }
+
+    fn advance(&mut self, alloc: Global, line: u32, x: Terminal) -> Result<Step, Fault>
+        ensures { CameTo (turn_by_step (parsing self.old) line (part_next (plain_part self.old.part) x))
+            result (parsing self.new) }
+    {
+        let step = self.part_step(alloc, x)?;
+        self.step(line, step)
+    }
+
+    // The step of the part; the part is taken out.
+    fn part_step(&mut self, alloc: Global, x: Terminal) -> Result<PartStep, NoMemory>
+        ensures ok { IfOk result (λ step. plain_step step ≡ part_next (plain_part self.old.part) x) }
+        ensures after { self.new ≡ record self.old { part = Part.CommandDue } }
+    {
+        let part = replace(&mut self.part, Part::CommandDue);
+        part.next(alloc, x)
     }
 
     fn step(&mut self, line: u32, step: PartStep) -> Result<Step, Fault>
         ensures { CameTo (turn_by_step (parsing self.old) line (plain_step step)) result (parsing self.new) }
     {
         match step {
-            PartStep::Goes(made, part) => {
-                if made > self.limits.levels as u64 {
-                    self.refuse(line, Code::E04)
-                } else {
-                    self.go_on(line, part)
-                }
-            }
+            PartStep::Goes(made, part) => self.goes(line, made, part),
             PartStep::Ends(form) => self.end(line, form),
             PartStep::Refuses => self.refuse(line, Code::E02),
+        }
+    }
+
+    fn goes(&mut self, line: u32, made: u64, part: Part) -> Result<Step, Fault>
+        ensures { CameTo (turn_by_step (parsing self.old) line (plain.goes made (plain_part part)))
+            result (parsing self.new) }
+    {
+        if made > self.limits.levels as u64 {
+            drop(part);
+            self.refuse(line, Code::E04)
+        } else {
+            self.go_on(line, part)
         }
     }
 

@@ -6,9 +6,15 @@ ghost use Rattle.dk_parser.specs.Views.{plain_head, plain_part, plain_purpose, p
 ghost use Rattle.dk_parser.specs.Written.{maybe_written, written};
 
 use crate::head::Head;
+use crate::pattern_part::PatternPart;
+use crate::rule_head::RuleHead;
+use crate::rule_part::{
+    context_next, entry_next, entry_read, guard_read, left_next, named_next, rule_brace_next,
+    rule_name_next, rule_read, square_next,
+};
 use crate::term_part::TermPart;
 use crate::terminal::Terminal;
-use crate::{RawForm, RawTerm};
+use crate::{RawForm, RawPat, RawTerm};
 use dk_lexer::Sign;
 use dk_model::{Listed, NoMemory, SymSort};
 use std::alloc::Global;
@@ -22,6 +28,12 @@ pub enum Purpose {
     Type(Head),
     /// The body of a declaration with this type.
     Body(Head, Option<RawTerm>),
+    /// The type of an entry of a context.
+    Entry(RuleHead, Listed<u8>),
+    /// A guard behind this part of a left side.
+    Guard(RuleHead, PatternPart),
+    /// The right side of a rule with this left side.
+    Right(RuleHead, RawPat),
 }
 
 /// A command that has begun, by what is due next.
@@ -37,6 +49,20 @@ pub enum Part {
     BinderDue(Head),
     /// The colon behind it.
     BinderColonDue(Head, Option<Listed<u8>>),
+    /// The name of a rule.
+    RuleNameDue(RuleHead),
+    /// The brace behind it.
+    RuleBraceDue(RuleHead),
+    /// A context.
+    SquareDue(RuleHead),
+    /// Its first entry, or its end.
+    ContextDue(RuleHead),
+    /// An entry of a context.
+    EntryDue(RuleHead),
+    /// What stands behind the name of an entry.
+    EntryNamed(RuleHead, Listed<u8>),
+    /// More of a left side, or what ends it.
+    InLeft(RuleHead, PatternPart),
     /// More of a term, or what ends it.
     InTerm(Purpose, TermPart),
 }
@@ -57,27 +83,53 @@ impl Part {
     pub fn next(self, alloc: Global, x: Terminal) -> Result<PartStep, NoMemory>
         ensures { IfOk result (λ step. plain_step step ≡ part_next (plain_part self) x) }
     {
-        match (self, x) {
-            (Part::CommandDue, Terminal::Name(name)) => Ok(named(alloc, SymSort::Static, name)),
-            (Part::CommandDue, Terminal::Def) => {
-                Ok(PartStep::Goes(0, Part::NameDue(SymSort::Definable)))
-            }
-            (Part::CommandDue, Terminal::Thm) => {
-                Ok(PartStep::Goes(0, Part::NameDue(SymSort::Theorem)))
-            }
-            (Part::NameDue(sort), Terminal::Name(name)) => Ok(named(alloc, sort, name)),
-            (Part::HeadDue(head), x) => head_next(head, x),
-            (Part::BinderDue(head), Terminal::Name(name)) => binder_named(head, Some(name)),
-            (Part::BinderDue(head), Terminal::Wildcard) => binder_named(head, None),
-            (Part::BinderColonDue(head, binder), Terminal::Sign(Sign::Colon)) => {
-                param_due(head, binder)
-            }
-            (Part::InTerm(purpose, part), x) => in_term_next(alloc, purpose, part, x),
-            (part, x) => {
-                drop(part);
-                drop(x);
-                Ok(PartStep::Refuses)
-            }
+        match self {
+            Part::CommandDue => Ok(command_next(alloc, x)),
+            Part::NameDue(sort) => Ok(name_next(alloc, sort, x)),
+            Part::HeadDue(head) => head_next(head, x),
+            Part::BinderDue(head) => binder_next(head, x),
+            Part::BinderColonDue(head, binder) => binder_colon_next(head, binder, x),
+            Part::RuleNameDue(head) => Ok(rule_name_next(head, x)),
+            Part::RuleBraceDue(head) => Ok(rule_brace_next(head, x)),
+            Part::SquareDue(head) => Ok(square_next(head, x)),
+            Part::ContextDue(head) => Ok(context_next(head, x)),
+            Part::EntryDue(head) => Ok(entry_next(head, x)),
+            Part::EntryNamed(head, name) => named_next(head, name, x),
+            Part::InLeft(head, part) => left_next(alloc, head, part, x),
+            Part::InTerm(purpose, part) => in_term_next(alloc, purpose, part, x),
+        }
+    }
+}
+
+// The first terminal of a command.
+fn command_next(alloc: Global, x: Terminal) -> PartStep
+    ensures { plain_step result ≡ part_next plain.command_due x }
+{
+    match x {
+        Terminal::Name(name) => named(alloc, SymSort::Static, name),
+        Terminal::Def => PartStep::Goes(0, Part::NameDue(SymSort::Definable)),
+        Terminal::Thm => PartStep::Goes(0, Part::NameDue(SymSort::Theorem)),
+        Terminal::Sign(Sign::OpenBrace) => {
+            PartStep::Goes(0, Part::RuleNameDue(RuleHead::new(alloc)))
+        }
+        Terminal::Sign(Sign::OpenSquare) => {
+            PartStep::Goes(0, Part::ContextDue(RuleHead::new(alloc)))
+        }
+        x => {
+            drop(x);
+            PartStep::Refuses
+        }
+    }
+}
+
+fn name_next(alloc: Global, sort: SymSort, x: Terminal) -> PartStep
+    ensures { plain_step result ≡ part_next (plain.name_due sort) x }
+{
+    match x {
+        Terminal::Name(name) => named(alloc, sort, name),
+        x => {
+            drop(x);
+            PartStep::Refuses
         }
     }
 }
@@ -117,11 +169,43 @@ fn head_next(head: Head, x: Terminal) -> Result<PartStep, NoMemory>
     }
 }
 
+fn binder_next(head: Head, x: Terminal) -> Result<PartStep, NoMemory>
+    ensures { IfOk result (λ step. plain_step step ≡ part_next (plain.binder_due (plain_head head)) x) }
+{
+    match x {
+        Terminal::Name(name) => binder_named(head, Some(name)),
+        Terminal::Wildcard => binder_named(head, None),
+        x => {
+            drop(x);
+            drop(head);
+            Ok(PartStep::Refuses)
+        }
+    }
+}
+
 fn binder_named(head: Head, binder: Option<Listed<u8>>) -> Result<PartStep, NoMemory>
     ensures { IfOk result (λ step. plain_step step ≡ binder_named (plain_head head) binder) }
 {
     let level = deeper(head.level())?;
     Ok(PartStep::Goes(level, Part::BinderColonDue(head, binder)))
+}
+
+fn binder_colon_next(
+    head: Head,
+    binder: Option<Listed<u8>>,
+    x: Terminal,
+) -> Result<PartStep, NoMemory>
+    ensures { IfOk result (λ step. plain_step step
+        ≡ part_next (plain.binder_colon_due (plain_head head) binder) x) }
+{
+    match x {
+        Terminal::Sign(Sign::Colon) => param_due(head, binder),
+        x => {
+            drop(x);
+            drop(head);
+            Ok(PartStep::Refuses)
+        }
+    }
 }
 
 // Behind the colon of a parameter.
@@ -205,7 +289,7 @@ fn in_term_next(
         }
     } else {
         match part.done(alloc) {
-            Ok(term) => term_ends(purpose, x, term),
+            Ok(term) => term_ends(alloc, purpose, x, term),
             Err(e) => {
                 drop(purpose);
                 drop(x);
@@ -231,11 +315,16 @@ fn term_goes(purpose: Purpose, argument: u64, part: Option<TermPart>) -> PartSte
     }
 }
 
-fn term_ends(purpose: Purpose, x: Terminal, term: Option<RawTerm>) -> Result<PartStep, NoMemory>
+fn term_ends(
+    alloc: Global,
+    purpose: Purpose,
+    x: Terminal,
+    term: Option<RawTerm>,
+) -> Result<PartStep, NoMemory>
     ensures { IfOk result (λ step. plain_step step ≡ term_ends (plain_purpose purpose) x (maybe_written term)) }
 {
     match term {
-        Some(term) => behind_term(purpose, term, x),
+        Some(term) => behind_term(alloc, purpose, term, x),
         None => {
             drop(purpose);
             drop(x);
@@ -245,23 +334,71 @@ fn term_ends(purpose: Purpose, x: Terminal, term: Option<RawTerm>) -> Result<Par
 }
 
 // A terminal behind a whole term.
-fn behind_term(purpose: Purpose, term: RawTerm, x: Terminal) -> Result<PartStep, NoMemory>
+fn behind_term(
+    alloc: Global,
+    purpose: Purpose,
+    term: RawTerm,
+    x: Terminal,
+) -> Result<PartStep, NoMemory>
     ensures { IfOk result (λ step. plain_step step ≡ behind_term (plain_purpose purpose) (written term) x) }
 {
-    match (purpose, x) {
-        (Purpose::Param(head, binder), Terminal::Sign(Sign::CloseBracket)) => {
-            param_closed(head, binder, term)
-        }
-        (Purpose::Type(head), Terminal::Sign(Sign::Dot)) => Ok(dot_behind_type(head, term)),
-        (Purpose::Type(head), Terminal::Sign(Sign::Defined)) => Ok(body_behind_type(head, term)),
-        (Purpose::Body(head, typ), Terminal::Sign(Sign::Dot)) => {
-            Ok(PartStep::Ends(head.declared(typ, Some(term))))
-        }
-        (purpose, x) => {
-            drop(purpose);
+    match purpose {
+        Purpose::Param(head, binder) => param_read(head, binder, term, x),
+        Purpose::Type(head) => Ok(type_read(head, term, x)),
+        Purpose::Body(head, typ) => Ok(body_read(head, typ, term, x)),
+        Purpose::Entry(head, name) => entry_read(head, name, Some(term), x),
+        Purpose::Guard(head, part) => guard_read(alloc, head, part, term, x),
+        Purpose::Right(head, left) => rule_read(alloc, head, left, term, x),
+    }
+}
+
+fn param_read(
+    head: Head,
+    binder: Option<Listed<u8>>,
+    typ: RawTerm,
+    x: Terminal,
+) -> Result<PartStep, NoMemory>
+    ensures { IfOk result (λ step. plain_step step
+        ≡ behind_term (plain.as_param (plain_head head) binder) (written typ) x) }
+{
+    match x {
+        Terminal::Sign(Sign::CloseBracket) => param_closed(head, binder, typ),
+        x => {
             drop(x);
-            drop(term);
+            drop(head);
+            drop(typ);
             Ok(PartStep::Refuses)
+        }
+    }
+}
+
+fn type_read(head: Head, typ: RawTerm, x: Terminal) -> PartStep
+    ensures { plain_step result ≡ behind_term (plain.as_type (plain_head head)) (written typ) x }
+{
+    match x {
+        Terminal::Sign(Sign::Dot) => dot_behind_type(head, typ),
+        Terminal::Sign(Sign::Defined) => body_behind_type(head, typ),
+        x => {
+            drop(x);
+            drop(head);
+            drop(typ);
+            PartStep::Refuses
+        }
+    }
+}
+
+fn body_read(head: Head, typ: Option<RawTerm>, body: RawTerm, x: Terminal) -> PartStep
+    ensures { plain_step result
+        ≡ behind_term (plain.as_body (plain_head head) (maybe_written typ)) (written body) x }
+{
+    match x {
+        Terminal::Sign(Sign::Dot) => PartStep::Ends(head.declared(typ, Some(body))),
+        x => {
+            drop(x);
+            drop(head);
+            drop(typ);
+            drop(body);
+            PartStep::Refuses
         }
     }
 }

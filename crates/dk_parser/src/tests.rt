@@ -12,18 +12,27 @@ struct Outcome {
     begun: Option<u32>,
 }
 
-fn kind_of(word: &str) -> TokenKind {
+fn sign_of(word: &str) -> Option<Sign> {
     match word {
-        ":" => TokenKind::Sign(Sign::Colon),
-        ":=" => TokenKind::Sign(Sign::Defined),
-        "->" => TokenKind::Sign(Sign::Arrow),
-        "=>" => TokenKind::Sign(Sign::DoubleArrow),
-        "-->" => TokenKind::Sign(Sign::LongArrow),
-        "." => TokenKind::Sign(Sign::Dot),
-        "(" => TokenKind::Sign(Sign::OpenBracket),
-        ")" => TokenKind::Sign(Sign::CloseBracket),
-        "[" => TokenKind::Sign(Sign::OpenSquare),
-        "]" => TokenKind::Sign(Sign::CloseSquare),
+        ":" => Some(Sign::Colon),
+        ":=" => Some(Sign::Defined),
+        "->" => Some(Sign::Arrow),
+        "=>" => Some(Sign::DoubleArrow),
+        "-->" => Some(Sign::LongArrow),
+        "." => Some(Sign::Dot),
+        "," => Some(Sign::Comma),
+        "(" => Some(Sign::OpenBracket),
+        ")" => Some(Sign::CloseBracket),
+        "[" => Some(Sign::OpenSquare),
+        "]" => Some(Sign::CloseSquare),
+        "{" => Some(Sign::OpenBrace),
+        "}" => Some(Sign::CloseBrace),
+        _ => None,
+    }
+}
+
+fn word_kind(word: &str) -> TokenKind {
+    match word {
         "Type" => TokenKind::Star,
         "def" => TokenKind::Def,
         "thm" => TokenKind::Thm,
@@ -33,6 +42,13 @@ fn kind_of(word: &str) -> TokenKind {
         "{|x|}" => TokenKind::Quoted,
         "m.n" => TokenKind::Qualified,
         _ => TokenKind::Plain,
+    }
+}
+
+fn kind_of(word: &str) -> TokenKind {
+    match sign_of(word) {
+        Some(sign) => TokenKind::Sign(sign),
+        None => word_kind(word),
     }
 }
 
@@ -89,6 +105,18 @@ fn read(alloc: Global, text: &str) -> Result<Outcome, NoMemory> {
     })
 }
 
+// Whether a text is read as so many commands, this fault and this line.
+fn is_read(
+    alloc: Global,
+    text: &str,
+    commands: u32,
+    fault: Option<Code>,
+    begun: Option<u32>,
+) -> Result<bool, NoMemory> {
+    let outcome = read(alloc, text)?;
+    Ok(outcome.commands == commands && outcome.fault == fault && outcome.begun == begun)
+}
+
 #[test]
 fn reads_up_to_the_first_fault(rt: HostRuntime) -> Result<(), Fail> {
     for (text, commands, fault, begun) in [
@@ -105,6 +133,18 @@ fn reads_up_to_the_first_fault(rt: HostRuntime) -> Result<(), Fail> {
         ("a : Type . thm t : a .", 1, Some(Code::E02), Some(1)),
         ("a : Type := a .", 0, Some(Code::E02), Some(1)),
         ("a : Type .\n_ . c : a .", 1, Some(Code::E02), Some(2)),
+    ] {
+        assert!(rt;
+            is_read(rt.alloc(), text, commands, fault, begun)?,
+            "at {text}"
+        );
+    }
+    Ok(())
+}
+
+#[test]
+fn reads_terms(rt: HostRuntime) -> Result<(), Fail> {
+    for (text, commands, fault, begun) in [
         (
             "s : n -> n . p : x : n -> e x x . q : ( x : n ) -> e x x .",
             3,
@@ -120,49 +160,102 @@ fn reads_up_to_the_first_fault(rt: HostRuntime) -> Result<(), Fail> {
         ("x : ( x : n => Type ) z .", 1, None, None),
         ("x : y : a -> b -> c .", 1, None, None),
         ("x : y : a .", 0, Some(Code::E02), Some(1)),
-        ("x : y => a .", 0, Some(Code::E02), Some(1)),
+        ("x : y => a .", 1, None, None),
         ("x : f ( x : a ) -> b .", 0, Some(Code::E02), Some(1)),
         ("x : y : ( x : a ) -> b .", 0, Some(Code::E02), Some(1)),
         ("x : ( ( x : a ) ) -> b .", 0, Some(Code::E02), Some(1)),
         ("x : ( x : a ) => b .", 0, Some(Code::E02), Some(1)),
         ("x : m.n : a -> b .", 0, Some(Code::E02), Some(1)),
-        ("def id ( x : a ) : a := x .", 1, None, None),
-        (
-            "def y := x . def f : a -> a . def {|x|} : a := x .",
-            3,
-            None,
-            None,
-        ),
-        (
-            "thm t ( x : a ) ( y : b x ) : a := x => y => x .",
-            1,
-            None,
-            None,
-        ),
-        (
-            "def b ( x : A ) := t . c ( _ : A -> A ) : B .",
-            2,
-            None,
-            None,
-        ),
-        ("def k := ( x => _ => x : a => x ) z .", 1, None, None),
-        ("def c .", 0, Some(Code::E02), Some(1)),
-        ("def : a .", 0, Some(Code::E02), Some(1)),
-        ("thm t : a .", 0, Some(Code::E02), Some(1)),
-        ("c ( x : A ) .", 0, Some(Code::E02), Some(1)),
-        ("thm t := x .", 0, Some(Code::E02), Some(1)),
-        ("x : A := t .", 0, Some(Code::E02), Some(1)),
-        ("x := t .", 0, Some(Code::E02), Some(1)),
-        ("c ( x ) : A .", 0, Some(Code::E02), Some(1)),
-        ("c ( m.n : A ) : B .", 0, Some(Code::E02), Some(1)),
-        ("c ( x : A ) ) : B .", 0, Some(Code::E02), Some(1)),
-        ("def f := a b => c .", 0, Some(Code::E02), Some(1)),
-        ("def f : x => .", 0, Some(Code::E02), Some(1)),
     ] {
-        let outcome = read(rt.alloc(), text)?;
-        assert_eq!(rt; outcome.commands, commands, "at {text}");
-        assert_eq!(rt; outcome.fault, fault, "at {text}");
-        assert_eq!(rt; outcome.begun, begun, "at {text}");
+        assert!(rt;
+            is_read(rt.alloc(), text, commands, fault, begun)?,
+            "at {text}"
+        );
+    }
+    Ok(())
+}
+
+#[test]
+fn reads_definitions(rt: HostRuntime) -> Result<(), Fail> {
+    for (text, commands) in [
+        ("def id ( x : a ) : a := x .", 1),
+        ("def y := x . def f : a -> a . def {|x|} : a := x .", 3),
+        ("thm t ( x : a ) ( y : b x ) : a := x => y => x .", 1),
+        ("def b ( x : A ) := t . c ( _ : A -> A ) : B .", 2),
+        ("def k := ( x => _ => x : a => x ) z .", 1),
+    ] {
+        assert!(rt;
+            is_read(rt.alloc(), text, commands, None, None)?,
+            "at {text}"
+        );
+    }
+    Ok(())
+}
+
+#[test]
+fn refuses_what_is_no_command(rt: HostRuntime) -> Result<(), Fail> {
+    for text in [
+        "def c .",
+        "def : a .",
+        "thm t : a .",
+        "c ( x : A ) .",
+        "thm t := x .",
+        "x : A := t .",
+        "x := t .",
+        "c ( x ) : A .",
+        "c ( m.n : A ) : B .",
+        "c ( x : A ) ) : B .",
+        "def f := a b => c .",
+        "def f : x => .",
+    ] {
+        assert!(rt;
+            is_read(rt.alloc(), text, 0, Some(Code::E02), Some(1))?,
+            "at {text}"
+        );
+    }
+    Ok(())
+}
+
+#[test]
+fn reads_rules(rt: HostRuntime) -> Result<(), Fail> {
+    for (text, commands) in [
+        ("[ ] f --> a .", 1),
+        ("{ g_rule } [ x : a ] g x --> x .", 1),
+        (
+            "[ n ] plus z n --> n [ m , n ] plus ( s m ) n --> s ( plus m n ) .",
+            1,
+        ),
+        ("[ F ] sw ( x => y => F x y ) --> a => b => F b a .", 1),
+        ("[ ] g { c } --> a . [ ] { c } --> a .", 2),
+        ("{ m.n } [ ] f --> a { r } [ ] g --> b . x : Type .", 2),
+        ("[ x : a -> b , y ] f ( _ => x ) { m.n } --> x .", 1),
+    ] {
+        assert!(rt;
+            is_read(rt.alloc(), text, commands, None, None)?,
+            "at {text}"
+        );
+    }
+    Ok(())
+}
+
+#[test]
+fn refuses_what_is_no_rule(rt: HostRuntime) -> Result<(), Fail> {
+    for text in [
+        "[ x , ] f --> x .",
+        "[ x f --> x .",
+        "[ m.n ] f --> a .",
+        "[ ] Type --> a .",
+        "[ ] f ( x : A => x ) --> a .",
+        "[ ] x => f --> a .",
+        "[ ] f ( a --> b .",
+        "[ ] f { a --> b .",
+        "[ ] --> a .",
+        "{ r } f : a .",
+    ] {
+        assert!(rt;
+            is_read(rt.alloc(), text, 0, Some(Code::E02), Some(1))?,
+            "at {text}"
+        );
     }
     Ok(())
 }
@@ -216,28 +309,47 @@ fn ends_levels_and_arguments_at_the_limit(rt: HostRuntime) -> Result<(), Fail> {
     Ok(())
 }
 
+// What the end answers where these words are read with so many levels.
+fn read_within(alloc: Global, words: &str, levels: u32) -> Result<Option<Code>, NoMemory> {
+    let mut limits = Limits::standard();
+    limits.levels = levels;
+    let mut parser = Parser::new(alloc, limits)?;
+    feed_times(alloc, &mut parser, words, 1)?;
+    Ok(parser.finish().err())
+}
+
 #[test]
 fn counts_parameters_as_levels(rt: HostRuntime) -> Result<(), Fail> {
-    let alloc = rt.alloc();
-    for (words, levels, code) in [
-        ("c ( x : A ) ( y :", 2, Err(Code::E03)),
-        ("c ( x : A ) (", 1, Err(Code::E04)),
-        ("c ( x : A -> B ) : A .", 2, Ok(())),
-        ("c ( x : A -> B ) : A .", 1, Err(Code::E04)),
-        ("def c ( x : A ) : A -> A := a .", 2, Ok(())),
-        ("def c ( x : A ) : A -> A := a .", 1, Err(Code::E04)),
-        ("def c ( x : A ) : A := ( a ) .", 2, Ok(())),
-        ("def c ( x : A ) : A := ( a ) .", 1, Err(Code::E04)),
-        ("def c ( x : A ) := y => y .", 1, Err(Code::E04)),
-        ("def c ( x : A ) := y . def d ( x : A ) := y .", 1, Ok(())),
+    for (words, levels) in [
+        ("c ( x : A -> B ) : A .", 2),
+        ("def c ( x : A ) : A -> A := a .", 2),
+        ("def c ( x : A ) : A := ( a ) .", 2),
+        ("def c ( x : A ) := y => y .", 2),
+        ("def c ( x : A ) := y . def d ( x : A ) := y .", 1),
     ] {
-        let limits = Limits {
-            levels,
-            ..Limits::standard()
-        };
-        let mut parser = Parser::new(alloc, limits)?;
-        feed_times(alloc, &mut parser, words, 1)?;
-        assert_eq!(rt; parser.finish(), code, "at {words} and {levels}");
+        let code = read_within(rt.alloc(), words, levels)?;
+        assert_eq!(rt; code, None, "at {words}");
+        let code = read_within(rt.alloc(), words, levels - 1)?;
+        assert_eq!(rt; code, Some(Code::E04), "at {words}");
+    }
+    Ok(())
+}
+
+#[test]
+fn counts_the_levels_of_rules(rt: HostRuntime) -> Result<(), Fail> {
+    for (words, levels) in [
+        ("[ ] f ( x => a ) --> b .", 2),
+        ("[ ] f { a } --> ( b ) .", 1),
+        ("[ ] f { ( a ) } --> b .", 2),
+        ("[ ] f { a } --> b -> c -> d .", 2),
+        ("[ ] f a b --> c .", 2),
+        ("[ ] f ( a ) { b } --> c .", 2),
+        ("[ x : ( a ) ] f --> c .", 1),
+    ] {
+        let code = read_within(rt.alloc(), words, levels)?;
+        assert_eq!(rt; code, None, "at {words}");
+        let code = read_within(rt.alloc(), words, levels - 1)?;
+        assert_eq!(rt; code, Some(Code::E04), "at {words}");
     }
     Ok(())
 }

@@ -1,0 +1,411 @@
+//! Left sides of rules, one terminal at a time; their guards are read as terms.
+ghost use Rattle.std.specs.Prelude.{◌≡◌, ◌+◌, IfOk, Some, option_map};
+ghost use Rattle.dk_parser.specs.Parsing.{binder_pattern, done_outside, left_due, pattern_argument, pattern_atoms, pattern_binder, pattern_bound, pattern_closed, pattern_depth, pattern_done, pattern_more, pattern_next, pattern_opened, slot_pattern, under_binders, with_atom, with_binder};
+ghost use Rattle.dk_parser.specs.Parsing as plain;
+ghost use Rattle.dk_parser.specs.Views.{maybe_pattern, plain_binders, plain_pattern, plain_pattern_frames, plain_pattern_slot};
+ghost use Rattle.dk_parser.specs.Written.{pattern_apply, pattern_bare, written_pattern};
+
+use crate::RawPat;
+use crate::terminal::Terminal;
+use dk_lexer::Sign;
+use dk_model::{Listed, NoMemory};
+use std::alloc::Global;
+
+/// What has been read of an application of patterns.
+#[derive(Drop)]
+pub enum PatternSlot {
+    /// Nothing.
+    Due,
+    /// A name or a wildcard: a binder or the first atom.
+    Bindable(Option<Listed<u8>>),
+    /// An application of so many atoms.
+    Applied(RawPat, u64),
+}
+
+/// The binders of a pattern in brackets, the innermost first.
+#[derive(Drop)]
+pub enum Binders {
+    NoBinders,
+    BinderOn(Option<Listed<u8>>, Box<Binders>),
+}
+
+/// The brackets that are open, the innermost first, each with the level in it, what stood before
+/// it and its binders.
+#[derive(Drop)]
+pub enum PatternFrames {
+    NoBracket,
+    BracketOn(u64, PatternSlot, Binders, Box<PatternFrames>),
+}
+
+/// A left side that has begun.
+#[derive(Drop)]
+pub struct PatternPart {
+    pub frames: PatternFrames,
+    pub slot: PatternSlot,
+}
+
+// A binder read as a pattern.
+fn binder_pattern(binder: Option<Listed<u8>>) -> RawPat
+    ensures { written_pattern result ≡ binder_pattern binder }
+{
+    match binder {
+        Some(name) => RawPat::Name(name),
+        None => RawPat::Wild,
+    }
+}
+
+fn apply(alloc: Global, f: RawPat, p: RawPat) -> Result<RawPat, NoMemory>
+    ensures { IfOk result (λ q. written_pattern q ≡ pattern_apply (written_pattern f) (written_pattern p)) }
+{
+    let f = Box::new(alloc, f)?;
+    let p = Box::new(alloc, p)?;
+    Ok(RawPat::App(f, p))
+}
+
+fn bare(alloc: Global, binder: Option<Listed<u8>>, p: RawPat) -> Result<RawPat, NoMemory>
+    ensures { IfOk result (λ q. written_pattern q ≡ pattern_bare binder (written_pattern p)) }
+{
+    let p = Box::new(alloc, p)?;
+    Ok(RawPat::Abs(binder, p))
+}
+
+fn next(n: u64) -> Result<u64, NoMemory>
+    ensures { IfOk result (λ next. next ≡ n + 1) }
+{
+    match n.checked_add(1) {
+        Some(next) => Ok(next),
+        None => Err(NoMemory),
+    }
+}
+
+impl PatternSlot {
+    /// The atoms of the application.
+    pub fn atoms(&self) -> u64
+        ensures { result ≡ pattern_atoms (plain_pattern_slot self.now) }
+    {
+        match self {
+            PatternSlot::Due => 0,
+            PatternSlot::Bindable(_) => 1,
+            PatternSlot::Applied(_, n) => *n,
+        }
+    }
+
+    fn more(self, alloc: Global, p: RawPat) -> Result<PatternSlot, NoMemory>
+        ensures { IfOk result (λ slot. plain_pattern_slot slot
+            ≡ pattern_more (plain_pattern_slot self) (written_pattern p)) }
+    {
+        match self {
+            PatternSlot::Due => Ok(PatternSlot::Applied(p, 1)),
+            PatternSlot::Bindable(binder) => {
+                let f = apply(alloc, binder_pattern(binder), p)?;
+                Ok(PatternSlot::Applied(f, 2))
+            }
+            PatternSlot::Applied(f, n) => applied(alloc, f, n, p),
+        }
+    }
+
+    fn binder(self, alloc: Global, binder: Option<Listed<u8>>) -> Result<PatternSlot, NoMemory>
+        ensures { IfOk result (λ slot. plain_pattern_slot slot
+            ≡ pattern_binder (plain_pattern_slot self) binder) }
+    {
+        match self {
+            PatternSlot::Due => Ok(PatternSlot::Bindable(binder)),
+            slot => slot.more(alloc, binder_pattern(binder)),
+        }
+    }
+
+    fn pattern(self) -> Option<RawPat>
+        ensures { maybe_pattern result ≡ slot_pattern (plain_pattern_slot self) }
+    {
+        match self {
+            PatternSlot::Due => None,
+            PatternSlot::Bindable(binder) => Some(binder_pattern(binder)),
+            PatternSlot::Applied(p, _) => Some(p),
+        }
+    }
+}
+
+// An application with one argument more.
+fn applied(alloc: Global, f: RawPat, n: u64, p: RawPat) -> Result<PatternSlot, NoMemory>
+    ensures { IfOk result (λ slot. plain_pattern_slot slot
+        ≡ plain.pattern_applied (pattern_apply (written_pattern f) (written_pattern p)) (n + 1)) }
+{
+    match n.checked_add(1) {
+        Some(n) => {
+            let f = apply(alloc, f, p)?;
+            Ok(PatternSlot::Applied(f, n))
+        }
+        None => {
+            drop(f);
+            drop(p);
+            Err(NoMemory)
+        }
+    }
+}
+
+impl Binders {
+    // A pattern under these binders. Recurses once for each.
+    fn around(self, alloc: Global, p: RawPat) -> Result<RawPat, NoMemory>
+        ensures { IfOk result (λ q. written_pattern q ≡ under_binders (plain_binders self) (written_pattern p)) }
+    {
+        match self {
+            Binders::NoBinders => Ok(p),
+            Binders::BinderOn(binder, rest) => match bare(alloc, binder, p) {
+                Ok(p) => Box::into_inner(rest).around(alloc, p),
+                Err(e) => {
+                    drop(rest);
+                    Err(e)
+                }
+            },
+        }
+    }
+
+    fn more(self, alloc: Global, binder: Option<Listed<u8>>) -> Result<Binders, NoMemory>
+        ensures { IfOk result (λ vs. plain_binders vs ≡ plain.binder_on binder (plain_binders self)) }
+    {
+        let rest = Box::new(alloc, self)?;
+        Ok(Binders::BinderOn(binder, rest))
+    }
+}
+
+impl PatternFrames {
+    /// The level within them.
+    pub fn depth(&self) -> u64
+        ensures { result ≡ pattern_depth (plain_pattern_frames self.now) }
+    {
+        match self {
+            PatternFrames::NoBracket => 0,
+            PatternFrames::BracketOn(depth, _, _, _) => *depth,
+        }
+    }
+}
+
+impl PatternPart {
+    /// Before the first terminal.
+    pub fn new() -> PatternPart
+        ensures { plain_pattern result ≡ left_due }
+    {
+        PatternPart {
+            frames: PatternFrames::NoBracket,
+            slot: PatternSlot::Due,
+        }
+    }
+
+    /// The number of the argument that a terminal begins, from 1; 0 where it begins none.
+    pub fn argument(&self, x: &Terminal) -> u64
+        ensures { result ≡ pattern_argument (plain_pattern self.now) x.now }
+    {
+        match x {
+            Terminal::Name(_) => self.slot.atoms(),
+            Terminal::Wildcard => self.slot.atoms(),
+            Terminal::Qualified(_, _) => self.slot.atoms(),
+            Terminal::Sign(Sign::OpenBracket) => self.slot.atoms(),
+            _ => 0,
+        }
+    }
+
+    /// Takes a terminal that is in no guard, or answers None where the left side can't go on so.
+    pub fn next(self, alloc: Global, x: Terminal) -> Result<Option<PatternPart>, NoMemory>
+        ensures { IfOk result (λ next. option_map plain_pattern next ≡ pattern_next (plain_pattern self) x) }
+    {
+        match x {
+            Terminal::Name(n) => Ok(Some(self.with_binder(alloc, Some(n))?)),
+            Terminal::Wildcard => Ok(Some(self.with_binder(alloc, None)?)),
+            Terminal::Qualified(m, n) => {
+                Ok(Some(self.with_atom(alloc, RawPat::Qualified(m, n))?))
+            }
+            Terminal::Sign(Sign::OpenBracket) => Ok(Some(self.opened(alloc)?)),
+            Terminal::Sign(Sign::CloseBracket) => self.closed(alloc),
+            Terminal::Sign(Sign::DoubleArrow) => self.bound(alloc),
+            x => {
+                drop(x);
+                drop(self);
+                Ok(None)
+            }
+        }
+    }
+
+    /// With an atom more.
+    pub fn with_atom(self, alloc: Global, p: RawPat) -> Result<PatternPart, NoMemory>
+        ensures { IfOk result (λ part. plain_pattern part ≡ with_atom (plain_pattern self) (written_pattern p)) }
+    {
+        let PatternPart { frames, slot } = self;
+        match slot.more(alloc, p) {
+            Ok(slot) => Ok(PatternPart { frames, slot }),
+            Err(e) => {
+                drop(frames);
+                Err(e)
+            }
+        }
+    }
+
+    fn with_binder(self, alloc: Global, binder: Option<Listed<u8>>) -> Result<PatternPart, NoMemory>
+        ensures { IfOk result (λ part. plain_pattern part ≡ with_binder (plain_pattern self) binder) }
+    {
+        let PatternPart { frames, slot } = self;
+        match slot.binder(alloc, binder) {
+            Ok(slot) => Ok(PatternPart { frames, slot }),
+            Err(e) => {
+                drop(frames);
+                Err(e)
+            }
+        }
+    }
+
+    fn opened(self, alloc: Global) -> Result<PatternPart, NoMemory>
+        ensures { IfOk result (λ part. plain_pattern part ≡ pattern_opened (plain_pattern self)) }
+    {
+        let PatternPart { frames, slot } = self;
+        let depth = frames.depth();
+        frames_more(alloc, depth, slot, Binders::NoBinders, frames)
+    }
+
+    fn closed(self, alloc: Global) -> Result<Option<PatternPart>, NoMemory>
+        ensures { IfOk result (λ part. option_map plain_pattern part
+            ≡ pattern_closed (plain_pattern self).frames (slot_pattern (plain_pattern self).slot)) }
+    {
+        let PatternPart { frames, slot } = self;
+        match (frames, slot.pattern()) {
+            (PatternFrames::BracketOn(_, slot, binders, rest), Some(p)) => {
+                bracket_closed(alloc, slot, binders, Box::into_inner(rest), p)
+            }
+            (frames, p) => {
+                drop(frames);
+                drop(p);
+                Ok(None)
+            }
+        }
+    }
+
+    fn bound(self, alloc: Global) -> Result<Option<PatternPart>, NoMemory>
+        ensures { IfOk result (λ part. option_map plain_pattern part
+            ≡ pattern_bound (plain_pattern self).frames (plain_pattern self).slot) }
+    {
+        let PatternPart { frames, slot } = self;
+        match (frames, slot) {
+            (PatternFrames::BracketOn(depth, before, binders, rest), PatternSlot::Bindable(v)) => {
+                binder_bound(alloc, depth, before, binders, Box::into_inner(rest), v)
+            }
+            (frames, slot) => {
+                drop(frames);
+                drop(slot);
+                Ok(None)
+            }
+        }
+    }
+
+    /// The left side, where it may end here.
+    pub fn done(self) -> Option<RawPat>
+        ensures { maybe_pattern result ≡ pattern_done (plain_pattern self) }
+    {
+        let PatternPart { frames, slot } = self;
+        match frames {
+            PatternFrames::NoBracket => slot.pattern(),
+            frames => {
+                drop(frames);
+                drop(slot);
+                None
+            }
+        }
+    }
+}
+
+// A bracket closes behind this pattern.
+fn bracket_closed(
+    alloc: Global,
+    slot: PatternSlot,
+    binders: Binders,
+    frames: PatternFrames,
+    p: RawPat,
+) -> Result<Option<PatternPart>, NoMemory>
+    ensures { IfOk result (λ part. option_map plain_pattern part
+        ≡ Some (with_atom (record { frames = plain_pattern_frames frames; slot = plain_pattern_slot slot })
+        (under_binders (plain_binders binders) (written_pattern p)))) }
+{
+    let part = PatternPart { frames, slot };
+    match binders.around(alloc, p) {
+        Ok(p) => match part.with_atom(alloc, p) {
+            Ok(part) => Ok(Some(part)),
+            Err(e) => Err(e),
+        },
+        Err(e) => {
+            drop(part);
+            Err(e)
+        }
+    }
+}
+
+// A binder more in the innermost bracket.
+fn binder_bound(
+    alloc: Global,
+    depth: u64,
+    slot: PatternSlot,
+    binders: Binders,
+    rest: PatternFrames,
+    binder: Option<Listed<u8>>,
+) -> Result<Option<PatternPart>, NoMemory>
+    ensures { IfOk result (λ part. option_map plain_pattern part
+        ≡ Some (record {
+          frames = plain.bracket_on (depth + 1) (plain_pattern_slot slot)
+              (plain.binder_on binder (plain_binders binders)) (plain_pattern_frames rest);
+          slot = plain.pattern_due;
+        })) }
+{
+    match binders.more(alloc, binder) {
+        Ok(binders) => match frames_more(alloc, depth, slot, binders, rest) {
+            Ok(part) => Ok(Some(part)),
+            Err(e) => Err(e),
+        },
+        Err(e) => {
+            drop(slot);
+            drop(rest);
+            Err(e)
+        }
+    }
+}
+
+// A bracket on these frames, one level deeper than this.
+fn frames_more(
+    alloc: Global,
+    depth: u64,
+    slot: PatternSlot,
+    binders: Binders,
+    rest: PatternFrames,
+) -> Result<PatternPart, NoMemory>
+    ensures { IfOk result (λ part. plain_pattern part
+        ≡ record {
+          frames = plain.bracket_on (depth + 1) (plain_pattern_slot slot)
+              (plain_binders binders) (plain_pattern_frames rest);
+          slot = plain.pattern_due;
+        }) }
+{
+    match bracket_on(alloc, depth, slot, binders, rest) {
+        Ok(frames) => Ok(PatternPart {
+            frames,
+            slot: PatternSlot::Due,
+        }),
+        Err(e) => Err(e),
+    }
+}
+
+fn bracket_on(
+    alloc: Global,
+    depth: u64,
+    slot: PatternSlot,
+    binders: Binders,
+    rest: PatternFrames,
+) -> Result<PatternFrames, NoMemory>
+    ensures { IfOk result (λ frames. plain_pattern_frames frames
+        ≡ plain.bracket_on (depth + 1) (plain_pattern_slot slot) (plain_binders binders) (plain_pattern_frames rest)) }
+{
+    match (next(depth), Box::new(alloc, rest)) {
+        (Ok(depth), Ok(rest)) => Ok(PatternFrames::BracketOn(depth, slot, binders, rest)),
+        (depth, rest) => {
+            drop(depth);
+            drop(rest);
+            drop(slot);
+            drop(binders);
+            Err(NoMemory)
+        }
+    }
+}
