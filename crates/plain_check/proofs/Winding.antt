@@ -63,7 +63,7 @@ get_last [] y k e = rw e refl
 get_last (x ∷ xs) y zero e = absurd (omega arith)
 get_last (x ∷ xs) y (suc k) e = get_last xs y k (omega arith)
 
-get_from_top : (ts : List Term) (i k : ℕ) (d : Term) → i + k + 1 ≡ length ts → slice_get (from_top ts) k ≡ Some (tree (get_or ts i d))
+pub get_from_top : (ts : List Term) (i k : ℕ) (d : Term) → i + k + 1 ≡ length ts → slice_get (from_top ts) k ≡ Some (tree (get_or ts i d))
 get_from_top [] i k d e = absurd (omega arith)
 get_from_top (t ∷ ts) zero k d e = get_last (from_top ts) (tree t) k (let h : length (from_top ts) ≡ length ts = length_from_top ts in omega (arith, h))
 get_from_top (t ∷ ts) (suc i) k d e = get_left (from_top ts) (tree t ∷ []) k (tree (get_or ts i d)) (get_from_top ts i k d (omega arith))

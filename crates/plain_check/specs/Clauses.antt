@@ -1,11 +1,12 @@
 -- The facts that the contracts of this crate state, over the program's own types.
-use Rattle.std.specs.Prelude.{ℕ, ◌≡◌, Option, Some, None, Bool, Result, List, [], map, if◌then◌else◌}
+use Rattle.std.specs.Prelude.{ℕ, ◌≡◌, Option, Some, None, Bool, Result, List, [], map, drop, length, if◌then◌else◌}
 use Rattle.std.specs.declared.vec.Vec.{Vec}
 use Rattle.std.specs.declared.alloc.Global.{Global}
 use Rattle.dk_model.specs.Trees.{Tree, symbol, tree}
 use Rattle.dk_model.specs.Signatures.{plain_signature, plain_entry, pattern, maybe_tree}
 use Rattle.dk_model.specs.Scoping.{plain_command}
-use Rattle.dk_model.specs.Selection.{cell, tried, through, at_cell, escaped, matched, guarded, each_normal}
+use Rattle.dk_model.specs.Spines.{applied}
+use Rattle.dk_model.specs.Selection.{cell, filled, tried, through, at_cell, escaped, matched, guarded, each_normal}
 use Rattle.dk_model.specs.Evaluation.{whnf_of, selection_of, comparison_of, normal_of, columns, rows}
 use Rattle.dk_model.specs.Typing.{inferred, checked, sort_of, as_product, as_sort, as_star, as_same}
 use Rattle.dk_model.specs.Verdicts.{verdict_of, entry_of, inferred_type, body_type, body_checked, declaration_checked, IsVerdictOrMemory}
@@ -27,8 +28,8 @@ use Rattle.plain_check.specs.declared.matrix.Row.{Row}
 use Rattle.plain_check.specs.declared.matrix.Source.{Source}
 use Rattle.plain_check.specs.Contexts.{context_of}
 use Rattle.plain_check.specs.Given.{GivesTerm, GivesBool, GivesType, GivesProduct, GivesFit}
-use Rattle.plain_check.specs.Machine.{trees, wound, rewritten_by, turn_of, TurnsTo}
-use Rattle.plain_check.specs.Matrix.{captures_of, plain_cell, column, row}
+use Rattle.plain_check.specs.Machine.{trees, wound, from_top, rewritten_by, turn_of, TurnsTo}
+use Rattle.plain_check.specs.Matrix.{captures_of, plain_cell, column, row, source_rule}
 use Rattle.plain_check.specs.Selecting.{guard_of, GivesRows, GivesChoice, GivesTried, GivesThrough, GivesCell, GivesPart, GivesCaptures}
 use Rattle.plain_check.specs.Pending.{pending, parts_before}
 use Rattle.plain_check.specs.Spine.{argument_type, domain_fits}
@@ -73,7 +74,7 @@ Compares s t u old result new = GivesBool (comparison_of (plain_signature s) old
 abbrev pub Normalises : Signature → Term → ℕ → Result Term Stop → ℕ → Type 0
 Normalises s t old result new = GivesTerm (normal_of (plain_signature s) old (tree t)) result new
 
--- each part of the term in place of it its normal form
+-- the normal form of each part of the term
 abbrev pub NormalisesParts : Signature → Term → ℕ → Result Term Stop → ℕ → Type 0
 NormalisesParts s t old result new = GivesTerm (each_normal (normal_of (plain_signature s)) (comparison_of (plain_signature s)) (tree t) old) result new
 
@@ -84,6 +85,11 @@ TakesTurn s h ts old turn ts' new = TurnsTo (turn_of (plain_signature s) old (wo
 -- the turn of a symbol over a stack, by its rules
 abbrev pub Rewrites : Signature → ℕ → List Term → ℕ → Result Turn Stop → List Term → ℕ → Type 0
 Rewrites s k ts old turn ts' new = TurnsTo (rewritten_by (plain_signature s) old k (wound (symbol k) (trees ts))) (wound (symbol k) (trees ts)) turn (trees ts') new
+
+-- the right side under the captures stands before the arguments that the patterns leave over
+abbrev pub PutsRight : List (Option Term) → Source → List Term → Term → List Term → Type 0
+PutsRight taken r old h new =
+    wound (tree h) (trees new) ≡ applied (filled (captures_of taken) 0 (source_rule r).right) (drop (length (source_rule r).pats) (from_top old))
 
 -- selection
 

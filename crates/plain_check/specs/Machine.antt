@@ -20,7 +20,7 @@ abbrev pub wound : Tree → List Tree → Tree
 wound t [] = t
 wound t (x ∷ xs) = apply (wound t xs) x
 
--- the arguments of a stack, from left to right
+-- the items of a stack, the last one first: its arguments from left to right
 abbrev pub from_top : List Term → List Tree
 from_top [] = []
 from_top (t ∷ ts) = from_top ts ++ (tree t ∷ [])

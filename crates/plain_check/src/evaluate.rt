@@ -1,11 +1,9 @@
 //! The weak head form, by turns over a head and a stack of arguments.
-ghost use Rattle.std.specs.Prelude.{◌≡◌, ◌≤◌, ◌<◌, IfOk, OnOk, false, length, drop};
+ghost use Rattle.std.specs.Prelude.{◌≡◌, ◌≤◌, ◌<◌, IfOk, OnOk, false};
 ghost use Rattle.dk_model.specs.Trees.{tree};
-ghost use Rattle.dk_model.specs.Spines.{applied};
-ghost use Rattle.dk_model.specs.Selection.{filled};
-ghost use Rattle.plain_check.specs.Machine.{is_application, trees, wound, from_top};
-ghost use Rattle.plain_check.specs.Matrix.{AreRules, captures_of, source_rule};
-ghost use Rattle.plain_check.specs.Clauses.{Evaluates, TakesTurn, Rewrites, AreColumns, AreRows};
+ghost use Rattle.plain_check.specs.Machine.{is_application};
+ghost use Rattle.plain_check.specs.Matrix.{AreRules, source_rule};
+ghost use Rattle.plain_check.specs.Clauses.{Evaluates, TakesTurn, Rewrites, PutsRight, AreColumns, AreRows};
 
 use crate::capture::filled;
 use crate::fault::Stop;
@@ -147,8 +145,7 @@ fn put_right(
     source: &Source,
     stack: &mut Vec<Term>,
 ) -> Result<Term, NoMemory>
-    ensures term { IfOk result (λ h. wound (tree h) (trees stack.new.items) ≡ applied (filled (captures_of captures.now) 0 (source_rule source.now).right)
-        (drop (length (source_rule source.now).pats) (from_top stack.old.items))) }
+    ensures term { IfOk result (λ h. PutsRight captures.now source.now stack.old.items h stack.new.items) }
     ensures head { IfOk result (λ h. is_application (tree h) ≡ false) }
 {
     let right = filled(alloc, captures, 0, right_of(source))?;
