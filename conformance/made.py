@@ -44,6 +44,10 @@ FILES = {
     'arrows_1001': lambda: b'a : Type.\nf : ' + b'a -> ' * 1001 + b'a.\n',
     'arguments_1000': lambda: (b'a : Type.\nx : a.\nf : ' + b'a -> ' * 1000 + b'a.\nthm t : a := f' + b' x' * 1000 + b'.\n'),
     'arguments_1001': lambda: b'a : Type.\nx : a.\nf : a -> a.\nthm t : a := f' + b' x' * 1001 + b'.\n',
+    'rule_levels_1000': lambda: (b'a : Type.\ndef f : a -> a.\n[x : ' + b'(' * 1000 + b'a' + b')' * 1000 + b'] f ' + b'(' * 1000 + b'x'
+                                 + b')' * 1000 + b' --> ' + b'(' * 1000 + b'x' + b')' * 1000 + b'.\n'),
+    'rule_levels_1001': lambda: b'a : Type.\ndef f : a -> a.\n[x] f ' + b'(' * 1001 + b'x' + b')' * 1001 + b' --> x.\n',
+    'patterns_1001': lambda: b'a : Type.\nx : a.\ndef f : a -> a.\n[] f' + b' x' * 1001 + b' --> x.\n',
 }
 LARGE = {'made:' + name for name in ('command_at_limit', 'command_past_limit', 'commands_at_limit', 'commands_past_limit')}
 
