@@ -75,6 +75,7 @@ mutual
     spells_bare : {x : Terminal} {v : Option (List ℕ)} {ys : List Terminal} {b : Written} → SpellsBinder x v → SpellsTerm ys b → SpellsTerm (x ∷ double_arrow ∷ ys) (written_bare v b)
     spells_annotated : {x : Terminal} {v : Option (List ℕ)} {xs ys : List Terminal} {a b : Written} → SpellsBinder x v → SpellsApplication xs a → SpellsTerm ys b → SpellsTerm (x ∷ colon ∷ (xs ++ double_arrow ∷ ys)) (written_annotated v a b)
 
+-- the parameter `(v : a)`
 abbrev pub param : Option (List ℕ) → Written → WrittenParam
 param v a = record { binder = v; typ = a }
 
@@ -102,6 +103,7 @@ mutual
     spells_pattern_application : {xs : List Terminal} {p : WrittenPattern} → SpellsPatternApplication xs p → SpellsPattern xs p
     spells_pattern_bare : {x : Terminal} {v : Option (List ℕ)} {xs : List Terminal} {p : WrittenPattern} → SpellsBinder x v → SpellsPattern xs p → SpellsPattern (x ∷ double_arrow ∷ xs) (pattern_bare v p)
 
+-- the entry `n`, or `n : typ`
 abbrev pub entry : List ℕ → Option Written → WrittenNote
 entry n typ = record { name = n; note = typ }
 
@@ -126,6 +128,7 @@ pub data SpellsRuleName : List Terminal → Type 0 where
   spells_rule_name : {n : List ℕ} → SpellsRuleName (open_brace ∷ terminal.Name n ∷ close_brace ∷ [])
   spells_qualified_rule_name : {m n : List ℕ} → SpellsRuleName (open_brace ∷ terminal.Qualified m n ∷ close_brace ∷ [])
 
+-- the rule `[es] l --> r`
 abbrev pub rule : List WrittenNote → WrittenPattern → Written → WrittenRule
 rule es l r = record { context = es; left = l; right = r }
 

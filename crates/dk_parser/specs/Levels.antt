@@ -64,15 +64,17 @@ pub record Standing : Type 0 where
 abbrev pub at_start : Standing
 at_start = record { params = 0; side = in_head; groups = no_groups }
 
+-- where a bracket closes: one parameter more, where the bracket is one of the head and stands in no other
 abbrev pub params_closed : Side → List Group → ℕ → ℕ
 params_closed in_head (g ∷ []) n = n + 1
 params_closed side outer n = n
 
+-- a colon outside of all brackets ends the head
 abbrev pub side_at_colon : Side → List Group → Side
 side_at_colon in_head [] = behind_head
 side_at_colon side outer = side
 
--- a term begins anew
+-- what begins anew behind a term, a context or a left side
 abbrev pub anew : Standing → Side → Standing
 anew s side = record { params = s.params; side = side; groups = no_groups }
 

@@ -229,6 +229,7 @@ pub record PatternPart : Type 0 where
   pub frames : PatternFrames
   pub slot : PatternSlot
 
+-- a left side is due
 abbrev pub left_due : PatternPart
 left_due = record { frames = no_bracket; slot = pattern_due }
 
@@ -274,9 +275,11 @@ with_atom part p = record { frames = part.frames; slot = pattern_more part.slot 
 abbrev pub with_binder : PatternPart → Option (List ℕ) → PatternPart
 with_binder part v = record { frames = part.frames; slot = pattern_binder part.slot v }
 
+-- an open bracket more
 abbrev pub pattern_opened : PatternPart → PatternPart
 pattern_opened part = record { frames = bracket_on (pattern_depth part.frames + 1) part.slot no_binders part.frames; slot = pattern_due }
 
+-- the innermost bracket closes
 abbrev pub pattern_closed : PatternFrames → Option WrittenPattern → Option PatternPart
 pattern_closed (bracket_on d slot vs fs) (Some p) = Some (record { frames = fs; slot = pattern_more slot (under_binders vs p) })
 pattern_closed fs p = None
@@ -322,6 +325,7 @@ pub record Head : Type 0 where
 abbrev pub level_behind : Head → ℕ
 level_behind h = length h.params
 
+-- with a parameter more
 abbrev pub with_param : Head → Option (List ℕ) → Written → Head
 with_param h v a = record { sort = h.sort; name = h.name; params = h.params ++ param v a ∷ [] }
 
@@ -330,12 +334,15 @@ pub record RuleHead : Type 0 where
   pub rules : List WrittenRule
   pub context : List WrittenNote
 
+-- before the first rule
 abbrev pub no_rules : RuleHead
 no_rules = record { rules = []; context = [] }
 
+-- with an entry more
 abbrev pub with_entry : RuleHead → WrittenNote → RuleHead
 with_entry h e = record { rules = h.rules; context = h.context ++ e ∷ [] }
 
+-- with a rule more, and the context of the next one
 abbrev pub with_rule : RuleHead → WrittenPattern → Written → RuleHead
 with_rule h l r = record { rules = h.rules ++ rule h.context l r ∷ []; context = [] }
 
@@ -374,6 +381,7 @@ pub data PartStep : Type 0 where
 abbrev pub body_due : Head → Option Written → PartStep
 body_due h typ = goes (level_behind h) (in_term (as_body h typ) (term_due (level_behind h)))
 
+-- the dot, or `:=`, behind the type of a declaration of this sort, and `:=` behind its head
 abbrev pub dot_behind_type : SymSort → Head → Written → PartStep
 dot_behind_type Theorem h a = refuses
 dot_behind_type sort h a = ends (written_declare sort h.name h.params (Some a) None)
@@ -422,12 +430,14 @@ abbrev pub in_term_next : Bool → Purpose → TermPart → Terminal → PartSte
 in_term_next true purpose part x = term_goes purpose (term_argument part x) (term_next part x)
 in_term_next false purpose part x = term_ends purpose x (term_done part)
 
+-- a terminal behind a name and parameters
 abbrev pub head_next : Head → Terminal → PartStep
 head_next h (terminal.Sign sign.OpenBracket) = goes (level_behind h + 1) (binder_due h)
 head_next h (terminal.Sign sign.Colon) = goes (level_behind h) (in_term (as_type h) (term_due (level_behind h)))
 head_next h (terminal.Sign sign.Defined) = body_behind_head h.sort h
 head_next h x = refuses
 
+-- a terminal behind the name of an entry
 abbrev pub named_next : RuleHead → List ℕ → Terminal → PartStep
 named_next h n (terminal.Sign sign.Colon) = goes 0 (in_term (as_entry h n) (term_due 0))
 named_next h n x = behind_entry (with_entry h (entry n None)) x
@@ -436,13 +446,16 @@ abbrev pub left_goes : RuleHead → ℕ → Option PatternPart → PartStep
 left_goes h argument None = refuses
 left_goes h argument (Some part) = goes (max (pattern_depth part.frames) argument) (in_left h part)
 
+-- a right side is due behind this left one
 abbrev pub right_due : RuleHead → Option WrittenPattern → PartStep
 right_due h None = refuses
 right_due h (Some l) = goes 0 (in_term (as_right h l) (term_due 0))
 
+-- a guard is due
 abbrev pub guard_due : RuleHead → PatternPart → PartStep
 guard_due h part = goes (max (pattern_depth part.frames + 1) (pattern_atoms part.slot)) (in_term (as_guard h part) (term_due (pattern_depth part.frames + 1)))
 
+-- a terminal on a left side
 abbrev pub left_next : RuleHead → PatternPart → Terminal → PartStep
 left_next h part (terminal.Sign sign.LongArrow) = right_due h (pattern_done part)
 left_next h part (terminal.Sign sign.OpenBrace) = guard_due h part
@@ -454,6 +467,7 @@ named sort name = goes 0 (head_due record { sort = sort; name = name; params = [
 abbrev pub binder_named : Head → Option (List ℕ) → PartStep
 binder_named h v = goes (level_behind h + 1) (binder_colon_due h v)
 
+-- one terminal of a command
 abbrev pub part_next : Part → Terminal → PartStep
 part_next command_due (terminal.Name n) = named Static n
 part_next command_due terminal.Def = goes 0 (name_due Definable)

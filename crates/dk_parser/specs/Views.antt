@@ -14,8 +14,8 @@ use Rattle.dk_parser.specs.declared.frames.Frames.{Frames, On'}
 use Rattle.dk_parser.specs.declared.frames.Frames.TheVariants.{Bottom}
 use Rattle.dk_parser.specs.declared.term_part.TermPart.{TermPart}
 use Rattle.dk_parser.specs.declared.head.Head.{Head}
-use Rattle.dk_parser.specs.declared.pattern_part.PatternSlot.{PatternSlot}
-use Rattle.dk_parser.specs.declared.pattern_part.PatternSlot.TheVariants as pattern_slot
+use Rattle.dk_parser.specs.declared.pattern_slot.PatternSlot.{PatternSlot}
+use Rattle.dk_parser.specs.declared.pattern_slot.PatternSlot.TheVariants as pattern_slot
 use Rattle.dk_parser.specs.declared.pattern_part.Binders.{Binders, BinderOn'}
 use Rattle.dk_parser.specs.declared.pattern_part.Binders.TheVariants.{NoBinders}
 use Rattle.dk_parser.specs.declared.pattern_part.PatternFrames.{PatternFrames, BracketOn'}

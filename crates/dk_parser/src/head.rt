@@ -37,7 +37,8 @@ impl Head {
 
     /// With a parameter more.
     pub fn with_param(self, binder: Option<Listed<u8>>, typ: RawTerm) -> Result<Head, NoMemory>
-        ensures { IfOk result (λ h. plain_head h ≡ with_param (plain_head self) binder (written typ)) }
+        ensures { IfOk result (λ h. plain_head h
+            ≡ with_param (plain_head self) binder (written typ)) }
     {
         let Head {
             sort,
@@ -51,7 +52,8 @@ impl Head {
     /// The declaration with this type and this body.
     pub fn declared(self, typ: Option<RawTerm>, body: Option<RawTerm>) -> RawForm
         ensures { written_form result
-            ≡ written_declare self.sort self.name (plain_head self).params (maybe_written typ) (maybe_written body) }
+            ≡ written_declare self.sort self.name (plain_head self).params (maybe_written typ)
+            (maybe_written body) }
     {
         let Head { sort, name, params } = self;
         RawForm::Declare {

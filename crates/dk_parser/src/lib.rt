@@ -3,12 +3,14 @@
 //! Begin at `Parser`. The meaning is in specs/Grammar.antt and specs/Reading.antt (docs/grammar.md).
 #![tactic(auto)]
 
+mod declare_part;
 mod frames;
 mod head;
 mod laws;
 mod parser;
 mod part;
 mod pattern_part;
+mod pattern_slot;
 mod raw;
 mod rule_head;
 mod rule_part;

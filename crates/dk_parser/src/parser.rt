@@ -105,7 +105,8 @@ impl Parser {
     }
 
     fn advance(&mut self, alloc: Global, line: u32, x: Terminal) -> Result<Step, Fault>
-        ensures { CameTo (turn_by_step (parsing self.old) line (part_next (plain_part self.old.part) x))
+        ensures { CameTo
+            (turn_by_step (parsing self.old) line (part_next (plain_part self.old.part) x))
             result (parsing self.new) }
     {
         let step = self.part_step(alloc, x)?;
@@ -114,7 +115,8 @@ impl Parser {
 
     // The step of the part; the part is taken out.
     fn part_step(&mut self, alloc: Global, x: Terminal) -> Result<PartStep, NoMemory>
-        ensures ok { IfOk result (λ step. plain_step step ≡ part_next (plain_part self.old.part) x) }
+        ensures ok { IfOk result (λ step. plain_step step
+            ≡ part_next (plain_part self.old.part) x) }
         ensures after { self.new ≡ record self.old { part = Part.CommandDue } }
     {
         let part = replace(&mut self.part, Part::CommandDue);
@@ -122,7 +124,8 @@ impl Parser {
     }
 
     fn step(&mut self, line: u32, step: PartStep) -> Result<Step, Fault>
-        ensures { CameTo (turn_by_step (parsing self.old) line (plain_step step)) result (parsing self.new) }
+        ensures { CameTo (turn_by_step (parsing self.old) line (plain_step step))
+            result (parsing self.new) }
     {
         match step {
             PartStep::Goes(made, part) => self.goes(line, made, part),

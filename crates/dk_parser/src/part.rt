@@ -1,10 +1,13 @@
 //! Commands, one terminal at a time.
-ghost use Rattle.std.specs.Prelude.{◌≡◌, ◌+◌, IfOk, option_map};
-ghost use Rattle.dk_parser.specs.Parsing.{behind_term, binder_named, body_behind_head, body_behind_type, body_due, dot_behind_type, head_next, in_term_next, named, part_next, takes, term_ends, term_goes};
+ghost use Rattle.std.specs.Prelude.{◌≡◌, IfOk, option_map};
+ghost use Rattle.dk_parser.specs.Parsing.{behind_term, in_term_next, part_next, takes, term_ends, term_goes};
 ghost use Rattle.dk_parser.specs.Parsing as plain;
-ghost use Rattle.dk_parser.specs.Views.{plain_head, plain_part, plain_purpose, plain_step, plain_term};
+ghost use Rattle.dk_parser.specs.Views.{plain_part, plain_purpose, plain_step, plain_term};
 ghost use Rattle.dk_parser.specs.Written.{maybe_written, written};
 
+use crate::declare_part::{
+    binder_colon_next, binder_next, body_read, head_next, name_next, named, param_read, type_read,
+};
 use crate::head::Head;
 use crate::pattern_part::PatternPart;
 use crate::rule_head::RuleHead;
@@ -122,153 +125,6 @@ fn command_next(alloc: Global, x: Terminal) -> PartStep
     }
 }
 
-fn name_next(alloc: Global, sort: SymSort, x: Terminal) -> PartStep
-    ensures { plain_step result ≡ part_next (plain.name_due sort) x }
-{
-    match x {
-        Terminal::Name(name) => named(alloc, sort, name),
-        x => {
-            drop(x);
-            PartStep::Refuses
-        }
-    }
-}
-
-// Behind the name of a declaration.
-fn named(alloc: Global, sort: SymSort, name: Listed<u8>) -> PartStep
-    ensures { plain_step result ≡ named sort name }
-{
-    PartStep::Goes(0, Part::HeadDue(Head::new(alloc, sort, name)))
-}
-
-// One level more than this.
-fn deeper(level: u64) -> Result<u64, NoMemory>
-    ensures { IfOk result (λ next. next ≡ level + 1) }
-{
-    level.checked_add(1).ok_or(NoMemory)
-}
-
-fn head_next(head: Head, x: Terminal) -> Result<PartStep, NoMemory>
-    ensures { IfOk result (λ step. plain_step step ≡ head_next (plain_head head) x) }
-{
-    let level = head.level();
-    match x {
-        Terminal::Sign(Sign::OpenBracket) => {
-            Ok(PartStep::Goes(deeper(level)?, Part::BinderDue(head)))
-        }
-        Terminal::Sign(Sign::Colon) => Ok(PartStep::Goes(
-            level,
-            Part::InTerm(Purpose::Type(head), TermPart::new(level)),
-        )),
-        Terminal::Sign(Sign::Defined) => Ok(body_behind_head(head)),
-        x => {
-            drop(x);
-            drop(head);
-            Ok(PartStep::Refuses)
-        }
-    }
-}
-
-fn binder_next(head: Head, x: Terminal) -> Result<PartStep, NoMemory>
-    ensures { IfOk result (λ step. plain_step step ≡ part_next (plain.binder_due (plain_head head)) x) }
-{
-    match x {
-        Terminal::Name(name) => binder_named(head, Some(name)),
-        Terminal::Wildcard => binder_named(head, None),
-        x => {
-            drop(x);
-            drop(head);
-            Ok(PartStep::Refuses)
-        }
-    }
-}
-
-fn binder_named(head: Head, binder: Option<Listed<u8>>) -> Result<PartStep, NoMemory>
-    ensures { IfOk result (λ step. plain_step step ≡ binder_named (plain_head head) binder) }
-{
-    let level = deeper(head.level())?;
-    Ok(PartStep::Goes(level, Part::BinderColonDue(head, binder)))
-}
-
-fn binder_colon_next(
-    head: Head,
-    binder: Option<Listed<u8>>,
-    x: Terminal,
-) -> Result<PartStep, NoMemory>
-    ensures { IfOk result (λ step. plain_step step
-        ≡ part_next (plain.binder_colon_due (plain_head head) binder) x) }
-{
-    match x {
-        Terminal::Sign(Sign::Colon) => param_due(head, binder),
-        x => {
-            drop(x);
-            drop(head);
-            Ok(PartStep::Refuses)
-        }
-    }
-}
-
-// Behind the colon of a parameter.
-fn param_due(head: Head, binder: Option<Listed<u8>>) -> Result<PartStep, NoMemory>
-    ensures { IfOk result (λ step. plain_step step
-        ≡ part_next (plain.binder_colon_due (plain_head head) binder) (Terminal.Sign Sign.Colon)) }
-{
-    let level = deeper(head.level())?;
-    Ok(PartStep::Goes(
-        level,
-        Part::InTerm(Purpose::Param(head, binder), TermPart::new(level)),
-    ))
-}
-
-// Behind `:=`.
-fn body_due(head: Head, typ: Option<RawTerm>) -> PartStep
-    ensures { plain_step result ≡ body_due (plain_head head) (maybe_written typ) }
-{
-    let level = head.level();
-    PartStep::Goes(
-        level,
-        Part::InTerm(Purpose::Body(head, typ), TermPart::new(level)),
-    )
-}
-
-fn body_behind_head(head: Head) -> PartStep
-    ensures { plain_step result ≡ body_behind_head head.sort (plain_head head) }
-{
-    match head.sort {
-        SymSort::Definable => body_due(head, None),
-        _ => {
-            drop(head);
-            PartStep::Refuses
-        }
-    }
-}
-
-fn body_behind_type(head: Head, typ: RawTerm) -> PartStep
-    ensures { plain_step result ≡ body_behind_type head.sort (plain_head head) (written typ) }
-{
-    match head.sort {
-        SymSort::Static => {
-            drop(head);
-            drop(typ);
-            PartStep::Refuses
-        }
-        _ => body_due(head, Some(typ)),
-    }
-}
-
-fn dot_behind_type(head: Head, typ: RawTerm) -> PartStep
-    ensures { plain_step result ≡ dot_behind_type head.sort (plain_head head) (written typ) }
-{
-    match head.sort {
-        SymSort::Theorem => {
-            drop(head);
-            drop(typ);
-            PartStep::Refuses
-        }
-        _ => PartStep::Ends(head.declared(Some(typ), None)),
-    }
-}
-
 fn in_term_next(
     alloc: Global,
     purpose: Purpose,
@@ -321,7 +177,8 @@ fn term_ends(
     x: Terminal,
     term: Option<RawTerm>,
 ) -> Result<PartStep, NoMemory>
-    ensures { IfOk result (λ step. plain_step step ≡ term_ends (plain_purpose purpose) x (maybe_written term)) }
+    ensures { IfOk result (λ step. plain_step step
+        ≡ term_ends (plain_purpose purpose) x (maybe_written term)) }
 {
     match term {
         Some(term) => behind_term(alloc, purpose, term, x),
@@ -340,7 +197,8 @@ fn behind_term(
     term: RawTerm,
     x: Terminal,
 ) -> Result<PartStep, NoMemory>
-    ensures { IfOk result (λ step. plain_step step ≡ behind_term (plain_purpose purpose) (written term) x) }
+    ensures { IfOk result (λ step. plain_step step
+        ≡ behind_term (plain_purpose purpose) (written term) x) }
 {
     match purpose {
         Purpose::Param(head, binder) => param_read(head, binder, term, x),
@@ -350,65 +208,4 @@ fn behind_term(
         Purpose::Guard(head, part) => guard_read(alloc, head, part, term, x),
         Purpose::Right(head, left) => rule_read(alloc, head, left, term, x),
     }
-}
-
-fn param_read(
-    head: Head,
-    binder: Option<Listed<u8>>,
-    typ: RawTerm,
-    x: Terminal,
-) -> Result<PartStep, NoMemory>
-    ensures { IfOk result (λ step. plain_step step
-        ≡ behind_term (plain.as_param (plain_head head) binder) (written typ) x) }
-{
-    match x {
-        Terminal::Sign(Sign::CloseBracket) => param_closed(head, binder, typ),
-        x => {
-            drop(x);
-            drop(head);
-            drop(typ);
-            Ok(PartStep::Refuses)
-        }
-    }
-}
-
-fn type_read(head: Head, typ: RawTerm, x: Terminal) -> PartStep
-    ensures { plain_step result ≡ behind_term (plain.as_type (plain_head head)) (written typ) x }
-{
-    match x {
-        Terminal::Sign(Sign::Dot) => dot_behind_type(head, typ),
-        Terminal::Sign(Sign::Defined) => body_behind_type(head, typ),
-        x => {
-            drop(x);
-            drop(head);
-            drop(typ);
-            PartStep::Refuses
-        }
-    }
-}
-
-fn body_read(head: Head, typ: Option<RawTerm>, body: RawTerm, x: Terminal) -> PartStep
-    ensures { plain_step result
-        ≡ behind_term (plain.as_body (plain_head head) (maybe_written typ)) (written body) x }
-{
-    match x {
-        Terminal::Sign(Sign::Dot) => PartStep::Ends(head.declared(typ, Some(body))),
-        x => {
-            drop(x);
-            drop(head);
-            drop(typ);
-            drop(body);
-            PartStep::Refuses
-        }
-    }
-}
-
-// Behind a parameter.
-fn param_closed(head: Head, binder: Option<Listed<u8>>, typ: RawTerm) -> Result<PartStep, NoMemory>
-    ensures { IfOk result (λ step. plain_step step
-        ≡ behind_term (plain.as_param (plain_head head) binder) (written typ) (Terminal.Sign Sign.CloseBracket)) }
-{
-    let level = deeper(head.level())?;
-    let head = head.with_param(binder, typ)?;
-    Ok(PartStep::Goes(level, Part::HeadDue(head)))
 }

@@ -1,26 +1,16 @@
 //! Left sides of rules, one terminal at a time; their guards are read as terms.
 ghost use Rattle.std.specs.Prelude.{◌≡◌, ◌+◌, IfOk, Some, option_map};
-ghost use Rattle.dk_parser.specs.Parsing.{binder_pattern, done_outside, left_due, pattern_argument, pattern_atoms, pattern_binder, pattern_bound, pattern_closed, pattern_depth, pattern_done, pattern_more, pattern_next, pattern_opened, slot_pattern, under_binders, with_atom, with_binder};
+ghost use Rattle.dk_parser.specs.Parsing.{left_due, pattern_argument, pattern_bound, pattern_closed, pattern_depth, pattern_done, pattern_next, pattern_opened, slot_pattern, under_binders, with_atom, with_binder};
 ghost use Rattle.dk_parser.specs.Parsing as plain;
 ghost use Rattle.dk_parser.specs.Views.{maybe_pattern, plain_binders, plain_pattern, plain_pattern_frames, plain_pattern_slot};
-ghost use Rattle.dk_parser.specs.Written.{pattern_apply, pattern_bare, written_pattern};
+ghost use Rattle.dk_parser.specs.Written.{pattern_bare, written_pattern};
 
 use crate::RawPat;
+use crate::pattern_slot::PatternSlot;
 use crate::terminal::Terminal;
 use dk_lexer::Sign;
 use dk_model::{Listed, NoMemory};
 use std::alloc::Global;
-
-/// What has been read of an application of patterns.
-#[derive(Drop)]
-pub enum PatternSlot {
-    /// Nothing.
-    Due,
-    /// A name or a wildcard: a binder or the first atom.
-    Bindable(Option<Listed<u8>>),
-    /// An application of so many atoms.
-    Applied(RawPat, u64),
-}
 
 /// The binders of a pattern in brackets, the innermost first.
 #[derive(Drop)]
@@ -44,24 +34,6 @@ pub struct PatternPart {
     pub slot: PatternSlot,
 }
 
-// A binder read as a pattern.
-fn binder_pattern(binder: Option<Listed<u8>>) -> RawPat
-    ensures { written_pattern result ≡ binder_pattern binder }
-{
-    match binder {
-        Some(name) => RawPat::Name(name),
-        None => RawPat::Wild,
-    }
-}
-
-fn apply(alloc: Global, f: RawPat, p: RawPat) -> Result<RawPat, NoMemory>
-    ensures { IfOk result (λ q. written_pattern q ≡ pattern_apply (written_pattern f) (written_pattern p)) }
-{
-    let f = Box::new(alloc, f)?;
-    let p = Box::new(alloc, p)?;
-    Ok(RawPat::App(f, p))
-}
-
 fn bare(alloc: Global, binder: Option<Listed<u8>>, p: RawPat) -> Result<RawPat, NoMemory>
     ensures { IfOk result (λ q. written_pattern q ≡ pattern_bare binder (written_pattern p)) }
 {
@@ -78,75 +50,11 @@ fn next(n: u64) -> Result<u64, NoMemory>
     }
 }
 
-impl PatternSlot {
-    /// The atoms of the application.
-    pub fn atoms(&self) -> u64
-        ensures { result ≡ pattern_atoms (plain_pattern_slot self.now) }
-    {
-        match self {
-            PatternSlot::Due => 0,
-            PatternSlot::Bindable(_) => 1,
-            PatternSlot::Applied(_, n) => *n,
-        }
-    }
-
-    fn more(self, alloc: Global, p: RawPat) -> Result<PatternSlot, NoMemory>
-        ensures { IfOk result (λ slot. plain_pattern_slot slot
-            ≡ pattern_more (plain_pattern_slot self) (written_pattern p)) }
-    {
-        match self {
-            PatternSlot::Due => Ok(PatternSlot::Applied(p, 1)),
-            PatternSlot::Bindable(binder) => {
-                let f = apply(alloc, binder_pattern(binder), p)?;
-                Ok(PatternSlot::Applied(f, 2))
-            }
-            PatternSlot::Applied(f, n) => applied(alloc, f, n, p),
-        }
-    }
-
-    fn binder(self, alloc: Global, binder: Option<Listed<u8>>) -> Result<PatternSlot, NoMemory>
-        ensures { IfOk result (λ slot. plain_pattern_slot slot
-            ≡ pattern_binder (plain_pattern_slot self) binder) }
-    {
-        match self {
-            PatternSlot::Due => Ok(PatternSlot::Bindable(binder)),
-            slot => slot.more(alloc, binder_pattern(binder)),
-        }
-    }
-
-    fn pattern(self) -> Option<RawPat>
-        ensures { maybe_pattern result ≡ slot_pattern (plain_pattern_slot self) }
-    {
-        match self {
-            PatternSlot::Due => None,
-            PatternSlot::Bindable(binder) => Some(binder_pattern(binder)),
-            PatternSlot::Applied(p, _) => Some(p),
-        }
-    }
-}
-
-// An application with one argument more.
-fn applied(alloc: Global, f: RawPat, n: u64, p: RawPat) -> Result<PatternSlot, NoMemory>
-    ensures { IfOk result (λ slot. plain_pattern_slot slot
-        ≡ plain.pattern_applied (pattern_apply (written_pattern f) (written_pattern p)) (n + 1)) }
-{
-    match n.checked_add(1) {
-        Some(n) => {
-            let f = apply(alloc, f, p)?;
-            Ok(PatternSlot::Applied(f, n))
-        }
-        None => {
-            drop(f);
-            drop(p);
-            Err(NoMemory)
-        }
-    }
-}
-
 impl Binders {
     // A pattern under these binders. Recurses once for each.
     fn around(self, alloc: Global, p: RawPat) -> Result<RawPat, NoMemory>
-        ensures { IfOk result (λ q. written_pattern q ≡ under_binders (plain_binders self) (written_pattern p)) }
+        ensures { IfOk result (λ q. written_pattern q
+            ≡ under_binders (plain_binders self) (written_pattern p)) }
     {
         match self {
             Binders::NoBinders => Ok(p),
@@ -161,7 +69,8 @@ impl Binders {
     }
 
     fn more(self, alloc: Global, binder: Option<Listed<u8>>) -> Result<Binders, NoMemory>
-        ensures { IfOk result (λ vs. plain_binders vs ≡ plain.binder_on binder (plain_binders self)) }
+        ensures { IfOk result (λ vs. plain_binders vs
+            ≡ plain.binder_on binder (plain_binders self)) }
     {
         let rest = Box::new(alloc, self)?;
         Ok(Binders::BinderOn(binder, rest))
@@ -206,7 +115,8 @@ impl PatternPart {
 
     /// Takes a terminal that is in no guard, or answers None where the left side can't go on so.
     pub fn next(self, alloc: Global, x: Terminal) -> Result<Option<PatternPart>, NoMemory>
-        ensures { IfOk result (λ next. option_map plain_pattern next ≡ pattern_next (plain_pattern self) x) }
+        ensures { IfOk result (λ next. option_map plain_pattern next
+            ≡ pattern_next (plain_pattern self) x) }
     {
         match x {
             Terminal::Name(n) => Ok(Some(self.with_binder(alloc, Some(n))?)),
@@ -227,7 +137,8 @@ impl PatternPart {
 
     /// With an atom more.
     pub fn with_atom(self, alloc: Global, p: RawPat) -> Result<PatternPart, NoMemory>
-        ensures { IfOk result (λ part. plain_pattern part ≡ with_atom (plain_pattern self) (written_pattern p)) }
+        ensures { IfOk result (λ part. plain_pattern part
+            ≡ with_atom (plain_pattern self) (written_pattern p)) }
     {
         let PatternPart { frames, slot } = self;
         match slot.more(alloc, p) {
@@ -240,7 +151,8 @@ impl PatternPart {
     }
 
     fn with_binder(self, alloc: Global, binder: Option<Listed<u8>>) -> Result<PatternPart, NoMemory>
-        ensures { IfOk result (λ part. plain_pattern part ≡ with_binder (plain_pattern self) binder) }
+        ensures { IfOk result (λ part. plain_pattern part
+            ≡ with_binder (plain_pattern self) binder) }
     {
         let PatternPart { frames, slot } = self;
         match slot.binder(alloc, binder) {
@@ -319,7 +231,8 @@ fn bracket_closed(
     p: RawPat,
 ) -> Result<Option<PatternPart>, NoMemory>
     ensures { IfOk result (λ part. option_map plain_pattern part
-        ≡ Some (with_atom (record { frames = plain_pattern_frames frames; slot = plain_pattern_slot slot })
+        ≡ Some (with_atom
+        (record { frames = plain_pattern_frames frames; slot = plain_pattern_slot slot })
         (under_binders (plain_binders binders) (written_pattern p)))) }
 {
     let part = PatternPart { frames, slot };
@@ -396,7 +309,8 @@ fn bracket_on(
     rest: PatternFrames,
 ) -> Result<PatternFrames, NoMemory>
     ensures { IfOk result (λ frames. plain_pattern_frames frames
-        ≡ plain.bracket_on (depth + 1) (plain_pattern_slot slot) (plain_binders binders) (plain_pattern_frames rest)) }
+        ≡ plain.bracket_on (depth + 1) (plain_pattern_slot slot) (plain_binders binders)
+        (plain_pattern_frames rest)) }
 {
     match (next(depth), Box::new(alloc, rest)) {
         (Ok(depth), Ok(rest)) => Ok(PatternFrames::BracketOn(depth, slot, binders, rest)),

@@ -196,7 +196,8 @@ fn right_due(head: RuleHead, left: Option<RawPat>) -> PartStep
 
 // Behind the brace that opens a guard.
 fn guard_due(head: RuleHead, part: PatternPart) -> Result<PartStep, NoMemory>
-    ensures { IfOk result (λ step. plain_step step ≡ guard_due (plain_rule_head head) (plain_pattern part)) }
+    ensures { IfOk result (λ step. plain_step step
+        ≡ guard_due (plain_rule_head head) (plain_pattern part)) }
 {
     let atoms = part.slot.atoms();
     match part.frames.depth().checked_add(1) {
@@ -221,7 +222,8 @@ pub fn guard_read(
     x: Terminal,
 ) -> Result<PartStep, NoMemory>
     ensures { IfOk result (λ step. plain_step step
-        ≡ behind_term (plain.as_guard (plain_rule_head head) (plain_pattern part)) (written term) x) }
+        ≡ behind_term (plain.as_guard (plain_rule_head head) (plain_pattern part))
+        (written term) x) }
 {
     match x {
         Terminal::Sign(Sign::CloseBrace) => guard_closed(alloc, head, part, term),
