@@ -119,7 +119,7 @@ plain_step part_step.Refuses = plain.refuses
 
 -- the parser as plain data
 abbrev pub parsing : Parser → plain.Parsing
-parsing p = record { limits = p.limits; begun = p.begun; part = plain_part p.part; fault = p.fault }
+parsing p = record { limits = p.limits; begun = p.begun; part = plain_part p.part.value; fault = p.fault }
 
 -- the turn came to this answer and left this parser; want of memory says nothing
 abbrev pub CameTo : plain.Turn → Result Step Fault → plain.Parsing → Type 0

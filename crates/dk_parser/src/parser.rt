@@ -1,9 +1,8 @@
 //! The parser: commands from tokens, one token at a time.
-ghost use Rattle.std.specs.Prelude.{◌≡◌, [], ◌∷◌, ◌++◌, ◌↔◌, List, IfOk, IsOk, Err, Ok, None, Some};
+ghost use Rattle.std.specs.Prelude.{◌≡◌, [], ◌∷◌, ◌++◌, ◌↔◌, List, IfOk, Err, Ok, None, Some};
 ghost use Rattle.dk_lexer.specs.declared.token.Token.{Token};
 ghost use Rattle.dk_model.specs.declared.code.Fault.{Fault};
 ghost use Rattle.dk_model.specs.declared.limits.Limits.{Limits};
-ghost use Rattle.dk_parser.specs.declared.part.Part.{Part};
 ghost use Rattle.dk_parser.specs.declared.parser.Step.{Step};
 ghost use Rattle.dk_parser.specs.Parsing.{parsing_after, part_next, turn, turn_by_step};
 ghost use Rattle.dk_parser.specs.Parsing as plain;
@@ -35,20 +34,21 @@ pub enum Step {
 pub struct Parser {
     limits: Limits,
     begun: Option<u32>,
-    part: Part,
+    // Behind a box, since it is large and what holds a parser is moved.
+    part: Box<Part>,
     fault: Option<Code>,
 }
 
 impl Parser {
-    /// A parser before the first token. It takes no memory.
-    pub fn new(_alloc: Global, limits: Limits) -> Result<Parser, NoMemory>
-        ensures made { IsOk result }
-        ensures ok { IfOk result (λ parser. parsing parser ≡ parsing_after limits []) }
+    /// A parser before the first token.
+    pub fn new(alloc: Global, limits: Limits) -> Result<Parser, NoMemory>
+        ensures { IfOk result (λ parser. parsing parser ≡ parsing_after limits []) }
     {
+        let part = Box::new(alloc, Part::CommandDue)?;
         Ok(Parser {
             limits,
             begun: None,
-            part: Part::CommandDue,
+            part,
             fault: None,
         })
     }
@@ -106,7 +106,7 @@ impl Parser {
 
     fn advance(&mut self, alloc: Global, line: u32, x: Terminal) -> Result<Step, Fault>
         ensures { CameTo
-            (turn_by_step (parsing self.old) line (part_next (plain_part self.old.part) x))
+            (turn_by_step (parsing self.old) line (part_next (parsing self.old).part x))
             result (parsing self.new) }
     {
         let step = self.part_step(alloc, x)?;
@@ -116,10 +116,10 @@ impl Parser {
     // The step of the part; the part is taken out.
     fn part_step(&mut self, alloc: Global, x: Terminal) -> Result<PartStep, NoMemory>
         ensures ok { IfOk result (λ step. plain_step step
-            ≡ part_next (plain_part self.old.part) x) }
-        ensures after { self.new ≡ record self.old { part = Part.CommandDue } }
+            ≡ part_next (parsing self.old).part x) }
+        ensures after { parsing self.new ≡ record (parsing self.old) { part = plain.command_due } }
     {
-        let part = replace(&mut self.part, Part::CommandDue);
+        let part = replace(&mut *self.part, Part::CommandDue);
         part.next(alloc, x)
     }
 
@@ -148,29 +148,31 @@ impl Parser {
 
     fn go_on(&mut self, line: u32, part: Part) -> Result<Step, Fault>
         ensures answer { result ≡ Ok Step.More }
-        ensures after { self.new ≡ record self.old { begun = Some line; part = part } }
+        ensures after { parsing self.new
+            ≡ record (parsing self.old) { begun = Some line; part = plain_part part } }
     {
         self.begun = Some(line);
-        drop(replace(&mut self.part, part));
+        drop(replace(&mut *self.part, part));
         Ok(Step::More)
     }
 
     fn end(&mut self, line: u32, form: RawForm) -> Result<Step, Fault>
         ensures answer { result ≡ Ok (Step.Command (record { line = line; form = form })) }
-        ensures after { self.new ≡ record self.old { begun = None; part = Part.CommandDue } }
+        ensures after { parsing self.new
+            ≡ record (parsing self.old) { begun = None; part = plain.command_due } }
     {
         self.begun = None;
-        drop(replace(&mut self.part, Part::CommandDue));
+        drop(replace(&mut *self.part, Part::CommandDue));
         Ok(Step::Command(Raw { line, form }))
     }
 
     fn refuse(&mut self, line: u32, code: Code) -> Result<Step, Fault>
         ensures answer { result ≡ Err (Fault.Refused code) }
-        ensures after { self.new
-            ≡ record self.old { begun = Some line; part = Part.CommandDue; fault = Some code } }
+        ensures after { parsing self.new ≡ record (parsing self.old) {
+            begun = Some line; part = plain.command_due; fault = Some code } }
     {
         self.begun = Some(line);
-        drop(replace(&mut self.part, Part::CommandDue));
+        drop(replace(&mut *self.part, Part::CommandDue));
         self.fault = Some(code);
         Err(Fault::Refused(code))
     }
