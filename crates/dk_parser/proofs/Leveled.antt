@@ -418,9 +418,6 @@ max_same n = grind (arith, nat_tests)
 max_none : (n : ℕ) → max n 0 ≡ n
 max_none n = grind (arith, nat_tests)
 
-max_first : (n : ℕ) → max (n + 1) 1 ≡ n + 1
-max_first n = grind (arith, nat_tests)
-
 nothing_behind : (n : ℕ) → n ≡ n + 0
 nothing_behind n = omega arith
 
@@ -578,12 +575,9 @@ atom_stands part p = ap left_standing (left_atoms_more part.frames (pattern_atom
 binder_stands : (part : PatternPart) (v : Option (List ℕ)) → left_standing (with_inner atom_more (left_groups part)) ≡ left_standing (left_groups (with_binder part v))
 binder_stands part v = ap left_standing (left_atoms_more part.frames (pattern_atoms part.slot) ∙ ap (frame_groups part.frames) (more_binders part.slot v))
 
-nothing_first : (n : ℕ) → n ≡ n + 0
-nothing_first n = omega arith
-
 opened_stands : (part : PatternPart) → LeftCounted part.frames → LeftStands part (terminal.Sign sign.OpenBracket) (pattern_opened part)
 opened_stands part c =
-    (ap (λ (gs : Groups). left_standing (record { inner = empty_group; outer = gs.inner ∷ gs.outer })) (left_atoms_more part.frames (pattern_atoms part.slot)), (nothing_first (pattern_depth part.frames + 1), c))
+    (ap (λ (gs : Groups). left_standing (record { inner = empty_group; outer = gs.inner ∷ gs.outer })) (left_atoms_more part.frames (pattern_atoms part.slot)), (nothing_behind (pattern_depth part.frames + 1), c))
 
 closed_stands : (fs : PatternFrames) (s : PatternSlot) (o : Option WrittenPattern) (q : PatternPart) → LeftCounted fs → pattern_closed fs o ≡ Some q → LeftStands (record { frames = fs; slot = s }) (terminal.Sign sign.CloseBracket) q
 closed_stands no_bracket s o q c e = cc
