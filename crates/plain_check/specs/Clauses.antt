@@ -34,7 +34,7 @@ use Rattle.plain_check.specs.declared.select.Choice.{Choice}
 use Rattle.plain_check.specs.Contexts.{context_of}
 use Rattle.plain_check.specs.Given.{GivesTerm, GivesBool, GivesType, GivesProduct, GivesFit}
 use Rattle.plain_check.specs.Machine.{trees, wound, from_top}
-use Rattle.plain_check.specs.Pausing.{selected, after_choice, rewritten_by, resumed}
+use Rattle.plain_check.specs.Pausing.{plain, selected, after_choice, rewritten_by, resumed}
 use Rattle.plain_check.specs.Turning.{TurnsTo, ResumesTo}
 use Rattle.plain_check.specs.Matrix.{captures_of, plain_cell, column, row, source_rule}
 use Rattle.plain_check.specs.Selecting.{guard_of, GivesChoice, GivesTried, GivesThrough, GivesCell, GivesPart, GivesCaptures}
@@ -103,19 +103,19 @@ abbrev pub Resumes : Signature → Term → Vec Pause Global → ℕ → Result 
 Resumes s v ps old result ps' new = ResumesTo (plain_signature s) (resumed (plain_signature s) ps.items (Some (tree v, old))) result ps'.items new
 
 -- the right side under the captures stands before the arguments that the patterns leave over
-abbrev pub PutsRight : List (Option Term) → Source → List Term → Term → List Term → Type 0
+abbrev pub PutsRight : List (Option Term) → Source → Vec Term Global → Term → Vec Term Global → Type 0
 PutsRight taken r old h new =
-    wound (tree h) (trees new) ≡ applied (filled (captures_of taken) 0 (source_rule r).right) (drop (length (source_rule r).pats) (from_top old))
+    wound (tree h) (trees new.items) ≡ applied (filled (captures_of taken) 0 (source_rule r).right) (drop (length (source_rule r).pats) (from_top old.items))
 
 -- selection
 
--- the columns for a symbol over a stack
-abbrev pub AreColumns : Signature → ℕ → List Term → List Column → Type 0
-AreColumns s k ts cs = map column cs ≡ columns (plain_signature s) k (wound (symbol k) (trees ts))
+-- the matrix has the columns for a symbol over a stack
+abbrev pub AreColumns : Signature → ℕ → List Term → Matrix → Type 0
+AreColumns s k ts m = plain m.columns ≡ columns (plain_signature s) k (wound (symbol k) (trees ts))
 
--- the rows for a symbol over a stack
-abbrev pub AreRows : Signature → ℕ → List Term → List Row → Type 0
-AreRows s k ts rs = map row rs ≡ rows (plain_signature s) k (wound (symbol k) (trees ts))
+-- and the rows
+abbrev pub AreRows : Signature → ℕ → List Term → Matrix → Type 0
+AreRows s k ts m = map row m.rows.items ≡ rows (plain_signature s) k (wound (symbol k) (trees ts))
 
 abbrev pub Selects : Signature → Matrix → ℕ → Result Choice Stop → ℕ → Type 0
 Selects s m old result new = GivesChoice (plain_signature s) m.symbol (selected (plain_signature s) m old) result new

@@ -15,6 +15,7 @@ use Rattle.plain_check.specs.declared.pause.Pause.{Pause}
 use Rattle.plain_check.specs.Machine.{trees, wound}
 use Rattle.plain_check.specs.Matrix.{column, row}
 
+-- columns as plain data
 abbrev pub plain : Vec Column Global → List PlainColumn
 plain cs = map column cs.items
 

@@ -169,8 +169,8 @@ fn matrix_of<'a>(
 ) -> Result<Matrix<'a>, NoMemory>
     requires { AreRules signature.now rules.now }
     ensures symbol { IfOk result (λ m. m.symbol ≡ symbol) }
-    ensures columns { IfOk result (λ m. AreColumns signature.now symbol stack.now m.columns.items) }
-    ensures rows { IfOk result (λ m. AreRows signature.now symbol stack.now m.rows.items) }
+    ensures columns { IfOk result (λ m. AreColumns signature.now symbol stack.now m) }
+    ensures rows { IfOk result (λ m. AreRows signature.now symbol stack.now m) }
 {
     let sources = rules_of(alloc, signature, rules, symbol)?;
     let width = width(stack.len(), sources.as_slice());
@@ -191,7 +191,7 @@ fn put_right(
     source: &Source,
     stack: &mut Vec<Term>,
 ) -> Result<Term, NoMemory>
-    ensures term { IfOk result (λ h. PutsRight captures.now source.now stack.old.items h stack.new.items) }
+    ensures term { IfOk result (λ h. PutsRight captures.now source.now stack.old h stack.new) }
     ensures head { IfOk result (λ h. is_application (tree h) ≡ false) }
 {
     let right = filled(alloc, captures, 0, right_of(source))?;

@@ -10,8 +10,8 @@ use crate::machine::{unwind, wind};
 use dk_model::{NoMemory, Rule, Signature, Term};
 use std::alloc::Global;
 
-/// How many selections may wait at once. A theory can nest evaluation as deep as its units last; this bounds the memory
-/// that it takes for that to a few gigabytes, and is far beyond what files need.
+/// How many selections of one evaluation may wait at once. A theory can nest them as deep as its units last, and each
+/// takes several hundred bytes: so many take a few gigabytes.
 const MOST_PAUSES: usize = 4_194_304;
 
 /// A selection that waits for the value of a column.
