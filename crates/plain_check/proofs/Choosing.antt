@@ -1,17 +1,24 @@
 -- The rounds of a selection.
-use Rattle.std.proofs.Common.{List, [], ◌∷◌, ◌++◌, take, drop, map, length, ℕ, zero, suc, ◌≡◌, ◌<◌, ◌≤◌, ◌+◌, Option, Some, None, refl, ap, ◌∙◌, sym as flip, arith, get_or}
+use Rattle.std.proofs.Common.{List, [], ◌∷◌, ◌++◌, take, drop, map, length, ℕ, zero, suc, ◌≡◌, ◌<◌, ◌+◌, Option, Some, None, Err, refl, ap, ◌∙◌, sym as flip, arith, get_or}
 use Rattle.std.specs.Prelude.{slice_get}
-use Rattle.std.proofs.lemmas.List.{append-nil, take-take}
+use Rattle.std.proofs.lemmas.List.{append-nil, take-take, length-map}
 use Rattle.dk_model.specs.Trees.{Tree}
 use Rattle.dk_model.specs.Signatures.{PlainRule, PlainSignature}
-use Rattle.dk_model.specs.Units.{Units}
-use Rattle.dk_model.specs.Selection.{Column, Captures, Row, Cell, cell_at, refined, select_from, tried, rigid_at, opened, refined_rows}
+use Rattle.dk_model.specs.Units.{Units, bind}
+use Rattle.dk_model.specs.Selection.{Column, Captures, Row, select_from, tried, rigid_at, opened, refined_rows}
 use Rattle.dk_model.specs.Evaluation.{whnf_of, comparison_of, normal_of, selection_of}
 use Rattle.dk_model.proofs.Turns.{selection_is}
-use Rattle.std.proofs.Common.{Err}
 use Rattle.plain_check.specs.declared.fault.Stop.{Stop}
 use Rattle.plain_check.specs.declared.fault.Stop.TheVariants.{Ended, NoMemory}
-use Rattle.plain_check.specs.Selecting.{first_rigid, columns_after, rows_after, Advanced, Stuck, GivesTried, GivesChoice}
+use Rattle.plain_check.specs.declared.gap.Gap.{Gap}
+use Rattle.plain_check.specs.Matrix.{column, row}
+use Rattle.plain_check.specs.Pausing.{plain, columns_with, reselected}
+use Rattle.plain_check.specs.Selecting.{first_rigid, GivesTried, GivesChoice}
+
+taken_length : (i : ℕ) (cols : List Column) (k : Column) → slice_get cols i ≡ Some k → length (take i cols) ≡ i
+taken_length i [] k e = cc
+taken_length zero (x ∷ xs) k e = refl
+taken_length (suc i) (x ∷ xs) k e = ap suc (taken_length i xs k e)
 
 module _ (S : PlainSignature) where
   abbrev from : List Row → List Column → ℕ → Units (Option (Captures × PlainRule))
@@ -37,13 +44,9 @@ module _ (S : PlainSignature) where
   from_out : (n : ℕ) (cols : List Column) (r : Row) (rs : List Row) (i : ℕ) → rigid_at r.0 ≡ Some i → slice_get cols i ≡ None → from (r ∷ rs) cols n ≡ Some (None, n)
   from_out n cols r rs i e q = rw (e, q, select_from) refl
 
-  from_goes : (n m : ℕ) (cols : List Column) (r : Row) (rs : List Row) (i : ℕ) (k : Column) (v : Tree) → rigid_at r.0 ≡ Some i → slice_get cols i ≡ Some k → whnf_of S n k.1 ≡ Some (v, m)
-      → from (r ∷ rs) cols n ≡ selection_of S m (columns_after i cols k v) (rows_after i k v (r ∷ rs))
-  from_goes n m cols r rs i k v e q h = rw (e, q, h, select_from) refl
-
-  from_stuck : (n : ℕ) (cols : List Column) (r : Row) (rs : List Row) (i : ℕ) (k : Column) → rigid_at r.0 ≡ Some i → slice_get cols i ≡ Some k → whnf_of S n k.1 ≡ None
-      → from (r ∷ rs) cols n ≡ None
-  from_stuck n cols r rs i k e q h = rw (e, q, h, select_from) refl
+  from_asks : (n : ℕ) (cols : List Column) (r : Row) (rs : List Row) (i : ℕ) (k : Column) → rigid_at r.0 ≡ Some i → slice_get cols i ≡ Some k
+      → from (r ∷ rs) cols n ≡ bind (whnf_of S n k.1) (λ v m. selection_of S m (take i cols ++ (k.0, v) ∷ opened k.0 v ++ drop (i + 1) cols) (refined_rows v (length (opened k.0 v)) i (r ∷ rs)))
+  from_asks n cols r rs i k e q = rw (e, q, select_from) refl
 
   -- the same of the selection, by what the first row asks for
 
@@ -72,52 +75,22 @@ module _ (S : PlainSignature) where
   no_column n cols [] i e q = cc
   no_column n cols (x ∷ xs) i e q = let e' : rigid_at x.0 ≡ Some i = cc in selection_is S n cols (x ∷ xs) ∙ from_out n cols x xs i e' q
 
-  pub column_opens : (n m : ℕ) (cols cols' : List Column) (rs rs' : List Row) (i : ℕ) → first_rigid rs ≡ Some (Some i) → Advanced S i cols rs n cols' rs' m
-      → selection_of S m cols' rs' ≡ selection_of S n cols rs
-  column_opens n m cols cols' [] rs' i e a = cc
-  column_opens n m cols cols' (x ∷ xs) rs' i e a =
+  pub row_asks : (n : ℕ) (cols : List Column) (rs : List Row) (i : ℕ) (g : Gap) (t : Tree) → first_rigid rs ≡ Some (Some i) → slice_get cols i ≡ Some (g.depth, t)
+      → plain g.before ≡ take i cols → plain g.behind ≡ drop (i + 1) cols → map row g.rows.items ≡ rs → selection_of S n cols rs ≡ bind (whnf_of S n t) (reselected S g)
+  row_asks n cols [] i g t e q before behind same = cc
+  row_asks n cols (x ∷ xs) i g t e q before behind same =
       let e' : rigid_at x.0 ≡ Some i = cc in
-      ap (λ (l : List Column). selection_of S m l rs') a.columns_are ∙ ap (λ (l : List Row). selection_of S m (columns_after i cols a.place a.value) l) a.rows_are
-      ∙ flip (selection_is S n cols (x ∷ xs) ∙ from_goes n m cols x xs i a.place a.value e' a.was a.gave)
+      let at : length g.before.items ≡ i = flip (length-map g.before.items column) ∙ ap length before ∙ taken_length i cols (g.depth, t) q in
+      selection_is S n cols (x ∷ xs) ∙ from_asks n cols x xs i (g.depth, t) e' q
+      ∙ ap (λ (l : List Column). bind (whnf_of S n t) (λ v m. selection_of S m (l ++ (g.depth, v) ∷ opened g.depth v ++ drop (i + 1) cols) (refined_rows v (length (opened g.depth v)) i (x ∷ xs)))) (flip before)
+      ∙ ap (λ (l : List Column). bind (whnf_of S n t) (λ v m. selection_of S m (plain g.before ++ (g.depth, v) ∷ opened g.depth v ++ l) (refined_rows v (length (opened g.depth v)) i (x ∷ xs)))) (flip behind)
+      ∙ ap (λ (j : ℕ). bind (whnf_of S n t) (λ v m. selection_of S m (columns_with g v) (refined_rows v (length (opened g.depth v)) j (x ∷ xs)))) (flip at)
+      ∙ ap (λ (l : List Row). bind (whnf_of S n t) (λ v m. selection_of S m (columns_with g v) (refined_rows v (length (opened g.depth v)) (length g.before.items) l))) (flip same)
 
-  pub column_ends : (n : ℕ) (cols : List Column) (rs : List Row) (i : ℕ) → first_rigid rs ≡ Some (Some i) → Stuck S i cols n → selection_of S n cols rs ≡ None
-  column_ends n cols [] i e a = cc
-  column_ends n cols (x ∷ xs) i e a = let e' : rigid_at x.0 ≡ Some i = cc in selection_is S n cols (x ∷ xs) ∙ from_stuck n cols x xs i a.place e' a.was a.ended
-
-  -- one round of evaluation
-
-  pub advance_ends : (at n : ℕ) (cols : List Column) (k : Column) → slice_get cols at ≡ Some k → whnf_of S n k.1 ≡ None → Stuck S at cols n
-  advance_ends at n cols k e q = record { place = k; was = e; ended = q }
-
-pub no_choice : (o : Units (Option Captures × List Column)) (x : Units (Option (Captures × PlainRule))) (e : Stop) (m : ℕ) (cols : List Column)
-    → (o ≡ None → x ≡ None) → GivesTried o (Err e) cols m → GivesChoice x (Err e) m
-no_choice o x Ended m cols f h = f h
-no_choice o x NoMemory m cols f h = tt
-
--- no row is added
-
-one_fewer : (v : Tree) (n i : ℕ) (r : Row) (rs : List Row) (o : Option (List Cell)) → length (refined_rows v n i rs) ≤ length rs → refined v n (cell_at r.0 i) ≡ o
-    → length (refined_rows v n i (r ∷ rs)) ≤ suc (length rs)
-one_fewer v n i r rs None h e = rw (e, refined_rows) (omega (arith, h))
-one_fewer v n i r rs (Some cs) h e = rw (e, refined_rows) (omega (arith, h))
-
-fewer : (v : Tree) (n i : ℕ) (rs : List Row) → length (refined_rows v n i rs) ≤ length rs
-fewer v n i [] = omega arith
-fewer v n i (r ∷ rs) = one_fewer v n i r rs (refined v n (cell_at r.0 i)) (fewer v n i rs) refl
-
-pub advance_goes : (S : PlainSignature) (at n m : ℕ) (cols before behind cols' : List Column) (rs rs' : List Row) (k : Column) (v : Tree)
-    → slice_get cols at ≡ Some k → before ≡ take at cols → behind ≡ drop (at + 1) cols → whnf_of S n k.1 ≡ Some (v, m) → m < n
-    → rs' ≡ refined_rows v (length (opened k.0 v)) at rs → cols' ≡ before ++ (k.0, v) ∷ opened k.0 v ++ behind → Advanced S at cols rs n cols' rs' m
-advance_goes S at n m cols before behind cols' rs rs' k v e p q h lt r s = record {
-  place = k;
-  value = v;
-  was = e;
-  gave = h;
-  columns_are = s ∙ rw (p, q, columns_after) refl;
-  rows_are = r;
-  falls = lt;
-  fewer = let f : length (refined_rows v (length (opened k.0 v)) at rs) ≤ length rs = fewer v (length (opened k.0 v)) at rs in rw r f;
-}
+pub no_choice : (S : PlainSignature) (k : ℕ) (o : Units (Option Captures × List Column)) (x : Units (Option (Captures × PlainRule))) (e : Stop) (m : ℕ) (cols : List Column)
+    → (o ≡ None → x ≡ None) → GivesTried o (Err e) cols m → GivesChoice S k x (Err e) m
+no_choice S k o x Ended m cols f h = f h
+no_choice S k o x NoMemory m cols f h = tt
 
 -- lists under a view
 

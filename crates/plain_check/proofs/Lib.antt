@@ -2,6 +2,7 @@ mod Winding
 mod Turning
 mod Parts
 mod Choosing
+mod Pausing
 mod Through
 mod Trying
 mod Matched

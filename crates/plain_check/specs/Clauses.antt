@@ -5,9 +5,10 @@ use Rattle.std.specs.declared.alloc.Global.{Global}
 use Rattle.dk_model.specs.Trees.{Tree, symbol, tree}
 use Rattle.dk_model.specs.Signatures.{plain_signature, plain_entry, pattern, maybe_tree}
 use Rattle.dk_model.specs.Scoping.{plain_command}
+use Rattle.dk_model.specs.Units.{bind}
 use Rattle.dk_model.specs.Spines.{applied}
 use Rattle.dk_model.specs.Selection.{cell, filled, tried, through, at_cell, escaped, matched, guarded, each_normal}
-use Rattle.dk_model.specs.Evaluation.{whnf_of, selection_of, comparison_of, normal_of, columns, rows}
+use Rattle.dk_model.specs.Evaluation.{whnf_of, comparison_of, normal_of, columns, rows}
 use Rattle.dk_model.specs.Typing.{inferred, checked, sort_of, as_product, as_sort, as_star, as_same}
 use Rattle.dk_model.specs.Verdicts.{verdict_of, entry_of, inferred_type, body_type, body_checked, declaration_checked, IsVerdictOrMemory}
 use Rattle.dk_model.specs.declared.term.Term.{Term}
@@ -24,13 +25,19 @@ use Rattle.plain_check.specs.declared.fault.Stop.{Stop}
 use Rattle.plain_check.specs.declared.fault.TypeFault.{TypeFault}
 use Rattle.plain_check.specs.declared.matrix.Cell.{Cell}
 use Rattle.plain_check.specs.declared.matrix.Column.{Column}
+use Rattle.plain_check.specs.declared.matrix.Matrix.{Matrix}
 use Rattle.plain_check.specs.declared.matrix.Row.{Row}
 use Rattle.plain_check.specs.declared.matrix.Source.{Source}
+use Rattle.plain_check.specs.declared.pause.Next.{Next}
+use Rattle.plain_check.specs.declared.pause.Pause.{Pause}
+use Rattle.plain_check.specs.declared.select.Choice.{Choice}
 use Rattle.plain_check.specs.Contexts.{context_of}
 use Rattle.plain_check.specs.Given.{GivesTerm, GivesBool, GivesType, GivesProduct, GivesFit}
-use Rattle.plain_check.specs.Machine.{trees, wound, from_top, rewritten_by, turn_of, TurnsTo}
+use Rattle.plain_check.specs.Machine.{trees, wound, from_top}
+use Rattle.plain_check.specs.Pausing.{plain, selected, after_choice, rewritten_by, resumed}
+use Rattle.plain_check.specs.Turning.{TurnsTo, ResumesTo}
 use Rattle.plain_check.specs.Matrix.{captures_of, plain_cell, column, row, source_rule}
-use Rattle.plain_check.specs.Selecting.{guard_of, GivesRows, GivesChoice, GivesTried, GivesThrough, GivesCell, GivesPart, GivesCaptures}
+use Rattle.plain_check.specs.Selecting.{guard_of, GivesChoice, GivesTried, GivesThrough, GivesCell, GivesPart, GivesCaptures}
 use Rattle.plain_check.specs.Pending.{pending, parts_before}
 use Rattle.plain_check.specs.Spine.{argument_type, domain_fits}
 
@@ -79,34 +86,39 @@ abbrev pub NormalisesParts : Signature → Term → ℕ → Result Term Stop →
 NormalisesParts s t old result new = GivesTerm (each_normal (normal_of (plain_signature s)) (comparison_of (plain_signature s)) (tree t) old) result new
 
 -- the turn of a head over a stack, with the stack and the units after it
-abbrev pub TakesTurn : Signature → Term → List Term → ℕ → Result Turn Stop → List Term → ℕ → Type 0
-TakesTurn s h ts old turn ts' new = TurnsTo (turn_of (plain_signature s) old (wound (tree h) (trees ts))) (wound (tree h) (trees ts)) turn (trees ts') new
+abbrev pub TakesTurn : Signature → Term → Vec Term Global → ℕ → Result Turn Stop → Vec Term Global → ℕ → Type 0
+TakesTurn s h ts old turn ts' new = TurnsTo (plain_signature s) (whnf_of (plain_signature s) old (wound (tree h) (trees ts.items))) turn (trees ts'.items) new
 
--- the turn of a symbol over a stack, by its rules
-abbrev pub Rewrites : Signature → ℕ → List Term → ℕ → Result Turn Stop → List Term → ℕ → Type 0
-Rewrites s k ts old turn ts' new = TurnsTo (rewritten_by (plain_signature s) old k (wound (symbol k) (trees ts))) (wound (symbol k) (trees ts)) turn (trees ts') new
+-- the same of a symbol, whose turn took its unit already
+abbrev pub Rewrites : Signature → ℕ → Vec Term Global → ℕ → Result Turn Stop → Vec Term Global → ℕ → Type 0
+Rewrites s k ts old turn ts' new = TurnsTo (plain_signature s) (rewritten_by (plain_signature s) old k (wound (symbol k) (trees ts.items))) turn (trees ts'.items) new
+
+-- the same by a matrix of the symbol
+abbrev pub Turns : Signature → Matrix → Vec Term Global → ℕ → Result Turn Stop → Vec Term Global → ℕ → Type 0
+Turns s m ts old turn ts' new =
+    TurnsTo (plain_signature s) (bind (selected (plain_signature s) m old) (after_choice (plain_signature s) (wound (symbol m.symbol) (trees ts.items)))) turn (trees ts'.items) new
+
+-- a value is given to the selections that wait
+abbrev pub Resumes : Signature → Term → Vec Pause Global → ℕ → Result Next Stop → Vec Pause Global → ℕ → Type 0
+Resumes s v ps old result ps' new = ResumesTo (plain_signature s) (resumed (plain_signature s) ps.items (Some (tree v, old))) result ps'.items new
 
 -- the right side under the captures stands before the arguments that the patterns leave over
-abbrev pub PutsRight : List (Option Term) → Source → List Term → Term → List Term → Type 0
+abbrev pub PutsRight : List (Option Term) → Source → Vec Term Global → Term → Vec Term Global → Type 0
 PutsRight taken r old h new =
-    wound (tree h) (trees new) ≡ applied (filled (captures_of taken) 0 (source_rule r).right) (drop (length (source_rule r).pats) (from_top old))
+    wound (tree h) (trees new.items) ≡ applied (filled (captures_of taken) 0 (source_rule r).right) (drop (length (source_rule r).pats) (from_top old.items))
 
 -- selection
 
--- the columns for a symbol over a stack
-abbrev pub AreColumns : Signature → ℕ → List Term → List Column → Type 0
-AreColumns s k ts cs = map column cs ≡ columns (plain_signature s) k (wound (symbol k) (trees ts))
+-- the matrix has the columns for a symbol over a stack
+abbrev pub AreColumns : Signature → ℕ → List Term → Matrix → Type 0
+AreColumns s k ts m = plain m.columns ≡ columns (plain_signature s) k (wound (symbol k) (trees ts))
 
--- the rows for a symbol over a stack
-abbrev pub AreRows : Signature → ℕ → List Term → List Row → Type 0
-AreRows s k ts rs = map row rs ≡ rows (plain_signature s) k (wound (symbol k) (trees ts))
+-- and the rows
+abbrev pub AreRows : Signature → ℕ → List Term → Matrix → Type 0
+AreRows s k ts m = map row m.rows.items ≡ rows (plain_signature s) k (wound (symbol k) (trees ts))
 
-abbrev pub Selects : Signature → List Column → List Row → ℕ → Result (Option (Vec (Option Term) Global × Source)) Stop → ℕ → Type 0
-Selects s cs rs old result new = GivesChoice (selection_of (plain_signature s) old (map column cs) (map row rs)) result new
-
--- the evaluation of the column at a place, with the columns after it
-abbrev pub Advances : Signature → ℕ → List Column → List Row → ℕ → Result (Vec Row Global) Stop → List Column → ℕ → Type 0
-Advances s at cs rs old result cs' new = GivesRows (plain_signature s) at (map column cs) (map row rs) old result (map column cs') new
+abbrev pub Selects : Signature → Matrix → ℕ → Result Choice Stop → ℕ → Type 0
+Selects s m old result new = GivesChoice (plain_signature s) m.symbol (selected (plain_signature s) m old) result new
 
 abbrev pub Tries : Signature → Row → List Column → ℕ → Result (Option (Vec (Option Term) Global)) Stop → List Column → ℕ → Type 0
 Tries s r cs old result cs' new =

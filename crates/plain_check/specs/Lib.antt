@@ -5,5 +5,7 @@ pub mod Contexts
 pub mod Spine
 pub mod Matrix
 pub mod Mentions
+pub mod Pausing
+pub mod Turning
 pub mod Selecting
 pub mod Clauses

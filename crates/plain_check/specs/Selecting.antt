@@ -1,62 +1,34 @@
 -- What the steps of a selection give, by the cases of a result. Want of memory says nothing.
-use Rattle.std.specs.Prelude.{ℕ, ◌≡◌, ◌<◌, ◌≤◌, ◌+◌, Option, Some, None, Bool, true, false, Result, Ok, Err, List, [], ◌∷◌, ◌++◌, map, drop, take, length, slice_get}
+use Rattle.std.specs.Prelude.{ℕ, ◌≡◌, Option, Some, None, Bool, true, false, Result, Ok, Err, List, [], ◌∷◌}
 use Rattle.std.specs.declared.vec.Vec.{Vec}
 use Rattle.std.specs.declared.alloc.Global.{Global}
-use Rattle.dk_model.specs.Trees.{Tree}
+use Rattle.dk_model.specs.Trees.{Tree, tree}
 use Rattle.dk_model.specs.Substitution.{shift}
 use Rattle.dk_model.specs.Signatures.{guard_pattern, PlainRule, PlainSignature}
-use Rattle.dk_model.specs.Units.{Units}
-use Rattle.dk_model.specs.Selection.{cell, filled, opened, refined_rows, rigid_at, Captures}
+use Rattle.dk_model.specs.Units.{Units, bind}
+use Rattle.dk_model.specs.Selection.{cell, filled, rigid_at, Captures}
 use Rattle.dk_model.specs.Selection.{Cell as PlainCell, Column as PlainColumn, Row as PlainRow}
 use Rattle.dk_model.specs.Evaluation.{whnf_of}
 use Rattle.dk_model.specs.declared.term.Term.{Term}
 use Rattle.plain_check.specs.declared.fault.Stop.{Stop}
 use Rattle.plain_check.specs.declared.fault.Stop.TheVariants.{Ended, NoMemory}
-use Rattle.plain_check.specs.declared.matrix.Source.{Source}
-use Rattle.plain_check.specs.declared.matrix.Row.{Row}
-use Rattle.plain_check.specs.Matrix.{captures_of, row, source_rule}
+use Rattle.plain_check.specs.declared.select.Choice.{Choice}
+use Rattle.plain_check.specs.declared.select.Choice.TheVariants.{Taken, Nothing, Asks}
+use Rattle.plain_check.specs.Matrix.{captures_of, source_rule}
+use Rattle.plain_check.specs.Pausing.{reselected}
 
 -- what the first row asks for, where there is a row
 abbrev pub first_rigid : List PlainRow → Option (Option ℕ)
 first_rigid [] = None
 first_rigid (r ∷ rs) = Some (rigid_at r.0)
 
--- the columns once the one at `at` has the value `v`
-abbrev pub columns_after : ℕ → List PlainColumn → PlainColumn → Tree → List PlainColumn
-columns_after at cols c v = take at cols ++ (c.0, v) ∷ opened c.0 v ++ drop (at + 1) cols
-
--- the rows that are then kept
-abbrev pub rows_after : ℕ → PlainColumn → Tree → List PlainRow → List PlainRow
-rows_after at c v rs = refined_rows v (length (opened c.0 v)) at rs
-
--- the column at `at` was evaluated: the matrix that this leaves, with the units left
-pub record Advanced (S : PlainSignature) (at : ℕ) (cols : List PlainColumn) (rows : List PlainRow) (old : ℕ) (cols' : List PlainColumn) (rows' : List PlainRow) (new : ℕ) : Type 0 where
-  pub place : PlainColumn
-  pub value : Tree
-  pub was : slice_get cols at ≡ Some place
-  pub gave : whnf_of S old place.1 ≡ Some (value, new)
-  pub columns_are : cols' ≡ columns_after at cols place value
-  pub rows_are : rows' ≡ rows_after at place value rows
-  pub falls : new < old
-  pub fewer : length rows' ≤ length rows
-
--- its evaluation needs more units
-pub record Stuck (S : PlainSignature) (at : ℕ) (cols : List PlainColumn) (old : ℕ) : Type 0 where
-  pub place : PlainColumn
-  pub was : slice_get cols at ≡ Some place
-  pub ended : whnf_of S old place.1 ≡ None
-
-abbrev pub GivesRows : PlainSignature → ℕ → List PlainColumn → List PlainRow → ℕ → Result (Vec Row Global) Stop → List PlainColumn → ℕ → Type 0
-GivesRows S at cols rows old (Ok kept) cols' new = Advanced S at cols rows old cols' (map row kept.items) new
-GivesRows S at cols rows old (Err Ended) cols' new = Stuck S at cols old
-GivesRows S at cols rows old (Err NoMemory) cols' new = Unit {0}
-
--- the rule that is taken, with its captures
-abbrev pub GivesChoice : Units (Option (Captures × PlainRule)) → Result (Option (Vec (Option Term) Global × Source)) Stop → ℕ → Type 0
-GivesChoice due (Ok None) left = due ≡ Some (None, left)
-GivesChoice due (Ok (Some p)) left = due ≡ Some (Some (captures_of p.0.items, source_rule p.1), left)
-GivesChoice due (Err Ended) left = due ≡ None
-GivesChoice due (Err NoMemory) left = Unit {0}
+-- where the selection `due` for a symbol comes to
+abbrev pub GivesChoice : PlainSignature → ℕ → Units (Option (Captures × PlainRule)) → Result Choice Stop → ℕ → Type 0
+GivesChoice S k due (Ok Nothing) left = due ≡ Some (None, left)
+GivesChoice S k due (Ok (Taken cs r)) left = due ≡ Some (Some (captures_of cs.items, source_rule r), left)
+GivesChoice S k due (Ok (Asks g t)) left = (due ≡ bind (whnf_of S left (tree t)) (reselected S g)) × (g.symbol ≡ k)
+GivesChoice S k due (Err Ended) left = due ≡ None
+GivesChoice S k due (Err NoMemory) left = Unit {0}
 
 -- the captures of a row that is taken, and the columns as they then are
 abbrev pub GivesTried : Units (Option Captures × List PlainColumn) → Result (Option (Vec (Option Term) Global)) Stop → List PlainColumn → ℕ → Type 0

@@ -14,10 +14,10 @@ use std::alloc::Global;
 /// Whether the two are convertible, as evaluation finds it. Each pair that is compared takes a unit.
 #[cycle(evaluation)]
 #[tactic(auto, using(crate::proofs::Comparing::none_left, crate::proofs::Comparing::both_equal, crate::proofs::Comparing::pending_pushed, crate::proofs::Comparing::one_pair, crate::proofs::Comparing::pair_ends, crate::proofs::Comparing::pair_equal, crate::proofs::Comparing::first_ends, crate::proofs::Comparing::second_ends, crate::proofs::Comparing::heads_differ, crate::proofs::Comparing::parts_follow))]
-pub fn same(
+pub fn same<'a>(
     alloc: Global,
-    signature: &Signature,
-    rules: &[&Rule],
+    signature: &'a Signature,
+    rules: &[&'a Rule],
     t: &Term,
     u: &Term,
     left: &mut u64,

@@ -6,8 +6,8 @@ ghost use Rattle.std.specs.Prelude.{◌≡◌, ◌+◌, ◌<◌, ◌++◌, [], �
 ghost use Rattle.dk_model.specs.Trees.{tree, symbol, variable};
 ghost use Rattle.dk_model.specs.Signatures.{plain_signature, plain_rule};
 ghost use Rattle.dk_model.specs.Spines.{head as head_of, arguments};
-ghost use Rattle.dk_model.specs.Selection.{blank, cell, is_rigid, rigid_at, opened, heads_same, is_bare, cell_at, refined_rows, rules_of, width, rows_for};
-ghost use Rattle.plain_check.specs.Matrix.{pattern_cell, plain_cell, column, source_rule, row as row_of, rules_behind, AreRules, is_kept, cells_after, refined_cells, first_cells, own_rules, Appends};
+ghost use Rattle.dk_model.specs.Selection.{blank, cell, is_rigid, rigid_at, heads_same, is_bare, cell_at, refined_rows, rules_of, width, rows_for};
+ghost use Rattle.plain_check.specs.Matrix.{pattern_cell, plain_cell, source_rule, row as row_of, rules_behind, AreRules, is_kept, cells_after, refined_cells, first_cells, own_rules, Appends};
 
 use crate::infer::spine;
 use dk_model::{Entry, NoMemory, Pat, Rule, Signature, Term};
@@ -46,6 +46,14 @@ pub struct Row<'a> {
     pub source: Source<'a>,
 }
 
+/// The matrix of a symbol: its rules over its arguments.
+#[derive(Drop)]
+pub struct Matrix<'a> {
+    pub symbol: u32,
+    pub columns: Vec<Column>,
+    pub rows: Vec<Row<'a>>,
+}
+
 /// Whether a cell asks for the head of its column.
 fn is_rigid(cell: &Cell) -> bool
     ensures { result ≡ is_rigid (plain_cell cell.now) }
@@ -75,48 +83,6 @@ pub fn rigid_at(cells: &[Cell]) -> Option<usize>
         }
     }
     None
-}
-
-/// The columns that a value opens: its body under one more binder, or its arguments.
-pub fn opened(alloc: Global, depth: u64, value: &Term) -> Result<Vec<Column>, NoMemory>
-    ensures { IfOk result (λ columns. map column columns.items ≡ opened depth (tree value.now)) }
-{
-    match value {
-        Term::Abs(None, body) => body_column(alloc, depth, body),
-        other => argument_columns(alloc, depth, other),
-    }
-}
-
-/// A column for the body of an abstraction at this depth.
-fn body_column(alloc: Global, depth: u64, body: &Term) -> Result<Vec<Column>, NoMemory>
-    ensures { IfOk result (λ columns. map column columns.items ≡ (depth + 1, tree body.now) ∷ []) }
-{
-    let mut columns = Vec::new(alloc);
-    match depth.checked_add(1) {
-        Some(depth) => columns.push(Column {
-            depth,
-            term: body.copy(alloc)?,
-        })?,
-        None => return Err(NoMemory),
-    }
-    Ok(columns)
-}
-
-/// A column at this depth for each argument.
-#[tactic(auto, using(crate::proofs::References::spine_arguments))]
-fn argument_columns(alloc: Global, depth: u64, term: &Term) -> Result<Vec<Column>, NoMemory>
-    ensures { IfOk result (λ columns. map column columns.items ≡ map (λ a. (depth, a)) (arguments (tree term.now))) }
-{
-    let (_, arguments) = spine(alloc, term)?;
-    let mut arguments = arguments;
-    let mut columns = Vec::new(alloc);
-    while let Some(argument) = arguments.pop() {
-        columns.push(Column {
-            depth,
-            term: argument.copy(alloc)?,
-        })?;
-    }
-    Ok(columns)
 }
 
 /// The cell at a place, or nothing.

@@ -14,10 +14,10 @@ use std::alloc::Global;
 /// The normal form. Each part takes a unit, and its weak head form those that it takes.
 #[cycle(evaluation)]
 #[tactic(auto, using(crate::proofs::Parts::normal_out, crate::proofs::Parts::normal_ends, crate::proofs::Parts::normal_goes))]
-pub fn normal(
+pub fn normal<'a>(
     alloc: Global,
-    signature: &Signature,
-    rules: &[&Rule],
+    signature: &'a Signature,
+    rules: &[&'a Rule],
     term: Term,
     left: &mut u64,
 ) -> Result<Term, Stop>
@@ -38,10 +38,10 @@ pub fn normal(
 /// A weak head form with each of its parts normalised, from left to right.
 #[cycle(evaluation)]
 #[tactic(auto, using(crate::proofs::Parts::parts_end, crate::proofs::Parts::parts_begin, crate::proofs::Parts::part_ends, crate::proofs::Parts::part_goes))]
-fn each_normal(
+fn each_normal<'a>(
     alloc: Global,
-    signature: &Signature,
-    rules: &[&Rule],
+    signature: &'a Signature,
+    rules: &[&'a Rule],
     value: Term,
     left: &mut u64,
 ) -> Result<Term, Stop>
@@ -67,10 +67,10 @@ fn each_normal(
 /// The same of a term that is no application.
 #[cycle(evaluation)]
 #[tactic(auto, using(crate::proofs::Parts::bare_ends, crate::proofs::Parts::bare_goes, crate::proofs::Parts::annotated_ends, crate::proofs::Parts::annotated_stops, crate::proofs::Parts::annotated_goes, crate::proofs::Parts::product_ends, crate::proofs::Parts::product_stops, crate::proofs::Parts::product_goes))]
-fn normal_head(
+fn normal_head<'a>(
     alloc: Global,
-    signature: &Signature,
-    rules: &[&Rule],
+    signature: &'a Signature,
+    rules: &[&'a Rule],
     head: Term,
     left: &mut u64,
 ) -> Result<Term, Stop>

@@ -34,7 +34,9 @@ const APPLIED: u32 = 11;
 
 const OVER: u32 = 12;
 
-const SYMBOLS: usize = 13;
+const ENDLESS: u32 = 13;
+
+const SYMBOLS: u32 = 14;
 
 fn call(alloc: Global, symbol: u32, argument: Term) -> Result<Term, NoMemory> {
     make_app(alloc, Term::Sym(symbol), argument)
@@ -126,21 +128,32 @@ fn abstraction_rules(alloc: Global, rules: &mut Listed<Rule>) -> Result<(), NoMe
     rules.push(rule(alloc, OVER, 1, pats, Term::Sym(S)))
 }
 
-/// The symbols, and all rules in one command.
+/// `endless --> plus endless z.`
+fn endless_rule(alloc: Global, rules: &mut Listed<Rule>) -> Result<(), NoMemory> {
+    let right = call_two(alloc, PLUS, Term::Sym(ENDLESS), Term::Sym(Z))?;
+    rules.push(rule(alloc, ENDLESS, 0, Listed::new(alloc), right))
+}
+
+fn symbol(body: Option<Term>) -> Entry {
+    Entry::Symbol {
+        sort: SymSort::Definable,
+        typ: Term::Star,
+        body,
+    }
+}
+
+/// The symbols, and all rules in one command, which counts as the entry after them.
 fn signature(alloc: Global) -> Result<Signature, NoMemory> {
     let mut entries = Listed::new(alloc);
     for _ in 0..SYMBOLS {
-        entries.push(Entry::Symbol {
-            sort: SymSort::Definable,
-            typ: Term::Star,
-            body: None,
-        })?;
+        entries.push(symbol(None))?;
     }
     let mut rules = Listed::new(alloc);
     plus_rules(alloc, &mut rules)?;
     overlapping_rules(alloc, &mut rules)?;
     equal_rules(alloc, &mut rules)?;
     abstraction_rules(alloc, &mut rules)?;
+    endless_rule(alloc, &mut rules)?;
     entries.push(Entry::Rules(rules))?;
     Ok(Signature { entries })
 }
@@ -258,5 +271,49 @@ fn sums_are_compared_by_their_parts(rt: HostRuntime) -> Result<(), Fail> {
         assert_eq!(rt; found, expected, "at {units}");
         assert_eq!(rt; left, 0, "at {units}");
     }
+    Ok(())
+}
+
+/// Adds `def a1 := z.`, `def a2 := plus a1 z.` and so on, so many; and `plus` of the last one and `z`.
+fn nested(alloc: Global, count: u32, signature: &mut Signature) -> Result<Term, NoMemory> {
+    let mut number = SYMBOLS;
+    let mut term = Term::Sym(Z);
+    for _ in 0..count {
+        signature.entries.push(symbol(Some(term)))?;
+        number = number.saturating_add(1);
+        term = call_two(alloc, PLUS, Term::Sym(number), Term::Sym(Z))?;
+    }
+    Ok(term)
+}
+
+/// `a1` takes 2 units: it is unfolded, and `z` stands. Each `plus` takes two more than its argument, a turn and one for
+/// the `z` that is left, and each definition one.
+#[test]
+fn selections_wait_fifty_thousand_deep(rt: HostRuntime) -> Result<(), Fail> {
+    let alloc = rt.alloc();
+    let mut signature = signature(alloc)?;
+    let term = nested(alloc, 50_000, &mut signature)?;
+    let rules = rules_in(alloc, &signature)?;
+    for (units, expected) in [(150_000, false), (150_001, true)] {
+        let mut left = units;
+        let term = term.copy(alloc)?;
+        let found = whnf(alloc, &signature, rules.as_slice(), term, &mut left);
+        assert_eq!(rt; left, 0, "at {units}");
+        assert_eq!(rt; matches!(&found, Ok(Term::Sym(Z))), expected, "at {units}");
+        assert_eq!(rt; matches!(&found, Err(Stop::Ended)), !expected, "at {units}");
+    }
+    Ok(())
+}
+
+#[test]
+fn nesting_without_end_takes_the_budget(rt: HostRuntime) -> Result<(), Fail> {
+    let alloc = rt.alloc();
+    let signature = signature(alloc)?;
+    let rules = rules_in(alloc, &signature)?;
+    let mut left = 1_000_000;
+    let term = Term::Sym(ENDLESS);
+    let found = whnf(alloc, &signature, rules.as_slice(), term, &mut left);
+    assert!(rt; matches!(&found, Err(Stop::Ended)));
+    assert_eq!(rt; left, 0);
     Ok(())
 }

@@ -1,58 +1,67 @@
 //! Selection: which rule of a symbol takes the arguments, and with what captures (docs/evaluation.md).
 //!
-//! The columns are evaluated as far as the first row asks for it; a row that asks for no head is tried, and else the
-//! next one. Begin at `select`.
+//! A row that asks for no head is tried, and else the next one. Where the first row asks for the head of a column the
+//! selection stops there, to go on once the column is evaluated (src/pause.rt). Begin at `select`.
 ghost use Rattle.std.specs.Prelude.{◌≡◌, ◌+◌, ◌<◌, ◌≤◌, ◌∷◌, ◌++◌, IfOk, OnOk, IsTrue, false, None, Some, map, drop, take, replicate, length, slice_get, vec_len};
 ghost use Rattle.plain_check.specs.Matrix.{AreRules, captures_of, column, row, source_rule};
 ghost use Rattle.plain_check.specs.Selecting.{first_rigid};
-ghost use Rattle.plain_check.specs.Clauses.{Selects, Advances, Tries, Passes, Guards, AtCell, AtPattern, GuardsCell, GuardsPattern, Escapes, Matches};
+ghost use Rattle.plain_check.specs.Clauses.{Selects, Tries, Passes, Guards, AtCell, AtPattern, GuardsCell, GuardsPattern, Escapes, Matches};
 
 use crate::capture::{capture_at, captured, filled, strays};
 use crate::compare::same;
-use crate::evaluate::whnf;
 use crate::fault::Stop;
-use crate::matrix::{Cell, Column, Row, Source, opened, refined_rows, rigid_at};
+use crate::gap::{Gap, gap_at};
+use crate::matrix::{Cell, Column, Matrix, Row, Source, rigid_at};
 use crate::normal::normal;
 use dk_model::{NoMemory, Pat, Rule, Signature, Term};
 use std::alloc::Global;
 use std::mem;
 
-/// The first row that takes the columns: its captures and its rule.
+/// Where a selection comes to.
+#[derive(Drop)]
+pub enum Choice<'a> {
+    /// This rule is taken, with its captures.
+    Taken(Vec<Option<Term>>, Source<'a>),
+    /// No rule is taken.
+    Nothing,
+    /// The first row asks for the head of this column's term.
+    Asks(Gap<'a>, Term),
+}
+
+/// The first row that takes the columns, unless a row before it asks for the head of one.
 #[cycle(evaluation)]
-#[tactic(auto, using(crate::proofs::Choosing::no_row, crate::proofs::Choosing::no_column, crate::proofs::Choosing::column_opens, crate::proofs::Choosing::column_ends))]
+#[tactic(auto, using(crate::proofs::Choosing::no_row, crate::proofs::Choosing::no_column, crate::proofs::Choosing::row_asks))]
 pub fn select<'a>(
     alloc: Global,
-    signature: &Signature,
-    rules: &[&Rule],
-    columns: Vec<Column>,
-    rows: Vec<Row<'a>>,
+    signature: &'a Signature,
+    rules: &[&'a Rule],
+    matrix: Matrix<'a>,
     left: &mut u64,
-) -> Result<Option<(Vec<Option<Term>>, Source<'a>)>, Stop>
+) -> Result<Choice<'a>, Stop>
     requires { AreRules signature.now rules.now }
-    ensures gives { Selects signature.now columns.items rows.entry.items left.old result left.new }
+    ensures gives { Selects signature.now matrix.entry left.old result left.new }
     ensures spent { left.new ≤ left.old }
 {
-    let mut columns = columns;
-    let mut rows = rows;
+    let symbol = matrix.symbol;
+    let mut columns = matrix.columns;
+    let mut rows = matrix.rows;
     loop {
         match first_rigid(rows.as_slice()) {
-            None => return Ok(None),
+            None => return Ok(Choice::Nothing),
             Some(None) => {
                 let row = take_first(&mut rows);
                 match tried(alloc, signature, rules, &row, &mut columns, left) {
-                    Ok(Some(captures)) => return Ok(Some((captures, row.source))),
+                    Ok(Some(captures)) => return Ok(Choice::Taken(captures, row.source)),
                     Ok(None) => {}
                     Err(stop) => return Err(stop),
                 }
             }
             Some(Some(at)) => {
                 if lacks(columns.as_slice(), at) {
-                    return Ok(None);
+                    return Ok(Choice::Nothing);
                 }
-                match advance(alloc, signature, rules, at, &mut columns, rows, left) {
-                    Ok(kept) => rows = kept,
-                    Err(stop) => return Err(stop),
-                }
+                let (gap, term) = gap_at(symbol, at, columns, rows)?;
+                return Ok(Choice::Asks(gap, term));
             }
         }
     }
@@ -85,74 +94,13 @@ fn take_first<'a>(rows: &mut Vec<Row<'a>>) -> Row<'a>
     rows.remove(0)
 }
 
-/// Evaluates a column, and puts its parts behind it; the rows that its value leaves.
-#[cycle(evaluation)]
-#[tactic(auto, using(crate::proofs::Choosing::advance_ends, crate::proofs::Choosing::advance_goes))]
-fn advance<'a>(
-    alloc: Global,
-    signature: &Signature,
-    rules: &[&Rule],
-    at: usize,
-    columns: &mut Vec<Column>,
-    rows: Vec<Row<'a>>,
-    left: &mut u64,
-) -> Result<Vec<Row<'a>>, Stop>
-    requires rules { AreRules signature.now rules.now }
-    requires place { at < vec_len columns.old }
-    ensures gives { Advances signature.now at columns.old.items rows.entry.items left.old result columns.new.items left.new }
-    ensures spent { left.new ≤ left.old }
-{
-    let (taken, behind) = take_column(columns, at)?;
-    let value = match whnf(alloc, signature, rules, taken.term, left) {
-        Ok(value) => value,
-        Err(stop) => return Err(stop),
-    };
-    let parts = opened(alloc, taken.depth, &value)?;
-    let kept = refined_rows(alloc, &value, parts.len(), at, rows)?;
-    let evaluated = Column {
-        depth: taken.depth,
-        term: value,
-    };
-    put_columns(columns, evaluated, parts, behind)?;
-    Ok(kept)
-}
-
-/// Takes out the column at this place, with those behind it.
-fn take_column(columns: &mut Vec<Column>, at: usize) -> Result<(Column, Vec<Column>), NoMemory>
-    requires { at < vec_len columns.old }
-    ensures before { OnOk result (map column columns.new.items ≡ take at (map column columns.old.items)) }
-    ensures taken { IfOk result (λ c. slice_get (map column columns.old.items) at ≡ Some (column c.0)) }
-    ensures behind { IfOk result (λ c. map column c.1.items ≡ drop (at + 1) (map column columns.old.items)) }
-{
-    let behind = columns.split_off(at + 1)?;
-    let taken = columns.remove(at);
-    Ok((taken, behind))
-}
-
-/// Puts an evaluated column with its parts behind the columns, and others behind these.
-fn put_columns(
-    columns: &mut Vec<Column>,
-    evaluated: Column,
-    parts: Vec<Column>,
-    behind: Vec<Column>,
-) -> Result<(), NoMemory>
-    ensures { OnOk result (map column columns.new.items ≡ map column columns.old.items ++ column evaluated ∷ map column parts.items ++ map column behind.items) }
-{
-    let mut parts = parts;
-    let mut behind = behind;
-    columns.push(evaluated)?;
-    columns.append(&mut parts)?;
-    columns.append(&mut behind)?;
-    Ok(())
-}
-
 /// Whether a row that asks for no head is taken, with its captures.
 #[cycle(evaluation)]
 #[tactic(auto, using(crate::proofs::Trying::tried_fails, crate::proofs::Trying::tried_ends, crate::proofs::Trying::guards_end, crate::proofs::Trying::guards_fail, crate::proofs::Trying::tried_takes))]
-fn tried(
+fn tried<'a>(
     alloc: Global,
-    signature: &Signature,
-    rules: &[&Rule],
+    signature: &'a Signature,
+    rules: &[&'a Rule],
     row: &Row,
     columns: &mut Vec<Column>,
     left: &mut u64,
@@ -205,10 +153,10 @@ fn variables_of(source: &Source) -> u32
 
 /// The captures of a row from left to right; false where it fails.
 #[cycle(evaluation)]
-fn through(
+fn through<'a>(
     alloc: Global,
-    signature: &Signature,
-    rules: &[&Rule],
+    signature: &'a Signature,
+    rules: &[&'a Rule],
     cells: &[Cell],
     columns: &mut Vec<Column>,
     captures: &mut Vec<Option<Term>>,
@@ -238,10 +186,10 @@ fn through(
 
 /// What a cell captures in its column; false where its row fails.
 #[cycle(evaluation)]
-fn at_cell(
+fn at_cell<'a>(
     alloc: Global,
-    signature: &Signature,
-    rules: &[&Rule],
+    signature: &'a Signature,
+    rules: &[&'a Rule],
     cell: &Cell,
     column: &mut Column,
     captures: &mut Vec<Option<Term>>,
@@ -260,10 +208,10 @@ fn at_cell(
 }
 
 #[cycle(evaluation)]
-fn at_pattern(
+fn at_pattern<'a>(
     alloc: Global,
-    signature: &Signature,
-    rules: &[&Rule],
+    signature: &'a Signature,
+    rules: &[&'a Rule],
     pattern: &Pat,
     column: &mut Column,
     captures: &mut Vec<Option<Term>>,
@@ -298,10 +246,10 @@ fn at_pattern(
 
 /// The part of a column, normalised where it strays from the listed variables; false where it still does.
 #[cycle(evaluation)]
-fn escape(
+fn escape<'a>(
     alloc: Global,
-    signature: &Signature,
-    rules: &[&Rule],
+    signature: &'a Signature,
+    rules: &[&'a Rule],
     listed: &[u32],
     column: &mut Column,
     left: &mut u64,
@@ -328,10 +276,10 @@ fn escape(
 /// A part for a rule variable, against what the variable has already.
 #[cycle(evaluation)]
 #[tactic(auto, using(crate::proofs::Matched::matched_new))]
-fn matched(
+fn matched<'a>(
     alloc: Global,
-    signature: &Signature,
-    rules: &[&Rule],
+    signature: &'a Signature,
+    rules: &[&'a Rule],
     captures: &mut Vec<Option<Term>>,
     variable: u32,
     part: Term,
@@ -358,10 +306,10 @@ fn matched(
 
 /// Whether the guards of a row are met, in order.
 #[cycle(evaluation)]
-fn guarded(
+fn guarded<'a>(
     alloc: Global,
-    signature: &Signature,
-    rules: &[&Rule],
+    signature: &'a Signature,
+    rules: &[&'a Rule],
     cells: &[Cell],
     columns: &[Column],
     captures: &[Option<Term>],
@@ -391,10 +339,10 @@ fn guarded(
 
 /// Whether the guard of a cell is met, where it has one.
 #[cycle(evaluation)]
-fn guard_at(
+fn guard_at<'a>(
     alloc: Global,
-    signature: &Signature,
-    rules: &[&Rule],
+    signature: &'a Signature,
+    rules: &[&'a Rule],
     cell: &Cell,
     column: &Column,
     captures: &[Option<Term>],
@@ -413,10 +361,10 @@ fn guard_at(
 }
 
 #[cycle(evaluation)]
-fn guard_pattern(
+fn guard_pattern<'a>(
     alloc: Global,
-    signature: &Signature,
-    rules: &[&Rule],
+    signature: &'a Signature,
+    rules: &[&'a Rule],
     pattern: &Pat,
     column: &Column,
     captures: &[Option<Term>],

@@ -1,12 +1,11 @@
-use Rattle.std.proofs.Common.{◌≡◌, ◌∙◌, ◌<◌, ◌++◌, ◌∷◌, List, map, length, min, None, Some, arith, sym as flip, ap}
+use Rattle.std.proofs.Common.{◌≡◌, ◌∙◌, ◌<◌, map, length, min, None, Some, arith, sym as flip}
 use Rattle.std.proofs.lemmas.List.{map-set, length-map}
-use Rattle.dk_model.specs.Trees.{tree}
 use Rattle.dk_model.specs.Signatures.{plain_signature}
-use Rattle.dk_model.specs.Selection.{Column, capture_at, opened, refined_rows}
+use Rattle.dk_model.specs.Selection.{capture_at}
 use Rattle.dk_model.specs.Evaluation.{normal_of, comparison_of}
 use Rattle.plain_check.specs.Matrix.{captures_of, plain_cell, column, row}
 use Rattle.plain_check.specs.Selecting.{first_rigid}
-use Rattle.plain_check.proofs.Choosing.{row_fails, row_taken, row_ends, no_choice, advance_goes, got}
+use Rattle.plain_check.proofs.Choosing.{row_fails, row_taken, row_ends, no_choice, got}
 use Rattle.plain_check.proofs.Matched.{matched_new}
 use Rattle.plain_check.proofs.Through.{goes_on, fails_at, ends_at, passed_all, no_pass, guard_met, guard_fails, guard_ends, guards_met, no_guard}
 use Rattle.plain_check.proofs.+evaluation.Goals as goal
@@ -22,26 +21,13 @@ select::select-returns-in-Ok-Some-clause-gives t c =
 pub select::select-returns-in-Err-clause-gives : goal.select::select-returns-in-Err-clause-gives
 select::select-returns-in-Err-clause-gives t c =
     let e : first_rigid (map row c.loop-rows.rows.items) ≡ Some None = cc in
-    no_choice _ _ c.in-Err.stop _ _ (λ h. flip c.loop-rows.invariant.same ∙ row_ends _ _ _ _ _ _ e c.take_first-row.ensures.rows h) c.in-Err.ensures.gives
+    no_choice (plain_signature c.args.signature.now) c.args.matrix.symbol _ _ c.in-Err.stop _ _ (λ h. flip c.loop-rows.invariant.same ∙ row_ends _ _ _ _ _ _ e c.take_first-row.ensures.rows h) c.in-Err.ensures.gives
 
-pub select::select-loop-rows-preserved-in-Some-None : goal.select::select-loop-rows-preserved-in-Some-None
-select::select-loop-rows-preserved-in-Some-None t c =
+pub select::select-loop-rows-preserved : goal.select::select-loop-rows-preserved
+select::select-loop-rows-preserved t c =
     let e : first_rigid (map row c.loop-rows.rows.items) ≡ Some None = cc in
     let h = rw c.in-Ok-None.field-0-is at c.in-Ok-None.ensures.gives in
     record { same = row_fails _ _ _ _ _ _ _ _ e c.take_first-row.ensures.rows h ∙ c.loop-rows.invariant.same; less = omega arith }
-
-pub select::advance-returns-clause-gives : goal.select::advance-returns-clause-gives
-select::advance-returns-clause-gives t c =
-    let l : length (map column c.in_ok-parts.parts.items) ≡ length c.in_ok-parts.parts.items = length-map c.in_ok-parts.parts.items column in
-    let p : length (map column c.in_ok-parts.parts.items) ≡ length (opened c.in_ok-taken.taken.depth (tree c.in-Ok.value)) = ap length c.in_ok-parts.ensures in
-    let n : c.len.result ≡ length (opened c.in_ok-taken.taken.depth (tree c.in-Ok.value)) = omega (arith, l, p, c.len.ensures, c.in_ok-parts.parts.ok.0) in
-    let s : map column c.put_columns.new.columns.items ≡ map column c.take_column.new.columns.items ++ (c.in_ok-taken.taken.depth, tree c.in-Ok.value) ∷ map column c.in_ok-parts.parts.items ++ map column c.in_ok-taken.behind.items
-    = c.in_ok-put_columns.ensures in
-    advance_goes (plain_signature c.args.signature.now) c.args.at c.args.left.now c.whnf.new.left (map column c.args.columns.now.items) (map column c.take_column.new.columns.items) (map column c.in_ok-taken.behind.items)
-    (map column c.put_columns.new.columns.items) (map row c.args.rows.items) (map row c.in_ok-kept.kept.items) (column c.in_ok-taken.taken) (tree c.in-Ok.value)
-    c.in_ok-taken.ensures.taken c.in_ok-taken.ensures.before c.in_ok-taken.ensures.behind c.in-Ok.ensures.gives c.in-Ok.ensures.turned
-    (c.in_ok-kept.ensures ∙ ap (λ j. refined_rows (tree c.in-Ok.value) j c.args.at (map row c.args.rows.items)) n)
-    (s ∙ ap (λ (k : List Column). map column c.take_column.new.columns.items ++ (c.in_ok-taken.taken.depth, tree c.in-Ok.value) ∷ k ++ map column c.in_ok-taken.behind.items) c.in_ok-parts.ensures)
 
 -- a capture
 

@@ -1,10 +1,11 @@
-use Rattle.std.proofs.Common.{◌≡◌, ◌≤◌, ◌+◌, ◌*◌, map, vec_len, false}
+use Rattle.std.proofs.Common.{◌≡◌, ◌≤◌, ◌+◌, ◌*◌, map, vec_len, false, Some}
 use Rattle.dk_model.specs.Trees.{tree}
 use Rattle.dk_model.specs.Signatures.{plain_signature}
 use Rattle.dk_model.specs.Selection.{each_normal, through, guarded}
 use Rattle.dk_model.specs.Evaluation.{whnf_of, selection_of, comparison_of, normal_of}
 use Rattle.plain_check.specs.Machine.{trees, wound, is_application}
 use Rattle.plain_check.specs.Matrix.{plain_cell, column, row, captures_of}
+use Rattle.plain_check.specs.Pausing.{selected, resumed}
 use Rattle.plain_check.specs.Pending.{pending, comparisons}
 use Rattle.plain_check.proofs.Parts.{arguments_normal}
 use Rattle.plain_check.proofs.Through.{passed, guards_from}
@@ -13,7 +14,7 @@ use Rattle.plain_check.proofs.+evaluation.Given as goal
 -- sixteen for a unit, so that a call with the same units goes from a larger rank to a smaller one
 
 abbrev pub decreases-evaluate::whnf : goal.decreases-evaluate::whnf
-decreases-evaluate::whnf l = 16 * l.left.now
+decreases-evaluate::whnf l = 16 * l.left.now + 10
 
 abbrev pub decreases-compare::same : goal.decreases-compare::same
 decreases-compare::same l = 16 * l.left.now
@@ -54,29 +55,45 @@ decreases-select::through l = 16 * l.left.now + 4
 abbrev pub decreases-select::tried : goal.decreases-select::tried
 decreases-select::tried l = 16 * l.left.now + 5
 
-abbrev pub decreases-select::advance : goal.decreases-select::advance
-decreases-select::advance l = 16 * l.left.now + 1
-
 abbrev pub decreases-select::select : goal.decreases-select::select
 decreases-select::select l = 16 * l.left.now + 6
 
+abbrev pub decreases-evaluate::turn_by : goal.decreases-evaluate::turn_by
+decreases-evaluate::turn_by l = 16 * l.left.now + 7
+
 abbrev pub decreases-evaluate::rewrite : goal.decreases-evaluate::rewrite
-decreases-evaluate::rewrite l = 16 * l.left.now + 7
+decreases-evaluate::rewrite l = 16 * l.left.now + 8
+
+abbrev pub decreases-pause::resume : goal.decreases-pause::resume
+decreases-pause::resume l = 16 * l.left.now + 8
 
 abbrev pub decreases-evaluate::take_turn : goal.decreases-evaluate::take_turn
-decreases-evaluate::take_turn l = 16 * l.left.now + 8
+decreases-evaluate::take_turn l = 16 * l.left.now + 9
 
 -- the turns of a weak head form
 
-abbrev pub invariant-evaluate::whnf-loop-left : goal.invariant-evaluate::whnf-loop-left
-invariant-evaluate::whnf-loop-left l = record {
-  same : whnf_of (plain_signature l.signature) l.left (wound (tree l.head) (trees l.stack.items)) ≡ whnf_of (plain_signature l.fn.signature) l.fn.left (tree l.fn.term);
+abbrev pub invariant-evaluate::whnf-loop-next : goal.invariant-evaluate::whnf-loop-next
+invariant-evaluate::whnf-loop-next l = record {
+  same : resumed (plain_signature l.signature) l.pauses.items (whnf_of (plain_signature l.signature) l.left (wound (tree l.head) (trees l.stack.items)))
+      ≡ whnf_of (plain_signature l.fn.signature) l.fn.left (tree l.fn.term);
   less : l.left ≤ l.fn.left;
   head : is_application (tree l.head) ≡ false;
 }
 
-abbrev pub decreases-evaluate::whnf-loop-left : goal.decreases-evaluate::whnf-loop-left
-decreases-evaluate::whnf-loop-left l = l.left
+abbrev pub decreases-evaluate::whnf-loop-next : goal.decreases-evaluate::whnf-loop-next
+decreases-evaluate::whnf-loop-next l = l.left
+
+-- the selections that wait for a value
+
+abbrev pub invariant-pause::resume-loop-pause : goal.invariant-pause::resume-loop-pause
+invariant-pause::resume-loop-pause l = record {
+  same : resumed (plain_signature l.signature) l.pauses.items (Some (tree l.value, l.left))
+      ≡ resumed (plain_signature l.fn.signature) l.fn.pauses.items (Some (tree l.fn.value, l.fn.left));
+  less : l.left ≤ l.fn.left;
+}
+
+abbrev pub decreases-pause::resume-loop-pause : goal.decreases-pause::resume-loop-pause
+decreases-pause::resume-loop-pause l = vec_len l.pauses
 
 -- the pairs of a comparison
 
@@ -106,12 +123,12 @@ decreases-normal::each_normal-loop-argument l = vec_len l.stack
 abbrev pub invariant-select::select-loop-rows : goal.invariant-select::select-loop-rows
 invariant-select::select-loop-rows l = record {
   same : selection_of (plain_signature l.signature) l.left (map column l.columns.items) (map row l.rows.items)
-      ≡ selection_of (plain_signature l.fn.signature) l.fn.left (map column l.fn.columns.items) (map row l.fn.rows.items);
+      ≡ selected (plain_signature l.fn.signature) l.fn.matrix l.fn.left;
   less : l.left ≤ l.fn.left;
 }
 
 abbrev pub decreases-select::select-loop-rows : goal.decreases-select::select-loop-rows
-decreases-select::select-loop-rows l = l.left + vec_len l.rows
+decreases-select::select-loop-rows l = vec_len l.rows
 
 -- the cells of a row
 

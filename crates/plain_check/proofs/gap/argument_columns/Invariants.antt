@@ -3,7 +3,7 @@ use Rattle.dk_model.specs.Trees.{tree}
 use Rattle.dk_model.specs.Spines.{arguments}
 use Rattle.plain_check.specs.Spine.{behind_references}
 use Rattle.plain_check.specs.Matrix.{column}
-use Rattle.plain_check.proofs.matrix.argument_columns.Given as goal
+use Rattle.plain_check.proofs.gap.argument_columns.Given as goal
 
 abbrev pub invariant-loop-argument : goal.invariant-loop-argument
 invariant-loop-argument l = map column l.columns.items ++ map (λ a. (l.depth, a)) (reverse (behind_references l.arguments.items)) ≡ map (λ a. (l.depth, a)) (arguments (tree l.fn.term))
