@@ -169,7 +169,10 @@ impl Parser {
     fn refuse(&mut self, line: u32, code: Code) -> Result<Step, Fault>
         ensures answer { result ≡ Err (Fault.Refused code) }
         ensures after { parsing self.new ≡ record (parsing self.old) {
-            begun = Some line; part = plain.command_due; fault = Some code } }
+          begun = Some line;
+          part = plain.command_due;
+          fault = Some code;
+        } }
     {
         self.begun = Some(line);
         drop(replace(&mut *self.part, Part::CommandDue));
