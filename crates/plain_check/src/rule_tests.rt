@@ -310,7 +310,7 @@ fn nesting_without_end_takes_the_budget(rt: HostRuntime) -> Result<(), Fail> {
     let alloc = rt.alloc();
     let signature = signature(alloc)?;
     let rules = rules_in(alloc, &signature)?;
-    let mut left = 1_000_000;
+    let mut left = 200_000;
     let term = Term::Sym(ENDLESS);
     let found = whnf(alloc, &signature, rules.as_slice(), term, &mut left);
     assert!(rt; matches!(&found, Err(Stop::Ended)));
