@@ -17,7 +17,7 @@ use Rattle.verdict_book.specs.declared.outcome.Outcome.{Outcome}
 use Rattle.verdict_book.specs.declared.outcome.Outcome.TheVariants.{Accepted, Stopped, Unread}
 use Rattle.dk_check_run.specs.declared.reader.Reader.{Reader}
 use Rattle.dk_check_run.specs.Outcomes.{FileReport, no_theory, report_from, report_of_bytes, report_of_reading, with_names}
-use Rattle.dk_check_run.specs.Theories.{Checked, IsSound, Judges, checked_of}
+use Rattle.dk_check_run.specs.Theories.{Checked, IsKept, Judges, checked_of}
 
 -- these commands, the first of a file, are accepted and lead to this theory: whatever follows, the report begins with
 -- their `ok` lines and goes on from the theory
@@ -99,7 +99,7 @@ StopsAtBytes limits budget given names =
 
 -- the command that is due may be judged, and has a number
 pub record IsReady (r : Reader) : Type 0 where
-  pub sound : IsSound (checked_of r.theory)
+  pub sound : IsKept r.theory
   pub limit : r.limits.commands < 4294967295
   pub few : length (checked_of r.theory).shown ≤ r.limits.commands
 

@@ -9,6 +9,7 @@ use Rattle.scope_terms.specs.Scopes.{names_after, scope_of}
 use Rattle.dk_model.specs.Signatures.{PlainEntry, PlainSignature, plain_signature}
 use Rattle.dk_model.specs.Scoping.{PlainCommand}
 use Rattle.typing_model.specs.Laws.{IsNumbered}
+use Rattle.plain_check.specs.Matrix.{AreRuled}
 use Rattle.dk_check_run.specs.declared.theory.Theory.{Theory as Kept}
 use Rattle.dk_check_run.specs.Outcomes.{Theory, no_theory, scoped_entry, theory_after, verdict_after, verdict_at, shown_name}
 
@@ -28,6 +29,11 @@ nothing_checked = record { theory = no_theory; shown = [] }
 pub record IsSound (c : Checked) : Type 0 where
   pub counted : c.theory.names.count ≡ length c.shown
   pub numbered : IsNumbered c.theory.signature
+
+-- a theory that is sound, and knows the places of its rule commands
+pub record IsKept (t : Kept) : Type 0 where
+  pub sound : IsSound (checked_of t)
+  pub ruled : AreRuled t.signature t.ruled.items
 
 abbrev pub checked_after : Checked → ℕ → WrittenForm → Checked
 checked_after c budget form = record { theory = theory_after c.theory budget form; shown = c.shown ++ shown_name form ∷ [] }

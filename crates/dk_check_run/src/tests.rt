@@ -148,7 +148,11 @@ const FILES: [(&str, u8, &str); 57] = [
         1,
         "ok 1 a\nok 2 P\nrefused 3 line 1 E10\n",
     ),
-    ("a : Type. def f : a := f.", 1, "ok 1 a\nrefused 2 line 1 E10\n"),
+    (
+        "a : Type. def f : a := f.",
+        1,
+        "ok 1 a\nrefused 2 line 1 E10\n",
+    ),
     (
         "a : Type. def f : Type. x : a. thm t : f := x. [] f --> a.",
         1,
@@ -171,7 +175,11 @@ const FILES: [(&str, u8, &str); 57] = [
     ),
     ("[x, x] f x --> x.", 1, "refused 1 line 1 E13\n"),
     ("z : Type. [] z --> z.", 1, "ok 1 z\nrefused 2 line 1 E30\n"),
-    ("o : Type. [x] x --> o.", 1, "ok 1 o\nrefused 2 line 1 E31\n"),
+    (
+        "o : Type. [x] x --> o.",
+        1,
+        "ok 1 o\nrefused 2 line 1 E31\n",
+    ),
     (
         "o : Type. def f : (o -> o) -> o. [F] f (x => F x x) --> F.",
         1,
@@ -251,11 +259,22 @@ const BUDGETS: [(&str, &str, u8, &str); 7] = [
         6,
         "ok 1 c\nok 2 c\nok 3 a\nok 4 x\nbudget 5 line 1 1000\n",
     ),
-    (NUMBERS, "--budget=55", 0, "ok 1 nat\nok 2 z\nok 3 s\nok 4 plus\nok 5 plus\nok 6 eq\nok 7 refl\nok 8 two\naccepted 8\n"),
-    (NUMBERS, "--budget=54", 6, "ok 1 nat\nok 2 z\nok 3 s\nok 4 plus\nok 5 plus\nok 6 eq\nok 7 refl\nbudget 8 line 9 54\n"),
+    (
+        NUMBERS,
+        "--budget=55",
+        0,
+        "ok 1 nat\nok 2 z\nok 3 s\nok 4 plus\nok 5 plus\nok 6 eq\nok 7 refl\nok 8 two\naccepted 8\n",
+    ),
+    (
+        NUMBERS,
+        "--budget=54",
+        6,
+        "ok 1 nat\nok 2 z\nok 3 s\nok 4 plus\nok 5 plus\nok 6 eq\nok 7 refl\nbudget 8 line 9 54\n",
+    ),
 ];
 
-const NUMBERS: &str = "nat : Type.\nz : nat.\ns : nat -> nat.\ndef plus : nat -> nat -> nat.\n[n] plus z n --> n\n[m, n] plus (s m) n --> s (plus m n).\neq : nat -> nat -> Type.\nrefl : n : nat -> eq n n.\nthm two : eq (plus (s (s z)) (s (s z))) (s (s (s (s z)))) := refl (s (s (s (s z)))).\n";
+const NUMBERS: &str =
+    "nat : Type.\nz : nat.\ns : nat -> nat.\ndef plus : nat -> nat -> nat.\n[n] plus z n --> n\n[m, n] plus (s m) n --> s (plus m n).\neq : nat -> nat -> Type.\nrefl : n : nat -> eq n n.\nthm two : eq (plus (s (s z)) (s (s z))) (s (s (s (s z)))) := refl (s (s (s (s z)))).\n";
 
 #[test]
 fn counts_units(rt: HostRuntime) -> Result<(), Fail> {

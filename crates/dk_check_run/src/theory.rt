@@ -2,12 +2,13 @@
 ghost use Rattle.std.specs.Prelude.{◌≡◌, ◌<◌, ◌≤◌, ◌∷◌, ◌++◌, [], IfOk, IfErr, OnOk, OnErr, length, map};
 ghost use Rattle.dk_model.specs.Signatures.{plain_entry};
 ghost use Rattle.dk_parser.specs.Written.{written_form, written_pattern, written_rule, written_rules};
+ghost use Rattle.plain_check.specs.Matrix.{AreRuled};
 ghost use Rattle.dk_check_run.specs.Outcomes.{head_name, shown_name, verdict_after};
-ghost use Rattle.dk_check_run.specs.Theories.{AcceptsWith, Adds, IsOtherVerdict, IsSound, Judges, checked_of, nothing_checked};
+ghost use Rattle.dk_check_run.specs.Theories.{AcceptsWith, Adds, IsKept, IsOtherVerdict, Judges, checked_of, nothing_checked};
 
 use dk_model::{Code, Entry, Fault, Limits, Listed, NoMemory, Signature, Verdict};
 use dk_parser::{Raw, RawForm, RawPat, RawRule};
-use plain_check::enter_plain;
+use plain_check::{add_entry, enter_plain};
 use scope_terms::Names;
 use std::alloc::Global;
 
@@ -16,6 +17,8 @@ use std::alloc::Global;
 pub struct Theory {
     names: Names,
     signature: Signature,
+    // The places of the rule commands in the signature.
+    ruled: Vec<usize>,
     shown: Vec<Listed<u8>>,
 }
 
@@ -52,7 +55,8 @@ fn head_name(alloc: Global, left: &RawPat) -> Result<Listed<u8>, NoMemory>
 
 impl Theory {
     pub fn new(alloc: Global) -> Result<Theory, NoMemory>
-        ensures { IfOk result (λ t. checked_of t ≡ nothing_checked) }
+        ensures empty { IfOk result (λ t. checked_of t ≡ nothing_checked) }
+        ensures sound { IfOk result (λ t. IsKept t) }
     {
         let names = Names::new(alloc)?;
         Ok(Theory {
@@ -60,6 +64,7 @@ impl Theory {
             signature: Signature {
                 entries: Listed::new(alloc),
             },
+            ruled: Vec::new(alloc),
             shown: Vec::new(alloc),
         })
     }
@@ -75,9 +80,9 @@ impl Theory {
     ///
     /// After another verdict, want of memory too, the names of the `ok` lines are as before, and the theory is let go.
     pub fn judge(&mut self, alloc: Global, limits: &Limits, budget: u64, raw: Raw) -> Verdict
-        requires sound { IsSound (checked_of self.old) }
+        requires sound { IsKept self.old }
         requires few { limits.now.commands < 4294967296 }
-        ensures sound { result ≡ Verdict.Accepted → IsSound (checked_of self.new) }
+        ensures sound { result ≡ Verdict.Accepted → IsKept self.new }
         ensures few { result ≡ Verdict.Accepted → length (checked_of self.new).shown ≤ limits.now.commands }
         ensures judged { Judges limits.now budget (checked_of self.old) (written_form raw.form) result (checked_of self.new) }
     {
@@ -99,12 +104,20 @@ impl Theory {
     // The entry of the next command where it is accepted, whose name is declared then; else its verdict.
     fn checked_entry(&mut self, alloc: Global, budget: u64, raw: &Raw) -> Result<Entry, Verdict>
         requires few { (checked_of self.old).theory.names.count < 4294967295 }
+        requires ruled { AreRuled self.old.signature self.old.ruled.items }
         ensures ok { IfOk result (λ e. AcceptsWith (checked_of self.old) budget (written_form raw.now.form) (plain_entry e) (checked_of self.new)) }
         ensures err { IfErr result (λ v. IsOtherVerdict (verdict_after (checked_of self.old).theory budget (written_form raw.now.form)) v) }
         ensures kept { (checked_of self.new).shown ≡ (checked_of self.old).shown }
+        ensures ruled { AreRuled self.new.signature self.new.ruled.items }
     {
         match self.names.scope(alloc, raw) {
-            Ok(scoped) => match enter_plain(alloc, &self.signature, &scoped, budget) {
+            Ok(scoped) => match enter_plain(
+                alloc,
+                &self.signature,
+                self.ruled.as_slice(),
+                &scoped,
+                budget,
+            ) {
                 Ok(entry) => Ok(entry),
                 Err(verdict) => Err(verdict),
             },
@@ -115,10 +128,12 @@ impl Theory {
 
     // Adds the entry of an accepted command, and its name.
     fn add(&mut self, entry: Entry, name: Listed<u8>) -> Result<(), NoMemory>
+        requires { AreRuled self.old.signature self.old.ruled.items }
         ensures ok { OnOk result (Adds (checked_of self.old) (plain_entry entry) name (checked_of self.new)) }
         ensures err { OnErr result ((checked_of self.new).shown ≡ (checked_of self.old).shown) }
+        ensures ruled { OnOk result (AreRuled self.new.signature self.new.ruled.items) }
     {
-        self.signature.entries.push(entry)?;
+        add_entry(&mut self.signature, &mut self.ruled, entry)?;
         self.shown.push(name)?;
         Ok(())
     }

@@ -15,4 +15,5 @@ mod Shaping
 mod Mentioning
 mod Refining
 mod Sources
+pub mod Places
 mod References

@@ -1,5 +1,5 @@
 -- How the selecting code holds its captures and its matrix, as the plain data of a selection (docs/evaluation.md).
-use Rattle.std.specs.Prelude.{ℕ, ◌≡◌, ◌+◌, ◌-◌, Option, Bool, true, ◌&&◌, List, [], ◌∷◌, ◌++◌, map, take, drop, replicate, slice_get, eqb, length}
+use Rattle.std.specs.Prelude.{ℕ, ◌≡◌, ◌+◌, ◌-◌, Option, Some, None, Bool, true, ◌&&◌, List, [], ◌∷◌, ◌++◌, map, take, drop, replicate, slice_get, eqb, length}
 use Rattle.std.specs.Borrow.{Bor}
 use Rattle.std.specs.declared.vec.Vec.{Vec}
 use Rattle.std.specs.declared.alloc.Global.{Global}
@@ -53,6 +53,29 @@ entry_rules (rules_entry rs) = rs
 abbrev pub all_rules : PlainSignature → List PlainRule
 all_rules [] = []
 all_rules (e ∷ es) = entry_rules e ++ all_rules es
+
+abbrev pub rules_at_place : Option PlainEntry → List PlainRule
+rules_at_place None = []
+rules_at_place (Some e) = entry_rules e
+
+-- the rules of the commands at these places
+abbrev pub rules_at : PlainSignature → List ℕ → List PlainRule
+rules_at S [] = []
+rules_at S (p ∷ ps) = rules_at_place (slice_get S p) ++ rules_at S ps
+
+-- the place of an entry, where it is one of rules
+abbrev pub place_of : ℕ → PlainEntry → List ℕ
+place_of n (symbol_entry s t b) = []
+place_of n (rules_entry rs) = n ∷ []
+
+-- the places of the rule commands, in file order, the first entry being at place `n`
+abbrev pub rule_places : ℕ → PlainSignature → List ℕ
+rule_places n [] = []
+rule_places n (e ∷ es) = place_of n e ++ rule_places (n + 1) es
+
+-- that these are the places of the signature's rule commands, in file order
+abbrev pub AreRuled : Signature → List ℕ → Type 0
+AreRuled s ruled = ruled ≡ rule_places 0 (plain_signature s)
 
 -- that these are the rules of the signature's rule commands, in file order
 abbrev pub AreRules : Signature → List (Bor Rule) → Type 0

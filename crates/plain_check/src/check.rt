@@ -7,14 +7,14 @@ ghost use Rattle.dk_model.specs.Verdicts.{is_untyped, verdict, rules_checked, en
 ghost use Rattle.dk_model.specs.Shapes.{kept_rules};
 ghost use Rattle.pattern_compile.specs.Answers.{command_shapes};
 ghost use Rattle.plain_check.specs.Given.{fault_verdict, GivesShapes};
-ghost use Rattle.plain_check.specs.Matrix.{AreRules};
+ghost use Rattle.plain_check.specs.Matrix.{AreRuled, AreRules};
 ghost use Rattle.plain_check.specs.Clauses.{due, IsDue, inferred_for, IsEntryOf, ChecksDeclaration, ChecksBody, GivesSort, GivesBodyType};
 
 use crate::context::Context;
 use crate::expect::{as_sort, not_kind};
 use crate::fault::TypeFault;
 use crate::infer::{check, infer};
-use crate::matrix::rules_in;
+use crate::matrix::{push_place, ruled_in, rules_in};
 use dk_model::{
     Entry, Fault, Listed, NoMemory, Rule, Scoped, ScopedRule, Signature, SymSort, Term, Verdict,
 };
@@ -26,13 +26,30 @@ use std::alloc::Global;
 /// The check may take `budget` units; `Ended` says that it needs more. `Memory` says nothing of the command.
 ///
 /// Rules have the verdict of their shapes, which take no unit (docs/rules.md); their types aren't looked at.
-#[tactic(auto, using(crate::proofs::Verdict::fit_verdict, crate::proofs::Shaping::shapes_accepted, crate::proofs::Shaping::shapes_refused))]
 pub fn check_plain(alloc: Global, signature: &Signature, command: &Scoped, budget: u64) -> Verdict
+    ensures { IsDue signature.now command.now budget result }
+{
+    match ruled_in(alloc, signature) {
+        Ok(ruled) => check_with(alloc, signature, ruled.as_slice(), command, budget),
+        Err(_) => Verdict::Memory,
+    }
+}
+
+/// The same where the places of the signature's rule commands are known.
+#[tactic(auto, using(crate::proofs::Verdict::fit_verdict, crate::proofs::Shaping::shapes_accepted, crate::proofs::Shaping::shapes_refused))]
+fn check_with(
+    alloc: Global,
+    signature: &Signature,
+    ruled: &[usize],
+    command: &Scoped,
+    budget: u64,
+) -> Verdict
+    requires { AreRuled signature.now ruled.now }
     ensures { IsDue signature.now command.now budget result }
 {
     match command {
         Scoped::Declare { typ, body, .. } => {
-            let rules = match rules_in(alloc, signature) {
+            let rules = match rules_in(alloc, signature, ruled) {
                 Ok(rules) => rules,
                 Err(_) => return Verdict::Memory,
             };
@@ -65,7 +82,6 @@ fn shaped(
 }
 
 /// The type of the body of a definition without a declared type, where the command is accepted; else its verdict.
-#[tactic(auto, using(crate::proofs::Verdict::fault_refuses))]
 pub fn infer_plain(
     alloc: Global,
     signature: &Signature,
@@ -78,13 +94,38 @@ pub fn infer_plain(
     ensures err { IfErr result (λ v. IsDue signature.now command.now budget v) }
     ensures refused { IfErr result (λ v. ¬ (v ≡ Verdict.Accepted)) }
 {
+    match ruled_in(alloc, signature) {
+        Ok(ruled) => match infer_with(alloc, signature, ruled.as_slice(), command, budget) {
+            Ok(typ) => Ok(typ),
+            Err(verdict) => Err(verdict),
+        },
+        Err(_) => Err(Verdict::Memory),
+    }
+}
+
+/// The same where the places of the signature's rule commands are known.
+#[tactic(auto, using(crate::proofs::Verdict::fault_refuses))]
+fn infer_with(
+    alloc: Global,
+    signature: &Signature,
+    ruled: &[usize],
+    command: &Scoped,
+    budget: u64,
+) -> Result<Term, Verdict>
+    requires ruled { AreRuled signature.now ruled.now }
+    requires untyped { IsTrue (is_untyped (plain_command command.now)) }
+    ensures ok { IfOk result (λ t. inferred_for signature.now command.now budget ≡ Some (tree t)) }
+    ensures accepted { IfOk result (λ _. due signature.now command.now budget ≡ Verdict.Accepted) }
+    ensures err { IfErr result (λ v. IsDue signature.now command.now budget v) }
+    ensures refused { IfErr result (λ v. ¬ (v ≡ Verdict.Accepted)) }
+{
     match command {
         Scoped::Declare {
             typ: None,
             body: Some(body),
             ..
         } => {
-            let rules = match rules_in(alloc, signature) {
+            let rules = match rules_in(alloc, signature, ruled) {
                 Ok(rules) => rules,
                 Err(_) => return Err(Verdict::Memory),
             };
@@ -110,21 +151,26 @@ pub fn is_untyped(command: &Scoped) -> bool
 
 /// The entry that a command adds, where it is accepted; else its verdict.
 ///
+/// `ruled` has the places of the signature's rule commands, in file order, so that a long signature isn't walked for
+/// each command.
+///
 /// The entry has the declared type without annotations, or the inferred one; a definition keeps its body, a theorem
 /// none. Rules are kept without the annotations in guards and right sides.
 pub fn enter_plain(
     alloc: Global,
     signature: &Signature,
+    ruled: &[usize],
     command: &Scoped,
     budget: u64,
 ) -> Result<Entry, Verdict>
+    requires { AreRuled signature.now ruled.now }
     ensures ok { IfOk result (λ e. IsEntryOf signature.now command.now (inferred_for signature.now command.now budget) e) }
     ensures accepted { IfOk result (λ _. due signature.now command.now budget ≡ Verdict.Accepted) }
     ensures err { IfErr result (λ v. IsDue signature.now command.now budget v) }
     ensures refused { IfErr result (λ v. ¬ (v ≡ Verdict.Accepted)) }
 {
     match command {
-        Scoped::Declare { .. } => enter_declaration(alloc, signature, command, budget),
+        Scoped::Declare { .. } => enter_declaration(alloc, signature, ruled, command, budget),
         Scoped::Rules(rules) => enter_rules(alloc, signature, rules, budget),
     }
 }
@@ -156,9 +202,11 @@ fn enter_rules(
 fn enter_declaration(
     alloc: Global,
     signature: &Signature,
+    ruled: &[usize],
     command: &Scoped,
     budget: u64,
 ) -> Result<Entry, Verdict>
+    requires { AreRuled signature.now ruled.now }
     ensures ok { IfOk result (λ e. IsEntryOf signature.now command.now (inferred_for signature.now command.now budget) e) }
     ensures accepted { IfOk result (λ _. due signature.now command.now budget ≡ Verdict.Accepted) }
     ensures err { IfErr result (λ v. IsDue signature.now command.now budget v) }
@@ -166,12 +214,12 @@ fn enter_declaration(
 {
     let mut inferred = None;
     if is_untyped(command) {
-        match infer_plain(alloc, signature, command, budget) {
+        match infer_with(alloc, signature, ruled, command, budget) {
             Ok(typ) => inferred = Some(typ),
             Err(verdict) => return Err(verdict),
         }
     } else {
-        match check_plain(alloc, signature, command, budget) {
+        match check_with(alloc, signature, ruled, command, budget) {
             Verdict::Accepted => {}
             verdict => return Err(verdict),
         }
@@ -306,11 +354,20 @@ fn entry_of(
     }
 }
 
-/// Adds the entry of an accepted command to the signature.
-pub fn add_entry(signature: &mut Signature, entry: Entry) -> Result<(), NoMemory>
-    ensures ok { OnOk result (plain_signature signature.new ≡ plain_signature signature.old ++ plain_entry entry ∷ []) }
-    ensures err { OnErr result (plain_signature signature.new ≡ plain_signature signature.old) }
+/// Adds the entry of an accepted command to the signature, and the place of rules to their places.
+///
+/// Where memory ends, either may have grown: both are to be let go.
+#[tactic(auto, using(crate::proofs::Places::entry_added))]
+pub fn add_entry(
+    signature: &mut Signature,
+    ruled: &mut Vec<usize>,
+    entry: Entry,
+) -> Result<(), NoMemory>
+    requires { AreRuled signature.old ruled.old.items }
+    ensures entry { OnOk result (plain_signature signature.new ≡ plain_signature signature.old ++ plain_entry entry ∷ []) }
+    ensures ruled { OnOk result (AreRuled signature.new ruled.new.items) }
 {
+    push_place(ruled, signature.entries.len(), &entry)?;
     signature.entries.push(entry)?;
     Ok(())
 }

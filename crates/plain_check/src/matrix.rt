@@ -2,12 +2,12 @@
 //!
 //! A row is a rule with what it still asks of each column. Where a column gets a value, the rows that its head rules out
 //! are dropped, and the others ask of its parts what their patterns ask.
-ghost use Rattle.std.specs.Prelude.{◌≡◌, ◌+◌, ◌<◌, ◌++◌, [], ◌∷◌, IfOk, IfSome, length, map, take, drop, replicate};
+ghost use Rattle.std.specs.Prelude.{◌≡◌, ◌+◌, ◌<◌, ◌++◌, [], ◌∷◌, IfOk, IfSome, length, map, take, drop, replicate, slice_get};
 ghost use Rattle.dk_model.specs.Trees.{tree, symbol, variable};
-ghost use Rattle.dk_model.specs.Signatures.{plain_signature, plain_rule};
+ghost use Rattle.dk_model.specs.Signatures.{plain_signature, plain_rule, plain_entry};
 ghost use Rattle.dk_model.specs.Spines.{head as head_of, arguments};
 ghost use Rattle.dk_model.specs.Selection.{blank, cell, is_rigid, rigid_at, heads_same, is_bare, cell_at, refined_rows, rules_of, width, rows_for};
-ghost use Rattle.plain_check.specs.Matrix.{pattern_cell, plain_cell, source_rule, row as row_of, rules_behind, AreRules, is_kept, cells_after, refined_cells, first_cells, own_rules, Appends};
+ghost use Rattle.plain_check.specs.Matrix.{pattern_cell, plain_cell, source_rule, row as row_of, rules_behind, entry_rules, rules_at, rules_at_place, place_of, AreRuled, AreRules, is_kept, cells_after, refined_cells, first_cells, own_rules, Appends};
 
 use crate::infer::spine;
 use dk_model::{Entry, NoMemory, Pat, Rule, Signature, Term};
@@ -286,18 +286,85 @@ pub fn refined_rows<'a>(
     Ok(kept)
 }
 
-/// All rules of the signature's rule commands, in file order.
-pub fn rules_in<'a>(alloc: Global, signature: &'a Signature) -> Result<Vec<&'a Rule>, NoMemory>
+/// All rules of the signature's rule commands, in file order, where `ruled` has the places of these commands.
+#[tactic(auto, using(crate::proofs::Places::at_places))]
+pub fn rules_in<'a>(
+    alloc: Global,
+    signature: &'a Signature,
+    ruled: &[usize],
+) -> Result<Vec<&'a Rule>, NoMemory>
+    requires { AreRuled signature.now ruled.now }
     ensures { IfOk result (λ rules. AreRules signature.now rules.items) }
 {
+    let rules = rules_at(alloc, signature, ruled)?;
+    Ok(rules)
+}
+
+/// The rules of the commands at these places, in this order.
+fn rules_at<'a>(
+    alloc: Global,
+    signature: &'a Signature,
+    places: &[usize],
+) -> Result<Vec<&'a Rule>, NoMemory>
+    ensures { IfOk result (λ rules. rules_behind rules.items ≡ rules_at (plain_signature signature.now) places.now) }
+{
     let mut rules = Vec::new(alloc);
-    for entry in signature.entries.as_slice() {
-        match entry {
-            Entry::Rules(declared) => push_rules(&mut rules, declared.as_slice())?,
-            Entry::Symbol { .. } => {}
-        }
+    for place in places {
+        push_rules_at(&mut rules, signature, *place)?;
     }
     Ok(rules)
+}
+
+#[tactic(auto, using(crate::proofs::Places::entry_here, crate::proofs::Places::nothing_here))]
+fn push_rules_at<'a>(
+    rules: &mut Vec<&'a Rule>,
+    signature: &'a Signature,
+    place: usize,
+) -> Result<(), NoMemory>
+    ensures { IfOk result (λ _. rules_behind rules.new.items
+        ≡ rules_behind rules.old.items ++ rules_at_place (slice_get (plain_signature signature.now) place)) }
+{
+    match signature.entries.get(place) {
+        Some(entry) => push_entry_rules(rules, entry)?,
+        None => {}
+    }
+    Ok(())
+}
+
+fn push_entry_rules<'a>(rules: &mut Vec<&'a Rule>, entry: &'a Entry) -> Result<(), NoMemory>
+    ensures { IfOk result (λ _. rules_behind rules.new.items
+        ≡ rules_behind rules.old.items ++ entry_rules (plain_entry entry.now)) }
+{
+    match entry {
+        Entry::Rules(declared) => push_rules(rules, declared.as_slice())?,
+        Entry::Symbol { .. } => {}
+    }
+    Ok(())
+}
+
+/// The places of the signature's rule commands, in file order.
+#[tactic(auto, using(crate::proofs::Places::place_after))]
+pub fn ruled_in(alloc: Global, signature: &Signature) -> Result<Vec<usize>, NoMemory>
+    ensures { IfOk result (λ ruled. AreRuled signature.now ruled.items) }
+{
+    let mut ruled = Vec::new(alloc);
+    let mut place = 0;
+    for entry in signature.entries.as_slice() {
+        push_place(&mut ruled, place, entry)?;
+        place += 1;
+    }
+    Ok(ruled)
+}
+
+/// Adds the place of an entry, where it is one of rules.
+pub fn push_place(ruled: &mut Vec<usize>, place: usize, entry: &Entry) -> Result<(), NoMemory>
+    ensures { IfOk result (λ _. ruled.new.items ≡ ruled.old.items ++ place_of place (plain_entry entry.now)) }
+{
+    match entry {
+        Entry::Rules(_) => ruled.push(place)?,
+        Entry::Symbol { .. } => {}
+    }
+    Ok(())
 }
 
 fn push_rules<'a>(rules: &mut Vec<&'a Rule>, declared: &'a [Rule]) -> Result<(), NoMemory>

@@ -2,7 +2,7 @@
 use crate::compare::same;
 use crate::evaluate::whnf;
 use crate::fault::Stop;
-use crate::matrix::rules_in;
+use crate::matrix::{ruled_in, rules_in};
 use dk_model::{Entry, Listed, NoMemory, Pat, Rule, Signature, SymSort, Term, make_app, make_bare};
 use std::alloc::Global;
 use std::test::Fail;
@@ -210,7 +210,8 @@ fn row(alloc: Global, number: usize) -> Result<(Term, Term), NoMemory> {
 /// Whether the row's term has its weak head form with so many units and no fewer.
 fn takes(alloc: Global, number: usize, units: u64) -> Result<bool, NoMemory> {
     let signature = signature(alloc)?;
-    let rules = rules_in(alloc, &signature)?;
+    let ruled = ruled_in(alloc, &signature)?;
+    let rules = rules_in(alloc, &signature, ruled.as_slice())?;
     let (term, value) = row(alloc, number)?;
     let mut left = units.saturating_sub(1);
     let short = whnf(
@@ -254,7 +255,8 @@ fn rules_are_taken_in_order_with_their_units(rt: HostRuntime) -> Result<(), Fail
 fn sums_are_compared_by_their_parts(rt: HostRuntime) -> Result<(), Fail> {
     let alloc = rt.alloc();
     let signature = signature(alloc)?;
-    let rules = rules_in(alloc, &signature)?;
+    let ruled = ruled_in(alloc, &signature)?;
+    let rules = rules_in(alloc, &signature, ruled.as_slice())?;
     let four = call_two(alloc, EQ, numeral(alloc, 4)?, numeral(alloc, 4)?)?;
     let sum = call_two(alloc, PLUS, numeral(alloc, 2)?, numeral(alloc, 2)?)?;
     let other = call_two(alloc, EQ, sum, numeral(alloc, 4)?)?;
@@ -293,7 +295,8 @@ fn selections_wait_fifty_thousand_deep(rt: HostRuntime) -> Result<(), Fail> {
     let alloc = rt.alloc();
     let mut signature = signature(alloc)?;
     let term = nested(alloc, 50_000, &mut signature)?;
-    let rules = rules_in(alloc, &signature)?;
+    let ruled = ruled_in(alloc, &signature)?;
+    let rules = rules_in(alloc, &signature, ruled.as_slice())?;
     for (units, expected) in [(150_000, false), (150_001, true)] {
         let mut left = units;
         let term = term.copy(alloc)?;
@@ -309,7 +312,8 @@ fn selections_wait_fifty_thousand_deep(rt: HostRuntime) -> Result<(), Fail> {
 fn nesting_without_end_takes_the_budget(rt: HostRuntime) -> Result<(), Fail> {
     let alloc = rt.alloc();
     let signature = signature(alloc)?;
-    let rules = rules_in(alloc, &signature)?;
+    let ruled = ruled_in(alloc, &signature)?;
+    let rules = rules_in(alloc, &signature, ruled.as_slice())?;
     let mut left = 200_000;
     let term = Term::Sym(ENDLESS);
     let found = whnf(alloc, &signature, rules.as_slice(), term, &mut left);

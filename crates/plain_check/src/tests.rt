@@ -44,9 +44,10 @@ fn outcome(alloc: Global, commands: &[Scoped], budget: u64) -> Result<(usize, Ve
     let mut signature = Signature {
         entries: Listed::new(alloc),
     };
+    let mut ruled = Vec::new(alloc);
     for (i, command) in commands.iter().enumerate() {
-        match enter_plain(alloc, &signature, command, budget) {
-            Ok(entry) => add_entry(&mut signature, entry)?,
+        match enter_plain(alloc, &signature, ruled.as_slice(), command, budget) {
+            Ok(entry) => add_entry(&mut signature, &mut ruled, entry)?,
             Err(verdict) => return Ok((i + 1, verdict)),
         }
     }
