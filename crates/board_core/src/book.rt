@@ -98,7 +98,8 @@ impl<J> Book<J> {
     /// The job of this number.
     pub fn job(&self, number: u32) -> &Arc<J>
         requires { (0 < number) × (number ≤ length self.now.jobs) }
-        ensures { IsSomeAnd (slice_get self.now.jobs (number - 1)) (λ j. j.0 ≡ arc_value result.now) }
+        ensures { IsSomeAnd (slice_get self.now.jobs (number - 1))
+            (λ j. j.0 ≡ arc_value result.now) }
     {
         &self.jobs[number as usize - 1].job
     }

@@ -76,7 +76,8 @@ pub fn one_task_each()
 
 /// In a legal history the verdict that stands for a job is the one that it is due, or `Memory`.
 pub fn verdict_due<C: Checker>()
-    ensures { (jobs : List (C.Job × Bool)) (events : List Event) → IsLegal C.due C.early jobs events →
+    ensures { (jobs : List (C.Job × Bool)) (events : List Event) →
+        IsLegal C.due C.early jobs events →
         (n : ℕ) (v : Verdict) → 0 < n → verdict_at (marks_of jobs) events n ≡ Some v →
         IsDueTo C.due jobs n v }
 {}

@@ -67,7 +67,8 @@ pub fn idle<J>(end: Option<End>, fault: Option<(u32, Verdict)>) -> Claimed<J>
 
 /// The share that the claim of this job will give away; a settled job isn't claimed.
 pub fn share_of<J: Drop>(job: &Arc<J>, settled: bool) -> Result<Option<Arc<J>>, NoMemory>
-    ensures { IfOk result (λ share. option_map arc_value share ≡ share_due (arc_value job.now) settled) }
+    ensures { IfOk result (λ share. option_map arc_value share
+        ≡ share_due (arc_value job.now) settled) }
 {
     if settled {
         return Ok(None);

@@ -49,6 +49,10 @@ pub record MemoryAt (limits : Limits) (budget : ℕ) (given : List ℕ) (ending 
   pub line_is : ((c : WrittenCommand) × ((read_tokens limits taken).commands ≡ done ++ c ∷ []) × (line ≡ c.line))
       ⊎ (((read_tokens limits taken).commands ≡ done) × (line ≡ due_line limits taken coming (begun_line limits given)))
 
+-- the reader, stopped at this command and line by this verdict
+abbrev pub stopped : Reader → ℕ → ℕ → Verdict → Reader
+stopped reader number line v = record reader { stop = Some (Stopped number line v) }
+
 -- these tokens settle the report, whatever comes behind them
 abbrev pub TokensSettle : Limits → ℕ → List Token → FileReport → Type 0
 TokensSettle limits budget ts report = (us : List Token) (lexed : Lexed) (ending : Ending) →

@@ -39,7 +39,8 @@ fn put_memory<K: Sink>(sink: &mut K) -> u8
 
 fn put_unopened<K: Sink>(sink: &mut K, file: &str) -> u8
     ensures { Writes (record { taken = K.taken sink.old; faults = K.faults sink.old })
-        (record { taken = K.taken sink.new; faults = K.faults sink.new }) (unopened file.now) 3 result }
+        (record { taken = K.taken sink.new; faults = K.faults sink.new })
+        (unopened file.now) 3 result }
 {
     let pieces = [b"unopened ".as_slice(), file.as_bytes(), b"\n".as_slice()];
     match put_all(sink, &pieces) {
@@ -57,8 +58,18 @@ fn check_book<H: Shelf, K: Sink>(
     quiet: bool,
 ) -> u8
     ensures { ChecksBook budget quiet
-        (record { books = H.books shelf.old; left = H.left shelf.old; faults = H.faults shelf.old; missed = H.missed shelf.old })
-        (record { books = H.books shelf.new; left = H.left shelf.new; faults = H.faults shelf.new; missed = H.missed shelf.new })
+        (record {
+          books = H.books shelf.old;
+          left = H.left shelf.old;
+          faults = H.faults shelf.old;
+          missed = H.missed shelf.old;
+        })
+        (record {
+          books = H.books shelf.new;
+          left = H.left shelf.new;
+          faults = H.faults shelf.new;
+          missed = H.missed shelf.new;
+        })
         (record { taken = K.taken sink.old; faults = K.faults sink.old })
         (record { taken = K.taken sink.new; faults = K.faults sink.new }) result }
 {
@@ -95,8 +106,18 @@ fn put_outcome<K: Sink>(
 /// All that the program does.
 pub fn answer<H: Shelf, K: Sink>(alloc: Global, words: &[String], shelf: &mut H, sink: &mut K) -> u8
     ensures { Answers (request_of (map string_bytes words.now))
-        (record { books = H.books shelf.old; left = H.left shelf.old; faults = H.faults shelf.old; missed = H.missed shelf.old })
-        (record { books = H.books shelf.new; left = H.left shelf.new; faults = H.faults shelf.new; missed = H.missed shelf.new })
+        (record {
+          books = H.books shelf.old;
+          left = H.left shelf.old;
+          faults = H.faults shelf.old;
+          missed = H.missed shelf.old;
+        })
+        (record {
+          books = H.books shelf.new;
+          left = H.left shelf.new;
+          faults = H.faults shelf.new;
+          missed = H.missed shelf.new;
+        })
         (record { taken = K.taken sink.old; faults = K.faults sink.old })
         (record { taken = K.taken sink.new; faults = K.faults sink.new }) result }
 {

@@ -11,7 +11,7 @@ ghost use Rattle.dk_model.specs.declared.limits.Limits.{Limits};
 ghost use Rattle.dk_parser.specs.Written.{written_command};
 ghost use Rattle.verdict_book.specs.declared.outcome.Outcome.{Outcome};
 ghost use Rattle.dk_check_run.specs.Theories.{checked_of};
-ghost use Rattle.dk_check_run.specs.Progress.{EndsByItself, EndsWith, GoesOnBehind, IsReady, IsStop, JudgesWhole, StandsAt, StandsAtLexed, StandsAtTokens, due_line, ended_outcome};
+ghost use Rattle.dk_check_run.specs.Progress.{EndsByItself, EndsWith, GoesOnBehind, IsReady, IsStop, JudgesWhole, StandsAt, StandsAtLexed, StandsAtTokens, due_line, ended_outcome, stopped};
 
 use crate::Theory;
 use dk_lexer::{Fed, Lexer, Token};
@@ -53,7 +53,8 @@ impl Reader {
     // Stops at the command that is due.
     fn stop_at(&mut self, line: u32, verdict: Verdict)
         requires few { length (checked_of self.old.theory).shown < 4294967295 }
-        ensures { self.new ≡ record self.old { stop = Some (Outcome.Stopped (length (checked_of self.old.theory).shown + 1) line verdict) } }
+        ensures { self.new ≡ stopped self.old
+            (length (checked_of self.old.theory).shown + 1) line verdict }
     {
         let number = self.theory.shown().len() as u32 + 1;
         self.stop = Some(Outcome::Stopped(number, line, verdict));
@@ -78,8 +79,10 @@ impl Reader {
     fn token(&mut self, alloc: Global, token: Token)
         requires ready { IsReady self.old }
         requires going { self.old.stop ≡ None }
-        ensures stands { (limits : Limits) (budget : ℕ) (bytes : List ℕ) (ending : Ending) (taken coming : List Token) →
-            (tokens limits bytes ending).tokens ≡ taken ++ token ∷ coming → GoesOnBehind limits budget taken self.old →
+        ensures stands { (limits : Limits) (budget : ℕ) (bytes : List ℕ) (ending : Ending)
+            (taken coming : List Token) →
+            (tokens limits bytes ending).tokens ≡ taken ++ token ∷ coming →
+            GoesOnBehind limits budget taken self.old →
             StandsAtTokens limits budget bytes ending (taken ++ token ∷ []) self.new }
         ensures stop { IsStop self.new.stop }
         ensures ready { self.new.stop ≡ None → IsReady self.new }
@@ -101,8 +104,10 @@ impl Reader {
     fn maybe_token(&mut self, alloc: Global, token: Option<Token>)
         requires stop { IsStop self.old.stop }
         requires ready { self.old.stop ≡ None → IsReady self.old }
-        ensures stands { (limits : Limits) (budget : ℕ) (bytes : List ℕ) (ending : Ending) (taken coming : List Token) →
-            (tokens limits bytes ending).tokens ≡ taken ++ with_token token coming → StandsAtTokens limits budget bytes ending taken self.old →
+        ensures stands { (limits : Limits) (budget : ℕ) (bytes : List ℕ) (ending : Ending)
+            (taken coming : List Token) →
+            (tokens limits bytes ending).tokens ≡ taken ++ with_token token coming →
+            StandsAtTokens limits budget bytes ending taken self.old →
             StandsAtTokens limits budget bytes ending (taken ++ with_token token []) self.new }
         ensures stop { IsStop self.new.stop }
         ensures ready { self.new.stop ≡ None → IsReady self.new }
@@ -128,9 +133,11 @@ impl Reader {
     )
         requires stop { IsStop self.old.stop }
         requires ready { self.old.stop ≡ None → IsReady self.old }
-        ensures stands { (limits : Limits) (budget : ℕ) (bytes : List ℕ) (ending : Ending) (taken : List Token) →
+        ensures stands { (limits : Limits) (budget : ℕ) (bytes : List ℕ) (ending : Ending)
+            (taken : List Token) →
             (tokens limits bytes ending).tokens
-            ≡ taken ++ with_token first (with_token second (with_token third (with_token fourth []))) →
+            ≡ taken ++ with_token first
+            (with_token second (with_token third (with_token fourth []))) →
             StandsAtTokens limits budget bytes ending taken self.old →
             StandsAtTokens limits budget bytes ending (tokens limits bytes ending).tokens self.new }
         ensures stop { IsStop self.new.stop }
@@ -147,7 +154,8 @@ impl Reader {
     fn take(&mut self, alloc: Global, fed: Fed, place: u32)
         requires ready { IsReady self.old }
         requires going { self.old.stop ≡ None }
-        ensures stands { (limits : Limits) (budget : ℕ) (bytes : List ℕ) (ending : Ending) (before : Lexed) →
+        ensures stands { (limits : Limits) (budget : ℕ) (bytes : List ℕ) (ending : Ending)
+            (before : Lexed) →
             AddsTokens before fed (tokens limits bytes ending) →
             (fed.fault ≢ None → place ≡ (tokens limits bytes ending).line) →
             GoesOnBehind limits budget before.tokens self.old →
@@ -175,8 +183,10 @@ impl Reader {
 
     // The line of the command that is due: of its first token, else of what is begun, else of the next byte.
     fn due_line(&self) -> u32
-        ensures { (limits : Limits) (bytes : List ℕ) (ts : List Token) → self.now.lexer ≡ lexer_after limits bytes →
-            parsing self.now.parser ≡ parsing_after limits ts → result ≡ due_line limits ts [] (begun_line limits bytes) }
+        ensures { (limits : Limits) (bytes : List ℕ) (ts : List Token) →
+            self.now.lexer ≡ lexer_after limits bytes →
+            parsing self.now.parser ≡ parsing_after limits ts →
+            result ≡ due_line limits ts [] (begun_line limits bytes) }
     {
         self.parser.begun().unwrap_or(self.lexer.line())
     }
@@ -185,7 +195,8 @@ impl Reader {
     pub fn feed(&mut self, alloc: Global, byte: u8)
         requires stop { IsStop self.old.stop }
         requires ready { self.old.stop ≡ None → IsReady self.old }
-        ensures stands { (limits : Limits) (budget : ℕ) (bytes : List ℕ) → StandsAt limits budget bytes self.old →
+        ensures stands { (limits : Limits) (budget : ℕ) (bytes : List ℕ) →
+            StandsAt limits budget bytes self.old →
             StandsAt limits budget (bytes ++ byte ∷ []) self.new }
         ensures stop { IsStop self.new.stop }
         ensures ready { self.new.stop ≡ None → IsReady self.new }
@@ -208,7 +219,8 @@ impl Reader {
         requires stop { IsStop self.old.stop }
         requires ready { self.old.stop ≡ None → IsReady self.old }
         ensures itself { EndsByItself result }
-        ensures ends { (limits : Limits) (budget : ℕ) (bytes : List ℕ) → StandsAt limits budget bytes self.old →
+        ensures ends { (limits : Limits) (budget : ℕ) (bytes : List ℕ) →
+            StandsAt limits budget bytes self.old →
             EndsWith limits budget bytes (checked_of self.new.theory).shown result }
     {
         if let Some(outcome) = self.stop {
@@ -227,8 +239,10 @@ impl Reader {
     fn ended(&self) -> Outcome
         requires { IsReady self.now }
         ensures itself { EndsByItself result }
-        ensures value { (limits : Limits) (ts : List Token) → parsing self.now.parser ≡ parsing_after limits ts →
-            result ≡ ended_outcome (length (checked_of self.now.theory).shown) (read_tokens limits ts).begun }
+        ensures value { (limits : Limits) (ts : List Token) →
+            parsing self.now.parser ≡ parsing_after limits ts →
+            result ≡ ended_outcome (length (checked_of self.now.theory).shown)
+            (read_tokens limits ts).begun }
     {
         let count = self.theory.shown().len() as u32;
         match self.parser.begun() {
@@ -250,7 +264,8 @@ impl Reader {
         requires ready { IsReady self.now }
         requires going { self.now.stop ≡ None }
         ensures itself { EndsByItself result }
-        ensures ends { (limits : Limits) (budget : ℕ) (bytes : List ℕ) (rest : List ℕ) → StandsAt limits budget bytes self.now →
+        ensures ends { (limits : Limits) (budget : ℕ) (bytes : List ℕ) (rest : List ℕ) →
+            StandsAt limits budget bytes self.now →
             EndsWith limits budget (bytes ++ rest) (checked_of self.now.theory).shown result }
     {
         let number = self.theory.shown().len() as u32 + 1;

@@ -15,7 +15,8 @@ use verdict_book::Outcome;
 fn feed_piece(alloc: Global, reader: &mut Reader, bytes: &[u8])
     requires stop { IsStop reader.old.stop }
     requires ready { reader.old.stop ≡ None → IsReady reader.old }
-    ensures stands { (limits : Limits) (budget : ℕ) (given : List ℕ) → StandsAt limits budget given reader.old →
+    ensures stands { (limits : Limits) (budget : ℕ) (given : List ℕ) →
+        StandsAt limits budget given reader.old →
         StandsAt limits budget (given ++ bytes.now) reader.new }
     ensures stop { IsStop reader.new.stop }
     ensures ready { reader.new.stop ≡ None → IsReady reader.new }
@@ -31,7 +32,8 @@ pub fn read_book<H: Shelf>(alloc: Global, shelf: &mut H, reader: &mut Reader) ->
     requires ready { IsReady reader.old }
     requires going { reader.old.stop ≡ None }
     ensures books { H.books shelf.new ≡ H.books shelf.old }
-    ensures ends { (limits : Limits) (budget : ℕ) (bytes : List ℕ) → StandsAt limits budget [] reader.old →
+    ensures ends { (limits : Limits) (budget : ℕ) (bytes : List ℕ) →
+        StandsAt limits budget [] reader.old →
         H.left shelf.old ≡ Some bytes →
         EndsOn limits budget bytes (H.left shelf.new) (checked_of reader.new.theory).shown result }
     ensures fault { StopsAtFault result }

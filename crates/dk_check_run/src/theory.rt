@@ -83,8 +83,10 @@ impl Theory {
         requires sound { IsKept self.old }
         requires few { limits.now.commands < 4294967296 }
         ensures sound { result ≡ Verdict.Accepted → IsKept self.new }
-        ensures few { result ≡ Verdict.Accepted → length (checked_of self.new).shown ≤ limits.now.commands }
-        ensures judged { Judges limits.now budget (checked_of self.old) (written_form raw.form) result (checked_of self.new) }
+        ensures few { result ≡ Verdict.Accepted →
+            length (checked_of self.new).shown ≤ limits.now.commands }
+        ensures judged { Judges limits.now budget (checked_of self.old)
+            (written_form raw.form) result (checked_of self.new) }
     {
         if self.shown.len() >= limits.commands as usize {
             return Verdict::Refused(Code::E08);
@@ -105,8 +107,12 @@ impl Theory {
     fn checked_entry(&mut self, alloc: Global, budget: u64, raw: &Raw) -> Result<Entry, Verdict>
         requires few { (checked_of self.old).theory.names.count < 4294967295 }
         requires ruled { AreRuled self.old.signature self.old.ruled.items }
-        ensures ok { IfOk result (λ e. AcceptsWith (checked_of self.old) budget (written_form raw.now.form) (plain_entry e) (checked_of self.new)) }
-        ensures err { IfErr result (λ v. IsOtherVerdict (verdict_after (checked_of self.old).theory budget (written_form raw.now.form)) v) }
+        ensures ok { IfOk result
+            (λ e. AcceptsWith (checked_of self.old) budget (written_form raw.now.form)
+            (plain_entry e) (checked_of self.new)) }
+        ensures err { IfErr result
+            (λ v. IsOtherVerdict (verdict_after (checked_of self.old).theory budget
+            (written_form raw.now.form)) v) }
         ensures kept { (checked_of self.new).shown ≡ (checked_of self.old).shown }
         ensures ruled { AreRuled self.new.signature self.new.ruled.items }
     {
@@ -129,7 +135,8 @@ impl Theory {
     // Adds the entry of an accepted command, and its name.
     fn add(&mut self, entry: Entry, name: Listed<u8>) -> Result<(), NoMemory>
         requires { AreRuled self.old.signature self.old.ruled.items }
-        ensures ok { OnOk result (Adds (checked_of self.old) (plain_entry entry) name (checked_of self.new)) }
+        ensures ok { OnOk result
+            (Adds (checked_of self.old) (plain_entry entry) name (checked_of self.new)) }
         ensures err { OnErr result ((checked_of self.new).shown ≡ (checked_of self.old).shown) }
         ensures ruled { OnOk result (AreRuled self.new.signature self.new.ruled.items) }
     {

@@ -24,7 +24,7 @@ pub fn run<H: Shelf, K: Sink>(alloc: Global, words: &[String], shelf: &mut H, si
         ¬ (Rose (K.faults sink.old) (K.faults sink.new)) → result ≢ 4 →
         ReportsFile q bytes (K.taken sink.old) (K.taken sink.new) result }
 
-    // Where the file is accepted, each command has a derivation over the commands before it.
+    // Where the file is accepted, each declared type and body has a derivation over the commands before it.
     ensures derived { (q : Request) (bytes : List ℕ) →
         AsksFor (request_of (map string_bytes words.now)) (H.books shelf.old) q bytes →
         result ≡ 0 → IsFileDerived q bytes }
@@ -34,10 +34,12 @@ pub fn run<H: Shelf, K: Sink>(alloc: Global, words: &[String], shelf: &mut H, si
         AsksFor (request_of (map string_bytes words.now)) (H.books shelf.old) q bytes →
         IsDecided result → ReportsFile q bytes (K.taken sink.old) (K.taken sink.new) result }
     ensures shelf_held { IsDecided result → (name : List ℕ) →
-        (H.faults shelf.new ≡ H.faults shelf.old) × (H.missed shelf.new name ≡ H.missed shelf.old name) }
+        (H.faults shelf.new ≡ H.faults shelf.old)
+        × (H.missed shelf.new name ≡ H.missed shelf.old name) }
 
     // 2 is for words that ask nothing, and for no others; the shelf isn't touched.
-    ensures usage { request_of (map string_bytes words.now) ≡ None → result ≢ 4 → result ≢ 5 → result ≡ 2 }
+    ensures usage { request_of (map string_bytes words.now) ≡ None → result ≢ 4 → result ≢ 5 →
+        result ≡ 2 }
     ensures usage_only { result ≡ 2 → (request_of (map string_bytes words.now) ≡ None)
         × (K.taken sink.new ≡ added (K.taken sink.old) usage_text) }
     ensures untouched { request_of (map string_bytes words.now) ≡ None → (name : List ℕ) →
@@ -45,7 +47,8 @@ pub fn run<H: Shelf, K: Sink>(alloc: Global, words: &[String], shelf: &mut H, si
         × (H.missed shelf.new name ≡ H.missed shelf.old name) }
 
     // 3 is for a fault of the shelf: an opening of that name, or a read.
-    ensures shelf_failed { result ≡ 3 → (q : Request) × (request_of (map string_bytes words.now) ≡ Some q)
+    ensures shelf_failed { result ≡ 3 → (q : Request)
+        × (request_of (map string_bytes words.now) ≡ Some q)
         × ((Rose (H.missed shelf.old q.file) (H.missed shelf.new q.file)
         × (K.taken sink.new ≡ added (K.taken sink.old) (unopened q.file)))
         ⊎ (Rose (H.faults shelf.old) (H.faults shelf.new) × ((bytes : List ℕ) →
@@ -56,7 +59,8 @@ pub fn run<H: Shelf, K: Sink>(alloc: Global, words: &[String], shelf: &mut H, si
     // 4 is for want of memory: the commands before are accepted, and the next one was due.
     ensures memory { (q : Request) (bytes : List ℕ) →
         AsksFor (request_of (map string_bytes words.now)) (H.books shelf.old) q bytes → result ≡ 4 →
-        (text : List ℕ) × MemoryText q bytes text × (K.taken sink.new ≡ added (K.taken sink.old) text) }
+        (text : List ℕ) × MemoryText q bytes text
+        × (K.taken sink.new ≡ added (K.taken sink.old) text) }
     ensures memory_at_once { request_of (map string_bytes words.now) ≡ None → result ≡ 4 →
         K.taken sink.new ≡ added (K.taken sink.old) memory_at_once }
 
@@ -66,7 +70,8 @@ pub fn run<H: Shelf, K: Sink>(alloc: Global, words: &[String], shelf: &mut H, si
     ensures cut { (q : Request) (bytes : List ℕ) →
         AsksFor (request_of (map string_bytes words.now)) (H.books shelf.old) q bytes → result ≡ 5 →
         (text : List ℕ) × AddsSome (K.taken sink.old) (K.taken sink.new) text
-        × IsDueText q bytes (H.left shelf.new) (Rose (H.missed shelf.old q.file) (H.missed shelf.new q.file)) text }
+        × IsDueText q bytes (H.left shelf.new)
+        (Rose (H.missed shelf.old q.file) (H.missed shelf.new q.file)) text }
     ensures usage_cut { request_of (map string_bytes words.now) ≡ None → result ≡ 5 →
         AddsSome (K.taken sink.old) (K.taken sink.new) usage_text
         ⊎ AddsSome (K.taken sink.old) (K.taken sink.new) memory_at_once }

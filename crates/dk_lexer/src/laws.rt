@@ -21,5 +21,6 @@ pub fn pieces_law()
 /// the newlines among them.
 pub fn place_law()
     ensures { (bytes : List ℕ) → length bytes ≤ 4294967294 →
-        place_behind (record { offset = 0; line = 1 }) bytes ≡ record { offset = length bytes; line = 1 + newlines bytes } }
+        place_behind (record { offset = 0; line = 1 }) bytes
+        ≡ record { offset = length bytes; line = 1 + newlines bytes } }
 {}

@@ -157,7 +157,8 @@ impl Slot {
 
     /// Adds an atom, where one may stand.
     pub fn more(self, alloc: Global, a: RawTerm) -> Result<Option<Slot>, NoMemory>
-        ensures { IfOk result (λ slot. option_map plain_slot slot ≡ slot_more (plain_slot self) (written a)) }
+        ensures { IfOk result (λ slot. option_map plain_slot slot
+            ≡ slot_more (plain_slot self) (written a)) }
     {
         match self {
             Slot::Due(place) => Ok(Some(Slot::Applied(place, a, 1))),
@@ -177,7 +178,8 @@ impl Slot {
 
     /// Adds a name or a wildcard.
     pub fn binder(self, alloc: Global, binder: Option<Listed<u8>>) -> Result<Option<Slot>, NoMemory>
-        ensures { IfOk result (λ slot. option_map plain_slot slot ≡ slot_binder (plain_slot self) binder) }
+        ensures { IfOk result (λ slot. option_map plain_slot slot
+            ≡ slot_binder (plain_slot self) binder) }
     {
         match self {
             Slot::Due(Place::Front) => Ok(Some(Slot::Bindable(binder))),
@@ -231,7 +233,8 @@ impl Frames {
 
     /// Puts a frame on.
     pub fn push(self, alloc: Global, frame: Frame) -> Result<Frames, NoMemory>
-        ensures { IfOk result (λ frames. plain_frames frames ≡ pushed (plain_frame frame) (plain_frames self)) }
+        ensures { IfOk result (λ frames. plain_frames frames
+            ≡ pushed (plain_frame frame) (plain_frames self)) }
     {
         let depth = next(self.depth())?;
         let rest = Box::new(alloc, self)?;
@@ -240,7 +243,8 @@ impl Frames {
 
     /// Closes the innermost bracket behind a term. Recurses once for each arrow in it.
     pub fn unwind(self, alloc: Global, a: RawTerm) -> Result<Option<TermPart>, NoMemory>
-        ensures { IfOk result (λ part. option_map plain_term part ≡ unwound (plain_frames self) (written a)) }
+        ensures { IfOk result (λ part. option_map plain_term part
+            ≡ unwound (plain_frames self) (written a)) }
     {
         match self {
             Frames::Bottom(_) => {
@@ -260,7 +264,8 @@ impl Frames {
 
     /// The whole term behind its last part, where no bracket is open. Recurses once for each arrow.
     pub fn unwind_all(self, alloc: Global, a: RawTerm) -> Result<Option<RawTerm>, NoMemory>
-        ensures { IfOk result (λ term. maybe_written term ≡ unwound_all (plain_frames self) (written a)) }
+        ensures { IfOk result (λ term. maybe_written term
+            ≡ unwound_all (plain_frames self) (written a)) }
     {
         match self {
             Frames::Bottom(_) => Ok(Some(a)),
@@ -328,7 +333,8 @@ fn applied(
     a: RawTerm,
 ) -> Result<Option<Slot>, NoMemory>
     ensures { IfOk result (λ slot. option_map plain_slot slot
-        ≡ Some (plain.applied (plain_place place) (written_apply (written f) (written a)) (n + 1))) }
+        ≡ Some (plain.applied (plain_place place) (written_apply (written f) (written a))
+        (n + 1))) }
 {
     match n.checked_add(1) {
         Some(n) => match apply(alloc, f, a) {
@@ -350,7 +356,8 @@ fn applied(
 impl Frame {
     // A term in this frame.
     fn around(self, alloc: Global, a: RawTerm) -> Result<Around, NoMemory>
-        ensures { IfOk result (λ around_it. plain_around around_it ≡ around (plain_frame self) (written a)) }
+        ensures { IfOk result (λ around_it. plain_around around_it
+            ≡ around (plain_frame self) (written a)) }
     {
         match self {
             Frame::Bracket(slot) => Ok(Around::Bracket(slot, a)),
@@ -364,7 +371,8 @@ impl Frame {
 
 /// A term with this slot in these frames.
 pub fn in_frames(frames: Frames, slot: Option<Slot>) -> Option<TermPart>
-    ensures { option_map plain_term result ≡ in_frames (plain_frames frames) (option_map plain_slot slot) }
+    ensures { option_map plain_term result
+        ≡ in_frames (plain_frames frames) (option_map plain_slot slot) }
 {
     match slot {
         Some(slot) => Some(TermPart { frames, slot }),

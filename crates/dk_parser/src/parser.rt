@@ -60,9 +60,11 @@ impl Parser {
     /// After a code every later call answers the same code, and nothing changes. After want of
     /// memory the parser is to be dropped.
     pub fn feed(&mut self, alloc: Global, token: Token) -> Result<Step, ParseFault>
-        ensures after { (limits : Limits) (ts : List Token) → parsing self.old ≡ parsing_after limits ts
+        ensures after { (limits : Limits) (ts : List Token) →
+            parsing self.old ≡ parsing_after limits ts
             → Answers result (parsing self.new ≡ parsing_after limits (ts ++ token ∷ [])) }
-        ensures adds { (limits : Limits) (ts : List Token) → parsing self.old ≡ parsing_after limits ts
+        ensures adds { (limits : Limits) (ts : List Token) →
+            parsing self.old ≡ parsing_after limits ts
             → AddsStep (read_tokens limits ts) result (read_tokens limits (ts ++ token ∷ [])) }
     {
         self.take(alloc, token)

@@ -104,7 +104,8 @@ impl TermPart {
 
 // Puts a frame on; a term is due in it.
 fn framed(alloc: Global, frame: Frame, frames: Frames) -> Result<Option<TermPart>, NoMemory>
-    ensures { IfOk result (λ next. option_map plain_term next ≡ framed (plain_frame frame) (plain_frames frames)) }
+    ensures { IfOk result (λ next. option_map plain_term next
+        ≡ framed (plain_frame frame) (plain_frames frames)) }
 {
     Ok(Some(TermPart {
         frames: frames.push(alloc, frame)?,
@@ -145,7 +146,8 @@ fn close(alloc: Global, frames: Frames, slot: Slot) -> Result<Option<TermPart>, 
 
 // A binder and its domain in brackets, at the front of a term.
 fn close_domain(frames: Frames, binder: Option<Listed<u8>>, a: RawTerm) -> Option<TermPart>
-    ensures { option_map plain_term result ≡ next_close_domain (plain_frames frames) binder (written a) }
+    ensures { option_map plain_term result
+        ≡ next_close_domain (plain_frames frames) binder (written a) }
 {
     match frames {
         Frames::On(_, Frame::Bracket(Slot::Due(Place::Front)), rest) => Some(TermPart {

@@ -118,6 +118,6 @@ static_head = refl
 missing_first : given (rule two (left_apply (left_symbol 1) m) (rule_variable 1) ∷ []) ≡ Err E33
 missing_first = refl
 
--- [m] s m --> m. [] _ --> zero.
+-- [m] s m --> m [] _ --> zero.
 first_rule_first : given (rule one (left_apply (left_symbol 1) m) (rule_variable 0) ∷ rule [] left_wildcard (symbol 0) ∷ []) ≡ Err E30
 first_rule_first = refl

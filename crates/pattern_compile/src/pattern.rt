@@ -57,7 +57,8 @@ pub(crate) fn patterns(
     vars: u32,
     left: &Left,
 ) -> Result<Option<Listed<Pat>>, NoMemory>
-    ensures { IfOk result (λ ps. first_order_patterns vars left.now ≡ option_map plain_patterns ps) }
+    ensures { IfOk result (λ ps. first_order_patterns vars left.now
+        ≡ option_map plain_patterns ps) }
 {
     let mut found = Vec::new(alloc);
     let mut rest = left;

@@ -128,7 +128,8 @@ pub fn captured(alloc: Global, depth: u64, listed: &[u32], part: &Term) -> Resul
 
 /// The capture of a rule variable.
 pub fn capture_at(captures: &[Option<Term>], variable: u32) -> Option<&Term>
-    ensures { MatchOption result (capture_at (captures_of captures.now) variable ≡ None) (λ t. capture_at (captures_of captures.now) variable ≡ Some (tree t.now)) }
+    ensures { MatchOption result (capture_at (captures_of captures.now) variable ≡ None)
+        (λ t. capture_at (captures_of captures.now) variable ≡ Some (tree t.now)) }
 {
     match captures.get(variable as usize) {
         None => None,

@@ -164,7 +164,9 @@ pub fn enter_plain(
     budget: u64,
 ) -> Result<Entry, Verdict>
     requires { AreRuled signature.now ruled.now }
-    ensures ok { IfOk result (λ e. IsEntryOf signature.now command.now (inferred_for signature.now command.now budget) e) }
+    ensures ok { IfOk result
+        (λ e. IsEntryOf signature.now command.now
+        (inferred_for signature.now command.now budget) e) }
     ensures accepted { IfOk result (λ _. due signature.now command.now budget ≡ Verdict.Accepted) }
     ensures err { IfErr result (λ v. IsDue signature.now command.now budget v) }
     ensures refused { IfErr result (λ v. ¬ (v ≡ Verdict.Accepted)) }
@@ -183,9 +185,14 @@ fn enter_rules(
     rules: &Listed<ScopedRule>,
     budget: u64,
 ) -> Result<Entry, Verdict>
-    ensures ok { IfOk result (λ e. plain_entry e ≡ rules_entry (kept_rules (command_shapes signature.now rules.now))) }
-    ensures accepted { IfOk result (λ _. verdict (rules_checked (command_shapes signature.now rules.now) budget) ≡ Verdict.Accepted) }
-    ensures err { IfErr result (λ v. IsVerdictOrMemory (verdict (rules_checked (command_shapes signature.now rules.now) budget)) v) }
+    ensures ok { IfOk result
+        (λ e. plain_entry e ≡ rules_entry (kept_rules (command_shapes signature.now rules.now))) }
+    ensures accepted { IfOk result
+        (λ _. verdict (rules_checked (command_shapes signature.now rules.now) budget)
+        ≡ Verdict.Accepted) }
+    ensures err { IfErr result
+        (λ v. IsVerdictOrMemory (verdict
+        (rules_checked (command_shapes signature.now rules.now) budget)) v) }
     ensures refused { IfErr result (λ v. ¬ (v ≡ Verdict.Accepted)) }
 {
     let shapes = match shaped(alloc, signature, rules) {
@@ -207,7 +214,9 @@ fn enter_declaration(
     budget: u64,
 ) -> Result<Entry, Verdict>
     requires { AreRuled signature.now ruled.now }
-    ensures ok { IfOk result (λ e. IsEntryOf signature.now command.now (inferred_for signature.now command.now budget) e) }
+    ensures ok { IfOk result
+        (λ e. IsEntryOf signature.now command.now
+        (inferred_for signature.now command.now budget) e) }
     ensures accepted { IfOk result (λ _. due signature.now command.now budget ≡ Verdict.Accepted) }
     ensures err { IfErr result (λ v. IsDue signature.now command.now budget v) }
     ensures refused { IfErr result (λ v. ¬ (v ≡ Verdict.Accepted)) }
@@ -364,7 +373,8 @@ pub fn add_entry(
     entry: Entry,
 ) -> Result<(), NoMemory>
     requires { AreRuled signature.old ruled.old.items }
-    ensures entry { OnOk result (plain_signature signature.new ≡ plain_signature signature.old ++ plain_entry entry ∷ []) }
+    ensures entry { OnOk result
+        (plain_signature signature.new ≡ plain_signature signature.old ++ plain_entry entry ∷ []) }
     ensures ruled { OnOk result (AreRuled signature.new ruled.new.items) }
 {
     push_place(ruled, signature.entries.len(), &entry)?;
@@ -378,7 +388,8 @@ fn entry_type(
     declared: &Option<Term>,
     inferred: Option<Term>,
 ) -> Result<Term, NoMemory>
-    ensures { IfOk result (λ t. tree t ≡ entry_type_of (maybe_tree declared.now) (maybe_tree inferred)) }
+    ensures { IfOk result (λ t. tree t
+        ≡ entry_type_of (maybe_tree declared.now) (maybe_tree inferred)) }
 {
     match declared {
         Some(typ) => typ.erased(alloc),

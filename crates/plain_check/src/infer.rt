@@ -18,10 +18,14 @@ use std::alloc::Global;
 /// Takes an application apart by references: its arguments go onto the stack, the first one on top.
 #[tactic(auto, using(crate::proofs::Spines::references_pushed))]
 pub fn spine<'a>(alloc: Global, term: &'a Term) -> Result<(&'a Term, Vec<&'a Term>), NoMemory>
-    ensures term { IfOk result (λ s. wound (tree s.0.now) (behind_references s.1.items) ≡ tree term.now) }
+    ensures term { IfOk result
+        (λ s. wound (tree s.0.now) (behind_references s.1.items) ≡ tree term.now) }
     ensures head { IfOk result (λ s. is_application (tree s.0.now) ≡ false) }
-    ensures size { IfOk result (λ s. size (tree s.0.now) + total_size (behind_references s.1.items) ≤ size (tree term.now)) }
-    ensures smaller { IfOk result (λ s. total_size (behind_references s.1.items) < size (tree term.now)) }
+    ensures size { IfOk result
+        (λ s. size (tree s.0.now) + total_size (behind_references s.1.items)
+        ≤ size (tree term.now)) }
+    ensures smaller { IfOk result
+        (λ s. total_size (behind_references s.1.items) < size (tree term.now)) }
 {
     let mut arguments = Vec::new(alloc);
     let mut head = term;
@@ -108,7 +112,8 @@ fn infer_abstraction(
     left: &mut u64,
 ) -> Result<Term, TypeFault>
     requires { AreRules signature.now rules.now }
-    ensures gives { Infers signature.now context.old (annotated (tree domain.now) (tree body.now)) left.old result left.new }
+    ensures gives { Infers signature.now context.old
+        (annotated (tree domain.now) (tree body.now)) left.old result left.new }
     ensures kept { IfOk result (λ _. Keeps context.old context.new) }
 {
     match infer_domain(alloc, signature, rules, context, domain, left) {
@@ -140,7 +145,8 @@ fn infer_product(
     left: &mut u64,
 ) -> Result<Term, TypeFault>
     requires { AreRules signature.now rules.now }
-    ensures gives { Infers signature.now context.old (product (tree domain.now) (tree codomain.now)) left.old result left.new }
+    ensures gives { Infers signature.now context.old
+        (product (tree domain.now) (tree codomain.now)) left.old result left.new }
     ensures kept { IfOk result (λ _. Keeps context.old context.new) }
 {
     match infer_domain(alloc, signature, rules, context, domain, left) {
@@ -218,7 +224,8 @@ pub fn check(
     left: &mut u64,
 ) -> Result<(), TypeFault>
     requires { AreRules signature.now rules.now }
-    ensures gives { Checks signature.now context.old (tree term.now) typ.now left.old result left.new }
+    ensures gives { Checks signature.now context.old
+        (tree term.now) typ.now left.old result left.new }
     ensures kept { IfOk result (λ _. Keeps context.old context.new) }
 {
     match term {
@@ -244,7 +251,8 @@ fn check_bare(
     left: &mut u64,
 ) -> Result<(), TypeFault>
     requires { AreRules signature.now rules.now }
-    ensures gives { Checks signature.now context.old (bare (tree body.now)) typ.now left.old result left.new }
+    ensures gives { Checks signature.now context.old
+        (bare (tree body.now)) typ.now left.old result left.new }
     ensures kept { IfOk result (λ _. Keeps context.old context.new) }
 {
     let expected = match as_product(alloc, signature, rules, Code::E24, typ.copy(alloc)?, left) {
@@ -282,7 +290,8 @@ fn check_annotated(
     left: &mut u64,
 ) -> Result<(), TypeFault>
     requires { AreRules signature.now rules.now }
-    ensures gives { Checks signature.now context.old (annotated (tree annotation.now) (tree body.now)) typ.now left.old result left.new }
+    ensures gives { Checks signature.now context.old
+        (annotated (tree annotation.now) (tree body.now)) typ.now left.old result left.new }
     ensures kept { IfOk result (λ _. Keeps context.old context.new) }
 {
     let expected = match as_product(alloc, signature, rules, Code::E24, typ.copy(alloc)?, left) {

@@ -11,7 +11,8 @@ use std::alloc::Global;
 /// A codomain at an argument, which is copied only where the codomain mentions it.
 #[tactic(auto, using(crate::proofs::Mentioning::unmentioned))]
 pub fn instance(alloc: Global, codomain: &Term, argument: &Term) -> Result<Term, NoMemory>
-    ensures { IfOk result (λ t. tree t ≡ substitute 0 (erased (tree argument.now)) (tree codomain.now)) }
+    ensures { IfOk result (λ t. tree t
+        ≡ substitute 0 (erased (tree argument.now)) (tree codomain.now)) }
 {
     if mentions(0, codomain) {
         codomain.substitute(alloc, 0, &argument.erased(alloc)?)

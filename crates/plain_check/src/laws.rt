@@ -7,5 +7,6 @@ ghost use Rattle.dk_model.specs.declared.code.Verdict.{Verdict};
 
 /// A verdict other than `Ended` is the same for every larger budget.
 pub fn larger_budget()
-    ensures { (S : PlainSignature) (c : PlainCommand) (n m : ℕ) → n ≤ m → ¬ (verdict_of S c n ≡ Verdict.Ended) → verdict_of S c m ≡ verdict_of S c n }
+    ensures { (S : PlainSignature) (c : PlainCommand) (n m : ℕ) → n ≤ m →
+        ¬ (verdict_of S c n ≡ Verdict.Ended) → verdict_of S c m ≡ verdict_of S c n }
 {}

@@ -11,7 +11,8 @@ use std::alloc::Global;
 /// Takes a term apart: its arguments go onto the stack, the first one on top.
 #[tactic(auto, using(crate::proofs::Winding::wound_pushed))]
 pub fn unwind(term: Term, stack: &mut Vec<Term>) -> Result<Term, NoMemory>
-    ensures term { IfOk result (λ h. wound (tree h) (trees stack.new.items) ≡ wound (tree term) (trees stack.old.items)) }
+    ensures term { IfOk result
+        (λ h. wound (tree h) (trees stack.new.items) ≡ wound (tree term) (trees stack.old.items)) }
     ensures head { IfOk result (λ h. is_application (tree h) ≡ false) }
 {
     let mut head = term;
@@ -43,7 +44,8 @@ pub fn wind(alloc: Global, head: Term, stack: Vec<Term>) -> Result<Term, NoMemor
 #[tactic(auto, using(crate::proofs::Winding::column_pushed))]
 pub fn first_columns(alloc: Global, width: usize, stack: &[Term]) -> Result<Vec<Column>, NoMemory>
     requires { width ≤ length stack.now }
-    ensures { IfOk result (λ columns. map column columns.items ≡ map unbound (take width (from_top stack.now))) }
+    ensures { IfOk result (λ columns. map column columns.items
+        ≡ map unbound (take width (from_top stack.now))) }
 {
     let mut columns = Vec::new(alloc);
     for i in 0..width {

@@ -195,7 +195,8 @@ fn push_patterns<'a>(cells: &mut Vec<Cell<'a>>, patterns: &'a [Pat]) -> Result<(
 
 /// Nothing for a value, and a cell for the pattern of each of its parts.
 fn push_list<'a>(cells: &mut Vec<Cell<'a>>, patterns: &'a [Pat]) -> Result<(), NoMemory>
-    ensures { IfOk result (λ _. Appends cells.old cells.new (blank ∷ map pattern_cell patterns.now)) }
+    ensures { IfOk result (λ _. Appends cells.old cells.new
+        (blank ∷ map pattern_cell patterns.now)) }
 {
     cells.push(Cell::Blank)?;
     push_patterns(cells, patterns)
@@ -203,7 +204,8 @@ fn push_list<'a>(cells: &mut Vec<Cell<'a>>, patterns: &'a [Pat]) -> Result<(), N
 
 /// The cells for a value that the pattern takes, and for its `count` parts.
 fn push_parts<'a>(cells: &mut Vec<Cell<'a>>, count: usize, pattern: &'a Pat) -> Result<(), NoMemory>
-    ensures { IfOk result (λ _. Appends cells.old cells.new (cells_after count (pattern_cell pattern.now))) }
+    ensures { IfOk result (λ _. Appends cells.old cells.new
+        (cells_after count (pattern_cell pattern.now))) }
 {
     match pattern {
         Pat::Sym(_, patterns) => {
@@ -228,7 +230,8 @@ fn push_parts<'a>(cells: &mut Vec<Cell<'a>>, count: usize, pattern: &'a Pat) -> 
 
 /// This cell, and nothing for the `count` parts.
 fn push_kept<'a>(cells: &mut Vec<Cell<'a>>, count: usize, cell: Cell<'a>) -> Result<(), NoMemory>
-    ensures { IfOk result (λ _. Appends cells.old cells.new (plain_cell cell.entry ∷ replicate count blank)) }
+    ensures { IfOk result (λ _. Appends cells.old cells.new
+        (plain_cell cell.entry ∷ replicate count blank)) }
 {
     cells.push(cell)?;
     push_blanks(cells, count)
@@ -236,7 +239,8 @@ fn push_kept<'a>(cells: &mut Vec<Cell<'a>>, count: usize, cell: Cell<'a>) -> Res
 
 /// The cells of a kept row for the value and its `count` parts.
 fn push_after<'a>(cells: &mut Vec<Cell<'a>>, count: usize, cell: Cell<'a>) -> Result<(), NoMemory>
-    ensures { IfOk result (λ _. Appends cells.old cells.new (cells_after count (plain_cell cell.entry))) }
+    ensures { IfOk result (λ _. Appends cells.old cells.new
+        (cells_after count (plain_cell cell.entry))) }
 {
     match cell {
         Cell::Blank => push_kept(cells, count, Cell::Blank),
@@ -273,7 +277,8 @@ pub fn refined_rows<'a>(
     at: usize,
     rows: Vec<Row<'a>>,
 ) -> Result<Vec<Row<'a>>, NoMemory>
-    ensures { IfOk result (λ kept. map row_of kept.items ≡ refined_rows (tree value.now) count at (map row_of rows.entry.items)) }
+    ensures { IfOk result (λ kept. map row_of kept.items
+        ≡ refined_rows (tree value.now) count at (map row_of rows.entry.items)) }
 {
     let (head, arguments) = spine(alloc, value)?;
     let mut kept = Vec::new(alloc);
@@ -306,7 +311,8 @@ fn rules_at<'a>(
     signature: &'a Signature,
     places: &[usize],
 ) -> Result<Vec<&'a Rule>, NoMemory>
-    ensures { IfOk result (λ rules. rules_behind rules.items ≡ rules_at (plain_signature signature.now) places.now) }
+    ensures { IfOk result (λ rules. rules_behind rules.items
+        ≡ rules_at (plain_signature signature.now) places.now) }
 {
     let mut rules = Vec::new(alloc);
     for place in places {
@@ -322,7 +328,8 @@ fn push_rules_at<'a>(
     place: usize,
 ) -> Result<(), NoMemory>
     ensures { IfOk result (λ _. rules_behind rules.new.items
-        ≡ rules_behind rules.old.items ++ rules_at_place (slice_get (plain_signature signature.now) place)) }
+        ≡ rules_behind rules.old.items
+        ++ rules_at_place (slice_get (plain_signature signature.now) place)) }
 {
     match signature.entries.get(place) {
         Some(entry) => push_entry_rules(rules, entry)?,
@@ -358,7 +365,8 @@ pub fn ruled_in(alloc: Global, signature: &Signature) -> Result<Vec<usize>, NoMe
 
 /// Adds the place of an entry, where it is one of rules.
 pub fn push_place(ruled: &mut Vec<usize>, place: usize, entry: &Entry) -> Result<(), NoMemory>
-    ensures { IfOk result (λ _. ruled.new.items ≡ ruled.old.items ++ place_of place (plain_entry entry.now)) }
+    ensures { IfOk result (λ _. ruled.new.items
+        ≡ ruled.old.items ++ place_of place (plain_entry entry.now)) }
 {
     match entry {
         Entry::Rules(_) => ruled.push(place)?,
@@ -368,7 +376,8 @@ pub fn push_place(ruled: &mut Vec<usize>, place: usize, entry: &Entry) -> Result
 }
 
 fn push_rules<'a>(rules: &mut Vec<&'a Rule>, declared: &'a [Rule]) -> Result<(), NoMemory>
-    ensures { IfOk result (λ _. rules_behind rules.new.items ≡ rules_behind rules.old.items ++ map plain_rule declared.now) }
+    ensures { IfOk result (λ _. rules_behind rules.new.items
+        ≡ rules_behind rules.old.items ++ map plain_rule declared.now) }
 {
     for rule in declared {
         rules.push(rule)?;
@@ -382,7 +391,8 @@ fn own_source<'a>(
     signature: &'a Signature,
     symbol: u32,
 ) -> Result<Vec<Source<'a>>, NoMemory>
-    ensures { IfOk result (λ own. map source_rule own.items ≡ own_rules (plain_signature signature.now) symbol) }
+    ensures { IfOk result (λ own. map source_rule own.items
+        ≡ own_rules (plain_signature signature.now) symbol) }
 {
     let mut sources = Vec::new(alloc);
     match signature.entries.get(symbol as usize) {
@@ -403,7 +413,8 @@ pub fn rules_of<'a>(
     symbol: u32,
 ) -> Result<Vec<Source<'a>>, NoMemory>
     requires { AreRules signature.now rules.now }
-    ensures { IfOk result (λ sources. map source_rule sources.items ≡ rules_of (plain_signature signature.now) symbol) }
+    ensures { IfOk result (λ sources. map source_rule sources.items
+        ≡ rules_of (plain_signature signature.now) symbol) }
 {
     let mut sources = own_source(alloc, signature, symbol)?;
     for rule in rules {
@@ -445,7 +456,8 @@ pub fn rows_for<'a>(
     width: usize,
     sources: &[Source<'a>],
 ) -> Result<Vec<Row<'a>>, NoMemory>
-    ensures { IfOk result (λ rows. map row_of rows.items ≡ rows_for count width (map source_rule sources.now)) }
+    ensures { IfOk result (λ rows. map row_of rows.items
+        ≡ rows_for count width (map source_rule sources.now)) }
 {
     let mut rows = Vec::new(alloc);
     for source in sources {
@@ -473,7 +485,8 @@ fn row_for<'a>(alloc: Global, width: usize, source: &Source<'a>) -> Result<Row<'
 /// A cell for each pattern of a rule.
 #[tactic(auto, using(crate::proofs::Refining::each_cell))]
 fn push_source<'a>(cells: &mut Vec<Cell<'a>>, source: &Source<'a>) -> Result<(), NoMemory>
-    ensures { IfOk result (λ _. Appends cells.old cells.new (map cell (source_rule source.now).pats)) }
+    ensures { IfOk result (λ _. Appends cells.old cells.new
+        (map cell (source_rule source.now).pats)) }
 {
     match source {
         Source::Body(..) => Ok(()),

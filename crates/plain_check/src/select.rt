@@ -106,7 +106,8 @@ fn tried<'a>(
     left: &mut u64,
 ) -> Result<Option<Vec<Option<Term>>>, Stop>
     requires { AreRules signature.now rules.now }
-    ensures gives { Tries signature.now row.now columns.old.items left.old result columns.new.items left.new }
+    ensures gives { Tries signature.now row.now columns.old.items left.old result columns.new.items
+        left.new }
     ensures spent { left.new ≤ left.old }
 {
     let cells = row.cells.as_slice();
@@ -133,7 +134,8 @@ fn tried<'a>(
 
 /// No capture for any of the rule's variables.
 fn no_captures(alloc: Global, source: &Source) -> Result<Vec<Option<Term>>, NoMemory>
-    ensures { IfOk result (λ cs. captures_of cs.items ≡ replicate (source_rule source.now).vars None) }
+    ensures { IfOk result (λ cs. captures_of cs.items
+        ≡ replicate (source_rule source.now).vars None) }
 {
     let mut captures = Vec::new(alloc);
     for _i in 0..variables_of(source) {
@@ -163,7 +165,8 @@ fn through<'a>(
     left: &mut u64,
 ) -> Result<bool, Stop>
     requires { AreRules signature.now rules.now }
-    ensures gives { Passes signature.now cells.now columns.old.items captures.old.items left.old result columns.new.items captures.new.items left.new }
+    ensures gives { Passes signature.now cells.now columns.old.items captures.old.items left.old
+        result columns.new.items captures.new.items left.new }
     ensures spent { left.new ≤ left.old }
 {
     for i in 0..cells.len().min(columns.len()) {
@@ -196,7 +199,8 @@ fn at_cell<'a>(
     left: &mut u64,
 ) -> Result<bool, Stop>
     requires { AreRules signature.now rules.now }
-    ensures gives { AtCell signature.now cell.now column.old captures.old.items left.old result column.new captures.new.items left.new }
+    ensures gives { AtCell signature.now cell.now column.old captures.old.items left.old result
+        column.new captures.new.items left.new }
     ensures spent { left.new ≤ left.old }
 {
     match cell {
@@ -218,7 +222,8 @@ fn at_pattern<'a>(
     left: &mut u64,
 ) -> Result<bool, Stop>
     requires { AreRules signature.now rules.now }
-    ensures gives { AtPattern signature.now pattern.now column.old captures.old.items left.old result column.new captures.new.items left.new }
+    ensures gives { AtPattern signature.now pattern.now column.old captures.old.items left.old
+        result column.new captures.new.items left.new }
     ensures spent { left.new ≤ left.old }
 {
     match pattern {
@@ -255,7 +260,8 @@ fn escape<'a>(
     left: &mut u64,
 ) -> Result<bool, Stop>
     requires { AreRules signature.now rules.now }
-    ensures gives { Escapes signature.now listed.now column.old left.old result column.new left.new }
+    ensures gives { Escapes signature.now listed.now column.old left.old result column.new
+        left.new }
     ensures spent { left.new ≤ left.old }
 {
     if strays(0, column.depth, listed, &column.term)? {
@@ -286,7 +292,8 @@ fn matched<'a>(
     left: &mut u64,
 ) -> Result<bool, Stop>
     requires { AreRules signature.now rules.now }
-    ensures gives { Matches signature.now captures.old.items variable part left.old result captures.new.items left.new }
+    ensures gives { Matches signature.now captures.old.items variable part left.old result
+        captures.new.items left.new }
     ensures spent { left.new ≤ left.old }
 {
     match capture_at(captures.as_slice(), variable) {
@@ -316,7 +323,8 @@ fn guarded<'a>(
     left: &mut u64,
 ) -> Result<bool, Stop>
     requires { AreRules signature.now rules.now }
-    ensures gives { Guards signature.now cells.now columns.now captures.now left.old result left.new }
+    ensures gives { Guards signature.now cells.now columns.now captures.now left.old result
+        left.new }
     ensures spent { left.new ≤ left.old }
 {
     for i in 0..cells.len().min(columns.len()) {
@@ -349,7 +357,8 @@ fn guard_at<'a>(
     left: &mut u64,
 ) -> Result<bool, Stop>
     requires { AreRules signature.now rules.now }
-    ensures gives { GuardsCell signature.now cell.now column.now captures.now left.old result left.new }
+    ensures gives { GuardsCell signature.now cell.now column.now captures.now left.old result
+        left.new }
     ensures spent { left.new ≤ left.old }
 {
     match cell {
@@ -371,7 +380,8 @@ fn guard_pattern<'a>(
     left: &mut u64,
 ) -> Result<bool, Stop>
     requires { AreRules signature.now rules.now }
-    ensures gives { GuardsPattern signature.now pattern.now column.now captures.now left.old result left.new }
+    ensures gives { GuardsPattern signature.now pattern.now column.now captures.now left.old result
+        left.new }
     ensures spent { left.new ≤ left.old }
 {
     match pattern {

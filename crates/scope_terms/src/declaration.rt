@@ -45,8 +45,10 @@ pub(crate) fn declaration_at<'a>(
     bound: &'a Binders<'a>,
 ) -> Result<TypeAndBody, Fault>
     requires { scope.now.variables.now ≡ no_names }
-    ensures ok { IfOk result (λ d. declaring scope.now bound.now params.now typ.now body.now ≡ scoped (declaration d)) }
-    ensures refused { IfErr result (IsFaultOf (declaring scope.now bound.now params.now typ.now body.now)) }
+    ensures ok { IfOk result
+        (λ d. declaring scope.now bound.now params.now typ.now body.now ≡ scoped (declaration d)) }
+    ensures refused { IfErr result
+        (IsFaultOf (declaring scope.now bound.now params.now typ.now body.now)) }
 {
     match params {
         [] => {

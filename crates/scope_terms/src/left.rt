@@ -36,7 +36,8 @@ fn narrow(place: u64) -> Result<u32, NoMemory>
 }
 
 fn name_at<'a>(scope: &Scope, name: &Listed<u8>, bound: &'a Binders<'a>) -> Result<Left, Fault>
-    ensures ok { IfOk result (λ l. named_left scope.now bound.now name.now ≡ scoped (plain_left l)) }
+    ensures ok { IfOk result
+        (λ l. named_left scope.now bound.now name.now ≡ scoped (plain_left l)) }
     ensures refused { IfErr result (IsFaultOf (named_left scope.now bound.now name.now)) }
 {
     match look_up(scope, bound, name.as_slice())? {

@@ -78,7 +78,8 @@ pub(crate) fn maybe_term_at<'a>(
     raw: &'a Option<RawTerm>,
     bound: &'a Binders<'a>,
 ) -> Result<Option<Term>, Fault>
-    ensures ok { IfOk result (λ t. maybe_sense scope.now bound.now raw.now ≡ scoped (maybe_tree t)) }
+    ensures ok { IfOk result
+        (λ t. maybe_sense scope.now bound.now raw.now ≡ scoped (maybe_tree t)) }
     ensures refused { IfErr result (IsFaultOf (maybe_sense scope.now bound.now raw.now)) }
 {
     match raw {

@@ -34,7 +34,8 @@ impl Kept for Journal {
 impl Journal {
     // Writes an event behind the others. False where there is no room or no memory.
     fn note(&mut self, maker: u64, event: u64) -> bool
-        ensures made { IsTrue result → self.new.entries.items ≡ self.old.entries.items ++ (maker, event) ∷ [] }
+        ensures made { IsTrue result →
+            self.new.entries.items ≡ self.old.entries.items ++ (maker, event) ∷ [] }
         ensures room { IsTrue result → length self.old.entries.items < 100000 }
         ensures not_made { IsFalse result → self.new.entries.items ≡ self.old.entries.items }
         ensures list { self.new.list ≡ self.old.list }
@@ -44,10 +45,12 @@ impl Journal {
 
     // Writes an event of the reader, and the item behind its list.
     fn put(&mut self, item: u64) -> bool
-        ensures made { IsTrue result → self.new.entries.items ≡ self.old.entries.items ++ (0, item) ∷ [] }
+        ensures made { IsTrue result →
+            self.new.entries.items ≡ self.old.entries.items ++ (0, item) ∷ [] }
         ensures room { IsTrue result → length self.old.entries.items < 100000 }
         ensures list { IsTrue result → self.new.list.items ≡ self.old.list.items ++ item ∷ [] }
-        ensures not_made { IsFalse result → (self.new.entries.items ≡ self.old.entries.items) × (self.new.list.items ≡ self.old.list.items) }
+        ensures not_made { IsFalse result → (self.new.entries.items ≡ self.old.entries.items)
+            × (self.new.list.items ≡ self.old.list.items) }
     {
         if self.list.reserve(1).is_err() {
             return false;
@@ -91,7 +94,8 @@ fn put<R: Wait>(rt: &R, slot: &Slot<Journal>, pass: &mut Pass<Journal>, item: u6
     requires reader { IsReader pass.old.me.0 × IsFree pass.old.me }
     ensures own { pass.new.table_id ≡ slot.now }
     ensures reader { IsReader pass.new.me.0 × IsFree pass.new.me }
-    ensures seats { (pass.new.me.0.made ≡ pass.old.me.0.made) × (pass.new.me.0.ended ≡ pass.old.me.0.ended) }
+    ensures seats { (pass.new.me.0.made ≡ pass.old.me.0.made)
+        × (pass.new.me.0.ended ≡ pass.old.me.0.ended) }
 {
     let mut journal = slot.lock(rt, pass);
     let made = journal.put(item);
@@ -159,18 +163,22 @@ fn four_write<R: Threads + Wait + Sync>(
 ) -> (Wrote, Wrote)
     requires left { (left.0.pass.table_id ≡ slot.now) × (left.1.pass.table_id ≡ slot.now) }
     requires right { (right.0.pass.table_id ≡ slot.now) × (right.1.pass.table_id ≡ slot.now) }
-    ensures left { (result.0.0.0.pass.table_id ≡ slot.now) × (result.0.1.0.pass.table_id ≡ slot.now) }
-    ensures right { (result.1.0.0.pass.table_id ≡ slot.now) × (result.1.1.0.pass.table_id ≡ slot.now) }
+    ensures left { (result.0.0.0.pass.table_id ≡ slot.now)
+        × (result.0.1.0.pass.table_id ≡ slot.now) }
+    ensures right { (result.1.0.0.pass.table_id ≡ slot.now)
+        × (result.1.1.0.pass.table_id ≡ slot.now) }
 {
     thread::join(
         rt,
         || -> Wrote
             requires { (left.0.pass.table_id ≡ slot.now) × (left.1.pass.table_id ≡ slot.now) }
-            ensures { (result.0.0.pass.table_id ≡ slot.entry.now) × (result.1.0.pass.table_id ≡ slot.entry.now) }
+            ensures { (result.0.0.pass.table_id ≡ slot.entry.now)
+                × (result.1.0.pass.table_id ≡ slot.entry.now) }
         { two_write(rt, slot, left.0, left.1, times) },
         || -> Wrote
             requires { (right.0.pass.table_id ≡ slot.now) × (right.1.pass.table_id ≡ slot.now) }
-            ensures { (result.0.0.pass.table_id ≡ slot.entry.now) × (result.1.0.pass.table_id ≡ slot.entry.now) }
+            ensures { (result.0.0.pass.table_id ≡ slot.entry.now)
+                × (result.1.0.pass.table_id ≡ slot.entry.now) }
         { two_write(rt, slot, right.0, right.1, times) },
     )
 }
@@ -183,24 +191,38 @@ fn eight_write<R: Threads + Wait + Sync>(
     right: ((Writer, Writer), (Writer, Writer)),
     times: u64,
 ) -> (Wrote, Wrote, Wrote, Wrote)
-    requires left { (left.0.0.pass.table_id ≡ slot.now) × (left.0.1.pass.table_id ≡ slot.now) × (left.1.0.pass.table_id ≡ slot.now) × (left.1.1.pass.table_id ≡ slot.now) }
-    requires right { (right.0.0.pass.table_id ≡ slot.now) × (right.0.1.pass.table_id ≡ slot.now) × (right.1.0.pass.table_id ≡ slot.now) × (right.1.1.pass.table_id ≡ slot.now) }
-    ensures first { (result.0.0.0.pass.table_id ≡ slot.now) × (result.0.1.0.pass.table_id ≡ slot.now) }
-    ensures second { (result.1.0.0.pass.table_id ≡ slot.now) × (result.1.1.0.pass.table_id ≡ slot.now) }
-    ensures third { (result.2.0.0.pass.table_id ≡ slot.now) × (result.2.1.0.pass.table_id ≡ slot.now) }
-    ensures fourth { (result.3.0.0.pass.table_id ≡ slot.now) × (result.3.1.0.pass.table_id ≡ slot.now) }
+    requires left { (left.0.0.pass.table_id ≡ slot.now) × (left.0.1.pass.table_id ≡ slot.now)
+        × (left.1.0.pass.table_id ≡ slot.now) × (left.1.1.pass.table_id ≡ slot.now) }
+    requires right { (right.0.0.pass.table_id ≡ slot.now) × (right.0.1.pass.table_id ≡ slot.now)
+        × (right.1.0.pass.table_id ≡ slot.now) × (right.1.1.pass.table_id ≡ slot.now) }
+    ensures first { (result.0.0.0.pass.table_id ≡ slot.now)
+        × (result.0.1.0.pass.table_id ≡ slot.now) }
+    ensures second { (result.1.0.0.pass.table_id ≡ slot.now)
+        × (result.1.1.0.pass.table_id ≡ slot.now) }
+    ensures third { (result.2.0.0.pass.table_id ≡ slot.now)
+        × (result.2.1.0.pass.table_id ≡ slot.now) }
+    ensures fourth { (result.3.0.0.pass.table_id ≡ slot.now)
+        × (result.3.1.0.pass.table_id ≡ slot.now) }
 {
     let ((one, two), (three, four)) = left;
     let ((five, six), (seven, eight)) = right;
     let ((first, second), (third, fourth)) = thread::join(
         rt,
         || -> (Wrote, Wrote)
-            requires { (one.pass.table_id ≡ slot.now) × (two.pass.table_id ≡ slot.now) × (three.pass.table_id ≡ slot.now) × (four.pass.table_id ≡ slot.now) }
-            ensures { (result.0.0.0.pass.table_id ≡ slot.entry.now) × (result.0.1.0.pass.table_id ≡ slot.entry.now) × (result.1.0.0.pass.table_id ≡ slot.entry.now) × (result.1.1.0.pass.table_id ≡ slot.entry.now) }
+            requires { (one.pass.table_id ≡ slot.now) × (two.pass.table_id ≡ slot.now)
+                × (three.pass.table_id ≡ slot.now) × (four.pass.table_id ≡ slot.now) }
+            ensures { (result.0.0.0.pass.table_id ≡ slot.entry.now)
+                × (result.0.1.0.pass.table_id ≡ slot.entry.now)
+                × (result.1.0.0.pass.table_id ≡ slot.entry.now)
+                × (result.1.1.0.pass.table_id ≡ slot.entry.now) }
         { four_write(rt, slot, (one, two), (three, four), times) },
         || -> (Wrote, Wrote)
-            requires { (five.pass.table_id ≡ slot.now) × (six.pass.table_id ≡ slot.now) × (seven.pass.table_id ≡ slot.now) × (eight.pass.table_id ≡ slot.now) }
-            ensures { (result.0.0.0.pass.table_id ≡ slot.entry.now) × (result.0.1.0.pass.table_id ≡ slot.entry.now) × (result.1.0.0.pass.table_id ≡ slot.entry.now) × (result.1.1.0.pass.table_id ≡ slot.entry.now) }
+            requires { (five.pass.table_id ≡ slot.now) × (six.pass.table_id ≡ slot.now)
+                × (seven.pass.table_id ≡ slot.now) × (eight.pass.table_id ≡ slot.now) }
+            ensures { (result.0.0.0.pass.table_id ≡ slot.entry.now)
+                × (result.0.1.0.pass.table_id ≡ slot.entry.now)
+                × (result.1.0.0.pass.table_id ≡ slot.entry.now)
+                × (result.1.1.0.pass.table_id ≡ slot.entry.now) }
         { four_write(rt, slot, (five, six), (seven, eight), times) },
     );
     (first, second, third, fourth)

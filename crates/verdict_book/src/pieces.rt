@@ -16,7 +16,8 @@ pub enum Piece<'a> {
 }
 
 fn put_piece<K: Sink>(buffer: &mut Buffer, sink: &mut K, piece: &Piece<'_>) -> Result<(), Failed>
-    ensures put { Gathers (K.taken sink.old) buffer.old (K.taken sink.new) buffer.new (piece_text piece.now) result }
+    ensures put { Gathers (K.taken sink.old) buffer.old (K.taken sink.new) buffer.new
+        (piece_text piece.now) result }
     ensures cause { HasCause (K.faults sink.old) (K.faults sink.new) result }
 {
     match *piece {
@@ -31,7 +32,8 @@ pub fn put_pieces<K: Sink>(
     sink: &mut K,
     pieces: &[Piece<'_>],
 ) -> Result<(), Failed>
-    ensures put { Gathers (K.taken sink.old) buffer.old (K.taken sink.new) buffer.new (pieces_text pieces.now) result }
+    ensures put { Gathers (K.taken sink.old) buffer.old (K.taken sink.new) buffer.new
+        (pieces_text pieces.now) result }
     ensures cause { HasCause (K.faults sink.old) (K.faults sink.new) result }
 {
     match pieces.split_first() {

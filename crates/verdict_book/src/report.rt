@@ -15,7 +15,8 @@ fn put_ok<K: Sink>(
     number: u64,
     name: &Listed<u8>,
 ) -> Result<(), Failed>
-    ensures put { Gathers (K.taken sink.old) buffer.old (K.taken sink.new) buffer.new (ok_line number name.now) result }
+    ensures put { Gathers (K.taken sink.old) buffer.old (K.taken sink.new) buffer.new
+        (ok_line number name.now) result }
     ensures cause { HasCause (K.faults sink.old) (K.faults sink.new) result }
 {
     put_pieces(
@@ -34,7 +35,8 @@ fn put_ok<K: Sink>(
 // The lines of accepted commands.
 fn put_oks<K: Sink>(buffer: &mut Buffer, sink: &mut K, names: &[Listed<u8>]) -> Result<(), Failed>
     requires { length names.now < 2 ^ 63 }
-    ensures put { Gathers (K.taken sink.old) buffer.old (K.taken sink.new) buffer.new (ok_lines 1 names.now) result }
+    ensures put { Gathers (K.taken sink.old) buffer.old (K.taken sink.new) buffer.new
+        (ok_lines 1 names.now) result }
     ensures cause { HasCause (K.faults sink.old) (K.faults sink.new) result }
 {
     let mut number = 1;
@@ -54,7 +56,8 @@ fn put_shown<K: Sink>(
     names: &[Listed<u8>],
 ) -> Result<(), Failed>
     requires { length names.now < 2 ^ 63 }
-    ensures put { Gathers (K.taken sink.old) buffer.old (K.taken sink.new) buffer.new (shown_lines quiet names.now) result }
+    ensures put { Gathers (K.taken sink.old) buffer.old (K.taken sink.new) buffer.new
+        (shown_lines quiet names.now) result }
     ensures cause { HasCause (K.faults sink.old) (K.faults sink.new) result }
 {
     if quiet {
@@ -108,7 +111,8 @@ fn put_last<K: Sink>(
     budget: u64,
 ) -> Result<(), Failed>
     requires { StopsAtFault outcome }
-    ensures put { Gathers (K.taken sink.old) buffer.old (K.taken sink.new) buffer.new (last_line outcome budget) result }
+    ensures put { Gathers (K.taken sink.old) buffer.old (K.taken sink.new) buffer.new
+        (last_line outcome budget) result }
     ensures cause { HasCause (K.faults sink.old) (K.faults sink.new) result }
 {
     let end = Piece::Text(b"\n");
@@ -161,7 +165,8 @@ pub fn write_outcome<K: Sink>(
 ) -> Result<(), Failed>
     requires few { length names.now < 2 ^ 63 }
     requires fault { StopsAtFault outcome.now }
-    ensures wrote { Wrote (K.taken sink.old) (K.taken sink.new) (report_of names.now outcome.now budget quiet) result }
+    ensures wrote { Wrote (K.taken sink.old) (K.taken sink.new)
+        (report_of names.now outcome.now budget quiet) result }
     ensures cause { HasCause (K.faults sink.old) (K.faults sink.new) result }
 {
     let mut buffer = Buffer::new();
