@@ -18,3 +18,6 @@ pub use memory::NoMemory;
 pub use scoped::{Left, Scoped, ScopedRule};
 pub use signature::{Entry, Pat, Rule, Signature, SymSort};
 pub use term::{Term, make_annotated, make_app, make_bare, make_product};
+
+#[cfg(test)]
+mod tests;

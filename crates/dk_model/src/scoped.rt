@@ -28,11 +28,18 @@ pub struct ScopedRule {
 /// A scoped left side.
 #[derive(Drop)]
 pub enum Left {
+    /// A symbol, by its number in the signature.
     Sym(u32),
+    /// A rule variable, by its place in the context, from 0.
     Rvar(u32),
+    /// The variable of the `k`th binder of the left side around it, from 0 at the innermost.
     Var(u32),
+    /// The wildcard.
     Any,
+    /// A guard: a term that the part must be convertible with, under no binders.
     Guard(Term),
+    /// An abstraction; its body is under the variable.
     Abs(Box<Left>),
+    /// A function and its argument.
     App(Box<Left>, Box<Left>),
 }

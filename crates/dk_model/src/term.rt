@@ -7,6 +7,28 @@ ghost use Rattle.dk_model.specs.Erasure.{erased};
 use crate::NoMemory;
 use std::alloc::Global;
 
+/// A term. Two terms are equal where their trees are; a box isn't looked at (specs/Trees.antt).
+#[derive(Drop)]
+pub enum Term {
+    /// `Type`.
+    Star,
+    /// The type of `Type`, which no file spells.
+    Kind,
+    /// The symbol that entry `k` of the signature declares, from 0.
+    Sym(u32),
+    /// The variable of the `k`th binder around it, from 0 at the innermost.
+    Var(u64),
+    /// A variable of a rule's context, by its place there, from 0.
+    Rvar(u32),
+    /// A function and its argument.
+    App(Box<Term>, Box<Term>),
+    /// An abstraction: the annotation of its variable, if it has one, and the body, which is under the variable.
+    Abs(Option<Box<Term>>, Box<Term>),
+    /// A product: the domain, and the codomain, which is under the variable also where it doesn't mention it.
+    Prod(Box<Term>, Box<Term>),
+}
+
+/// `f a`.
 pub fn make_app(alloc: Global, f: Term, a: Term) -> Result<Term, NoMemory>
     ensures { IfOk result (λ t. tree t ≡ apply (tree f) (tree a)) }
 {
@@ -15,6 +37,7 @@ pub fn make_app(alloc: Global, f: Term, a: Term) -> Result<Term, NoMemory>
     Ok(Term::App(f, a))
 }
 
+/// `x => b`, where `b` is under `x`.
 pub fn make_bare(alloc: Global, b: Term) -> Result<Term, NoMemory>
     ensures { IfOk result (λ t. tree t ≡ bare (tree b)) }
 {
@@ -22,6 +45,7 @@ pub fn make_bare(alloc: Global, b: Term) -> Result<Term, NoMemory>
     Ok(Term::Abs(None, b))
 }
 
+/// `x : n => b`, where `b` is under `x` and `n` isn't.
 pub fn make_annotated(alloc: Global, n: Term, b: Term) -> Result<Term, NoMemory>
     ensures { IfOk result (λ t. tree t ≡ annotated (tree n) (tree b)) }
 {
@@ -30,6 +54,7 @@ pub fn make_annotated(alloc: Global, n: Term, b: Term) -> Result<Term, NoMemory>
     Ok(Term::Abs(Some(n), b))
 }
 
+/// `x : a -> b`, where `b` is under `x` and `a` isn't.
 pub fn make_product(alloc: Global, a: Term, b: Term) -> Result<Term, NoMemory>
     ensures { IfOk result (λ t. tree t ≡ product (tree a) (tree b)) }
 {
@@ -47,19 +72,8 @@ fn next(k: u64) -> Result<u64, NoMemory>
     }
 }
 
-#[derive(Drop)]
-pub enum Term {
-    Star,
-    Kind,
-    Sym(u32),
-    Var(u64),
-    Rvar(u32),
-    App(Box<Term>, Box<Term>),
-    Abs(Option<Box<Term>>, Box<Term>),
-    Prod(Box<Term>, Box<Term>),
-}
-
 impl Term {
+    /// The same tree in memory of its own.
     pub fn copy(&self, alloc: Global) -> Result<Term, NoMemory>
         ensures { IfOk result (λ t. tree t ≡ tree self.now) }
     {
@@ -69,25 +83,10 @@ impl Term {
             Term::Sym(k) => Ok(Term::Sym(*k)),
             Term::Var(k) => Ok(Term::Var(*k)),
             Term::Rvar(k) => Ok(Term::Rvar(*k)),
-            Term::App(f, a) => {
-                let f2 = Box::new(alloc, f.copy(alloc)?)?;
-                let a2 = Box::new(alloc, a.copy(alloc)?)?;
-                Ok(Term::App(f2, a2))
-            }
-            Term::Abs(None, b) => {
-                let b2 = Box::new(alloc, b.copy(alloc)?)?;
-                Ok(Term::Abs(None, b2))
-            }
-            Term::Abs(Some(n), b) => {
-                let n2 = Box::new(alloc, n.copy(alloc)?)?;
-                let b2 = Box::new(alloc, b.copy(alloc)?)?;
-                Ok(Term::Abs(Some(n2), b2))
-            }
-            Term::Prod(a, b) => {
-                let a2 = Box::new(alloc, a.copy(alloc)?)?;
-                let b2 = Box::new(alloc, b.copy(alloc)?)?;
-                Ok(Term::Prod(a2, b2))
-            }
+            Term::App(f, a) => make_app(alloc, f.copy(alloc)?, a.copy(alloc)?),
+            Term::Abs(None, b) => make_bare(alloc, b.copy(alloc)?),
+            Term::Abs(Some(n), b) => make_annotated(alloc, n.copy(alloc)?, b.copy(alloc)?),
+            Term::Prod(a, b) => make_product(alloc, a.copy(alloc)?, b.copy(alloc)?),
         }
     }
 
