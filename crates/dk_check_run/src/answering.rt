@@ -6,7 +6,8 @@ ghost use Rattle.command_line.specs.Usage.{usage_text};
 ghost use Rattle.verdict_book.specs.Report.{StopsAtFault, report_of, status_of};
 ghost use Rattle.dk_check_run.specs.Run.{Answers, ChecksBook, Writes, memory_at_once, unopened};
 
-use crate::{Reader, read_book};
+use crate::reader::Reader;
+use crate::shelf_read::read_book;
 use command_line::{read_request, usage_text};
 use dk_io::{Shelf, Sink, put, put_all};
 use dk_model::{Limits, Listed, Verdict};

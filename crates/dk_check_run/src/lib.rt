@@ -7,10 +7,6 @@ mod shelf_read;
 mod theory;
 mod top;
 
-pub use answering::answer;
-pub use reader::Reader;
-pub use shelf_read::read_book;
-pub use theory::Theory;
 pub use top::run;
 
 #[cfg(test)]

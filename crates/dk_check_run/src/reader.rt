@@ -13,7 +13,7 @@ ghost use Rattle.verdict_book.specs.declared.outcome.Outcome.{Outcome};
 ghost use Rattle.dk_check_run.specs.Theories.{checked_of};
 ghost use Rattle.dk_check_run.specs.Progress.{EndsByItself, EndsWith, GoesOnBehind, IsReady, IsStop, JudgesWhole, StandsAt, StandsAtLexed, StandsAtTokens, due_line, ended_outcome, stopped};
 
-use crate::Theory;
+use crate::theory::Theory;
 use dk_lexer::{Fed, Lexer, Token};
 use dk_model::{Code, Fault, Limits, Listed, NoMemory, Verdict};
 use dk_parser::{Parser, Raw, Step};

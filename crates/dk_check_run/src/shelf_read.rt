@@ -6,7 +6,7 @@ ghost use Rattle.dk_model.specs.declared.limits.Limits.{Limits};
 ghost use Rattle.dk_check_run.specs.Progress.{EndsOn, IsReady, IsStop, StandsAt};
 ghost use Rattle.dk_check_run.specs.Theories.{checked_of};
 
-use crate::Reader;
+use crate::reader::Reader;
 use dk_io::Shelf;
 use std::alloc::Global;
 use verdict_book::Outcome;

@@ -7,7 +7,7 @@ ghost use Rattle.dk_io.specs.Bytes.{AddsSome, added};
 ghost use Rattle.dk_io.specs.Causes.{Rose};
 ghost use Rattle.dk_check_run.specs.Run.{AsksFor, IsDecided, IsDueText, IsFileDerived, MemoryText, ReportsFile, UnreadText, memory_at_once, unopened};
 
-use crate::answer;
+use crate::answering::answer;
 use dk_io::{Shelf, Sink};
 use std::alloc::Global;
 
