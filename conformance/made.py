@@ -22,6 +22,21 @@ def open_comment(deep):
     return b'(;' * deep + b' x ' + b';)' * deep + b'\na : Type.\nb : (;;) a.\n'
 
 
+
+def successors(number, inner):
+    """The numeral that is so many more than another term."""
+    return b's (' * number + inner + b')' * number
+
+
+def deep_values(turns, step):
+    """A function that adds `step` to its second argument in each of `turns` turns, so that evaluation makes a deep numeral."""
+    rules = b'[n] f z n --> n\n[m, n] f (s m) n --> f m (' + successors(step, b'n') + b').\n'
+    late = b'f (' + successors(turns - 1, b'z') + b') (' + successors(step, b'z') + b')'
+    return (b'nat : Type.\nz : nat.\ns : nat -> nat.\ndef f : nat -> nat -> nat.\n' + rules
+            + b'eq : nat -> nat -> Type.\nrefl : n : nat -> eq n n.\n'
+            + b'thm t : eq (f (' + successors(turns, b'z') + b') z) (' + late + b') := refl (' + late + b').\n')
+
+
 FILES = {
     'brackets_1000': lambda: b'x : ' + b'(' * 1000 + b'Type' + b')' * 1000 + b'.\n',
     'brackets_1001': lambda: b'x : ' + b'(' * 1001 + b'Type' + b')' * 1001 + b'.\n',
@@ -47,6 +62,7 @@ FILES = {
     'rule_levels_1000': lambda: (b'a : Type.\ndef f : a -> a.\n[x : ' + b'(' * 1000 + b'a' + b')' * 1000 + b'] f ' + b'(' * 1000 + b'x'
                                  + b')' * 1000 + b' --> ' + b'(' * 1000 + b'x' + b')' * 1000 + b'.\n'),
     'rule_levels_1001': lambda: b'a : Type.\ndef f : a -> a.\n[x] f ' + b'(' * 1001 + b'x' + b')' * 1001 + b' --> x.\n',
+    'values_200000_deep': lambda: deep_values(400, 500),
     'patterns_1001': lambda: b'a : Type.\nx : a.\ndef f : a -> a.\n[] f' + b' x' * 1001 + b' --> x.\n',
 }
 LARGE = {'made:' + name for name in ('command_at_limit', 'command_past_limit', 'commands_at_limit', 'commands_past_limit')}

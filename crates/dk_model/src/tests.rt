@@ -26,10 +26,10 @@ fn pair(alloc: Global, f: u64, a: u64) -> Result<Term, NoMemory> {
     make_app(alloc, Term::Var(f), Term::Var(a))
 }
 
-/// `x : 0 1 -> (y => 0 2) (z : 1 0 => 1 4)`, variables by number, where `free` is 0, 1, 2: these three are the numbers of
-/// the free variables, counted from outside all binders.
-fn mixed(alloc: Global, free: [u64; 3]) -> Result<Term, NoMemory> {
-    let [first, second, third] = free;
+/// `x : first second -> (y => y first) (z : first x => x third)`: the arguments are the numbers of three free variables,
+/// counted from outside all binders.
+fn mixed(alloc: Global, first: u32, second: u32, third: u32) -> Result<Term, NoMemory> {
+    let (first, second, third) = (u64::from(first), u64::from(second), u64::from(third));
     let domain = pair(alloc, first, second)?;
     let bare = make_bare(alloc, pair(alloc, 0, first + 2)?)?;
     let note = pair(alloc, first + 1, 0)?;
@@ -40,13 +40,13 @@ fn mixed(alloc: Global, free: [u64; 3]) -> Result<Term, NoMemory> {
 #[test]
 fn shifting_leaves_bound_variables(rt: HostRuntime) -> Result<(), Fail> {
     let alloc = rt.alloc();
-    let term = mixed(alloc, [0, 1, 2])?;
+    let term = mixed(alloc, 0, 1, 2)?;
     let copy = term.copy(alloc)?;
     assert!(rt; copy.equal(&term));
     let all = term.shift(alloc, 0, 5)?;
-    assert!(rt; all.equal(&mixed(alloc, [5, 6, 7])?));
+    assert!(rt; all.equal(&mixed(alloc, 5, 6, 7)?));
     let later = term.shift(alloc, 1, 5)?;
-    assert!(rt; later.equal(&mixed(alloc, [0, 6, 7])?));
+    assert!(rt; later.equal(&mixed(alloc, 0, 6, 7)?));
     assert!(rt; !later.equal(&all));
     let last = Term::Var(u64::MAX).shift(alloc, 0, 1);
     assert!(rt; last.is_err());
