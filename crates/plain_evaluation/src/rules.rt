@@ -163,3 +163,13 @@ pub fn patterns_of(source: &Source) -> usize
         Source::Rule(rule) => rule.pats.len(),
     }
 }
+
+/// How many variables a rule has.
+pub fn variables_of(source: &Source) -> u32
+    ensures { result ≡ (source_rule source.now).vars }
+{
+    match source {
+        Source::Body(_, _) => 0,
+        Source::Rule(rule) => rule.vars,
+    }
+}

@@ -14,7 +14,7 @@ use crate::fault::Stop;
 use crate::gap::{Gap, gap_at};
 use crate::matrix::{Cell, Column, Matrix, Row, rigid_at};
 use crate::normal::normal;
-use crate::rules::Source;
+use crate::rules::{Source, variables_of};
 use dk_model::{NoMemory, Pat, Rule, Signature, Term};
 use std::alloc::Global;
 use std::mem;
@@ -144,15 +144,6 @@ fn no_captures(alloc: Global, source: &Source) -> Result<Vec<Option<Term>>, NoMe
         captures.push(None)?;
     }
     Ok(captures)
-}
-
-fn variables_of(source: &Source) -> u32
-    ensures { result ≡ (source_rule source.now).vars }
-{
-    match source {
-        Source::Body(_, _) => 0,
-        Source::Rule(rule) => rule.vars,
-    }
 }
 
 /// The captures of a row from left to right; false where it fails.
