@@ -9,7 +9,7 @@ use Rattle.scope_terms.specs.Scopes.{names_after, scope_of}
 use Rattle.dk_model.specs.Signatures.{PlainEntry, PlainSignature, plain_signature}
 use Rattle.dk_model.specs.Scoping.{PlainCommand}
 use Rattle.typing_model.specs.Laws.{IsNumbered}
-use Rattle.plain_check.specs.Matrix.{AreRuled}
+use Rattle.plain_evaluation.specs.Rules.{AreRuled}
 use Rattle.dk_check_run.specs.declared.theory.Theory.{Theory as Kept}
 use Rattle.dk_check_run.specs.Outcomes.{Theory, no_theory, scoped_entry, theory_after, verdict_after, verdict_at, shown_name}
 

@@ -2,7 +2,7 @@
 ghost use Rattle.std.specs.Prelude.{◌≡◌, ◌<◌, ◌≤◌, ◌∷◌, ◌++◌, [], IfOk, IfErr, OnOk, OnErr, length, map};
 ghost use Rattle.dk_model.specs.Signatures.{plain_entry};
 ghost use Rattle.dk_parser.specs.Written.{written_form, written_pattern, written_rule, written_rules};
-ghost use Rattle.plain_check.specs.Matrix.{AreRuled};
+ghost use Rattle.plain_evaluation.specs.Rules.{AreRuled};
 ghost use Rattle.dk_check_run.specs.Outcomes.{head_name, shown_name, verdict_after};
 ghost use Rattle.dk_check_run.specs.Theories.{AcceptsWith, Adds, IsKept, IsOtherVerdict, Judges, checked_of, nothing_checked};
 

@@ -5,8 +5,8 @@ use Rattle.dk_model.specs.Trees.{Tree, kind, tree}
 use Rattle.dk_model.specs.Substitution.{shift}
 use Rattle.dk_model.specs.Typing.{variable_type}
 use Rattle.dk_model.specs.declared.term.Term.{Term}
-use Rattle.plain_check.specs.Machine.{from_top}
-use Rattle.plain_check.proofs.Winding.{length_from_top, get_from_top}
+use Rattle.plain_evaluation.specs.Machine.{from_top}
+use Rattle.plain_evaluation.proofs.Winding.{length_from_top, get_from_top}
 
 pub innermost_pushed : (ts : List Term) (t : Term) → from_top (ts ++ (t ∷ [])) ≡ tree t ∷ from_top ts
 innermost_pushed [] t = refl

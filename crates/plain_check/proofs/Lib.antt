@@ -1,19 +1,6 @@
-mod Winding
-mod Turning
-mod Parts
-mod Choosing
-mod Pausing
-mod Through
-mod Trying
-mod Matched
-mod Comparing
 mod Contexts
 mod Judging
 mod Spines
 mod Verdict
 mod Shaping
 mod Mentioning
-mod Refining
-mod Sources
-pub mod Places
-mod References

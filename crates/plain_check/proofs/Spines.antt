@@ -1,19 +1,16 @@
 -- Inference along a spine.
-use Rattle.std.proofs.Common.{List, [], ◌∷◌, ◌++◌, ◌≡◌, ◌+◌, ◌<◌, ◌≤◌, ℕ, refl, ap, ◌∙◌, sym as flip, subst as along_path, arith}
+use Rattle.std.proofs.Common.{List, [], ◌∷◌, ◌++◌, ◌≡◌, ◌+◌, ℕ, ap, ◌∙◌, sym as flip, arith}
 use Rattle.std.specs.Borrow.{Bor}
-use Rattle.dk_model.specs.Trees.{Tree, star, kind, symbol, variable, rule_variable, bare, annotated, product, apply, tree}
+use Rattle.dk_model.specs.Trees.{Tree, tree}
 use Rattle.dk_model.specs.Signatures.{PlainSignature}
 use Rattle.dk_model.specs.Typing.{answer, next, inferred, checked, application_type}
 use Rattle.dk_model.specs.declared.term.Term.{Term}
 use Rattle.plain_check.specs.declared.fault.TypeFault.{TypeFault}
 use Rattle.plain_check.specs.Given.{Fails}
-use Rattle.plain_check.specs.Machine.{wound}
-use Rattle.plain_check.specs.Spine.{behind_references, along, argument_type, size, total_size}
+use Rattle.plain_evaluation.specs.Machine.{wound}
+use Rattle.plain_evaluation.specs.Spine.{behind_references, size, total_size}
+use Rattle.plain_check.specs.Spine.{along, argument_type}
 use Rattle.plain_check.proofs.Judging.{next_next, next_answer, fails_next, fails_is}
-
-pub references_pushed : (t : Tree) (rs : List (Bor Term)) (r : Bor Term) → wound t (behind_references (rs ++ (r ∷ []))) ≡ wound (apply t (tree r.now)) (behind_references rs)
-references_pushed t [] r = refl
-references_pushed t (x ∷ rs) r = ap (λ (u : Tree). apply u (tree x.now)) (references_pushed t rs r)
 
 module _ (S : PlainSignature) (G : List Tree) where
   inferred_wound : (h : Tree) (xs : List Tree) (n : ℕ) → inferred S [] G (wound h xs) n ≡ next (inferred S [] G h n) (along S G xs)
@@ -43,28 +40,7 @@ module _ (S : PlainSignature) (G : List Tree) where
       → along S G (behind_references (rs ++ (r ∷ []))) F n ≡ along S G (behind_references rs) T m
   argument_given rs r F T n m q = along_pushed rs r F n ∙ ap (λ y. next y (along S G (behind_references rs))) q
 
--- sizes, by which typing ends
-
-pub size_positive : (t : Tree) → 0 < size t
-size_positive star = omega arith
-size_positive kind = omega arith
-size_positive (symbol k) = omega arith
-size_positive (variable k) = omega arith
-size_positive (rule_variable k) = omega arith
-size_positive (apply f a) = omega arith
-size_positive (bare b) = omega arith
-size_positive (annotated d b) = omega arith
-size_positive (product d b) = omega arith
-
-size_wound : (h : Tree) (xs : List Tree) → size h + total_size xs ≤ size (wound h xs)
-size_wound h [] = omega arith
-size_wound h (x ∷ xs) = let q : size h + total_size xs ≤ size (wound h xs) = size_wound h xs in omega (arith, q)
-
-pub spine_size : (h t : Tree) (xs : List Tree) → wound h xs ≡ t → size h + total_size xs ≤ size t
-spine_size h t xs e = along_path (λ u. size h + total_size xs ≤ size u) e (size_wound h xs)
-
-pub arguments_smaller : (h t : Tree) (xs : List Tree) → wound h xs ≡ t → total_size xs < size t
-arguments_smaller h t xs e = let p : 0 < size h = size_positive h in let q : size h + total_size xs ≤ size t = spine_size h t xs e in omega (arith, p, q)
+-- the size of what is left, by which typing ends
 
 pub total_pushed : (rs : List (Bor Term)) (r : Bor Term) → total_size (behind_references (rs ++ (r ∷ []))) ≡ total_size (behind_references rs) + size (tree r.now)
 total_pushed [] r = omega arith

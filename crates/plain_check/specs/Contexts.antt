@@ -2,7 +2,7 @@
 use Rattle.std.specs.Prelude.{List}
 use Rattle.dk_model.specs.Trees.{Tree}
 use Rattle.plain_check.specs.declared.context.Context.{Context}
-use Rattle.plain_check.specs.Machine.{from_top}
+use Rattle.plain_evaluation.specs.Machine.{from_top}
 
 -- the types of the variables that are bound, the innermost first
 abbrev pub context_of : Context → List Tree

@@ -1,7 +1,6 @@
 -- What a call gives, by the cases of its result. Want of memory says nothing.
-use Rattle.std.specs.Prelude.{ℕ, ◌≡◌, Some, None, Bool, Result, Ok, Err, List, map}
+use Rattle.std.specs.Prelude.{ℕ, ◌≡◌, Result, Ok, Err, List, map}
 use Rattle.dk_model.specs.Trees.{Tree, tree}
-use Rattle.dk_model.specs.Units.{Units}
 use Rattle.dk_model.specs.Typing.{Judged, answer, refused, ended}
 use Rattle.dk_model.specs.declared.term.Term.{Term}
 use Rattle.dk_model.specs.declared.code.Code.{Code}
@@ -9,8 +8,8 @@ use Rattle.dk_model.specs.declared.code.Verdict.{Verdict}
 use Rattle.dk_model.specs.declared.signature.Rule.{Rule}
 use Rattle.dk_model.specs.Signatures.{PlainRule, plain_rule}
 use Rattle.dk_model.specs.declared.code.Verdict.TheVariants.{Accepted as Agreed, Refused as RefusedBy, Ended as OutOfUnits, Memory as OutOfMemory}
-use Rattle.plain_check.specs.declared.fault.Stop.{Stop}
-use Rattle.plain_check.specs.declared.fault.Stop.TheVariants.{Ended as Over, NoMemory as NoRoom}
+use Rattle.plain_evaluation.specs.declared.fault.Stop.{Stop}
+use Rattle.plain_evaluation.specs.declared.fault.Stop.TheVariants.{Ended as Over, NoMemory as NoRoom}
 use Rattle.plain_check.specs.declared.fault.TypeFault.{TypeFault}
 use Rattle.plain_check.specs.declared.expect.Product.{Product}
 use Rattle.plain_check.specs.declared.fault.TypeFault.TheVariants.{Refused, Ended, NoMemory}
@@ -26,18 +25,6 @@ IsVerdictOfShapes due Agreed = ⊥
 abbrev pub GivesShapes : Result (List PlainRule) Code → Result (List Rule) Verdict → Type 0
 GivesShapes due (Ok rs) = due ≡ Ok (map plain_rule rs)
 GivesShapes due (Err v) = IsVerdictOfShapes due v
-
--- a term, with the units left
-abbrev pub GivesTerm : Units Tree → Result Term Stop → ℕ → Type 0
-GivesTerm due (Ok t) left = due ≡ Some (tree t, left)
-GivesTerm due (Err Over) left = due ≡ None
-GivesTerm due (Err NoRoom) left = Unit {0}
-
--- yes or no, with the units left
-abbrev pub GivesBool : Units Bool → Result Bool Stop → ℕ → Type 0
-GivesBool due (Ok b) left = due ≡ Some (b, left)
-GivesBool due (Err Over) left = due ≡ None
-GivesBool due (Err NoRoom) left = Unit {0}
 
 -- the fault of a typing, or the end of its units
 abbrev pub Fails : {A : Type 0} → TypeFault → Judged A → Type 0

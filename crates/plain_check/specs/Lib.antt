@@ -1,11 +1,5 @@
-pub mod Machine
 pub mod Given
-pub mod Pending
 pub mod Contexts
 pub mod Spine
-pub mod Matrix
 pub mod Mentions
-pub mod Pausing
-pub mod Turning
-pub mod Selecting
 pub mod Clauses

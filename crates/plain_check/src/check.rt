@@ -7,18 +7,18 @@ ghost use Rattle.dk_model.specs.Verdicts.{is_untyped, verdict, rules_checked, en
 ghost use Rattle.dk_model.specs.Shapes.{kept_rules};
 ghost use Rattle.pattern_compile.specs.Answers.{command_shapes};
 ghost use Rattle.plain_check.specs.Given.{fault_verdict, GivesShapes};
-ghost use Rattle.plain_check.specs.Matrix.{AreRuled, AreRules};
+ghost use Rattle.plain_evaluation.specs.Rules.{AreRuled, AreRules};
 ghost use Rattle.plain_check.specs.Clauses.{due, IsDue, inferred_for, IsEntryOf, ChecksDeclaration, ChecksBody, GivesSort, GivesBodyType};
 
 use crate::context::Context;
 use crate::expect::{as_sort, not_kind};
 use crate::fault::TypeFault;
 use crate::infer::{check, infer};
-use crate::matrix::{push_place, ruled_in, rules_in};
 use dk_model::{
     Entry, Fault, Listed, NoMemory, Rule, Scoped, ScopedRule, Signature, SymSort, Term, Verdict,
 };
 use pattern_compile::{erase_all, shape_all};
+use plain_evaluation::{push_place, ruled_in, rules_in};
 use std::alloc::Global;
 
 /// The verdict on a command over the signature of the commands before it (docs/typing.md).
@@ -366,7 +366,7 @@ fn entry_of(
 /// Adds the entry of an accepted command to the signature, and the place of rules to their places.
 ///
 /// Where memory ends, either may have grown: both are to be let go.
-#[tactic(auto, using(crate::proofs::Places::entry_added))]
+#[tactic(auto, using(plain_evaluation::proofs::Places::entry_added))]
 pub fn add_entry(
     signature: &mut Signature,
     ruled: &mut Vec<usize>,

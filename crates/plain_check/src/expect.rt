@@ -4,13 +4,12 @@ ghost use Rattle.dk_model.specs.Trees.{tree};
 ghost use Rattle.dk_model.specs.Signatures.{plain_signature};
 ghost use Rattle.dk_model.specs.Typing.{symbol_type, not_kind};
 ghost use Rattle.plain_check.specs.Given.{GivesType, fault_of};
-ghost use Rattle.plain_check.specs.Matrix.{AreRules};
+ghost use Rattle.plain_evaluation.specs.Rules.{AreRules};
 ghost use Rattle.plain_check.specs.Clauses.{ExpectsProduct, ExpectsSort, ExpectsStar, ExpectsSame};
 
-use crate::compare::same;
-use crate::evaluate::whnf;
-use crate::fault::{Stop, TypeFault};
+use crate::fault::TypeFault;
 use dk_model::{Code, Entry, NoMemory, Rule, Signature, Term};
+use plain_evaluation::{Stop, same, whnf};
 use std::alloc::Global;
 
 /// The two parts of a product.

@@ -1,11 +1,10 @@
 //! Inference and checking (docs/typing.md).
 //!
 //! Applications are walked by a loop, so these functions nest as deep as brackets and binders do.
-ghost use Rattle.std.specs.Prelude.{◌≡◌, ◌+◌, ◌≤◌, ◌<◌, false, IfOk};
+ghost use Rattle.std.specs.Prelude.{◌≡◌, ◌<◌, false, IfOk};
 ghost use Rattle.dk_model.specs.Trees.{tree, bare, annotated, product};
-ghost use Rattle.plain_check.specs.Machine.{is_application, wound};
-ghost use Rattle.plain_check.specs.Spine.{behind_references, size, total_size};
-ghost use Rattle.plain_check.specs.Matrix.{AreRules};
+ghost use Rattle.plain_evaluation.specs.Machine.{is_application};
+ghost use Rattle.plain_evaluation.specs.Rules.{AreRules};
 ghost use Rattle.plain_check.specs.Clauses.{Infers, Checks, FitsDomain, Applies, Keeps};
 
 use crate::context::Context;
@@ -13,33 +12,8 @@ use crate::expect::{as_product, as_same, as_sort, as_star, not_kind, symbol_type
 use crate::fault::TypeFault;
 use crate::instance::instance;
 use dk_model::{Code, NoMemory, Rule, Signature, Term, make_product};
+use plain_evaluation::spine;
 use std::alloc::Global;
-
-/// Takes an application apart by references: its arguments go onto the stack, the first one on top.
-#[tactic(auto, using(crate::proofs::Spines::references_pushed))]
-pub fn spine<'a>(alloc: Global, term: &'a Term) -> Result<(&'a Term, Vec<&'a Term>), NoMemory>
-    ensures term { IfOk result
-        (λ s. wound (tree s.0.now) (behind_references s.1.items) ≡ tree term.now) }
-    ensures head { IfOk result (λ s. is_application (tree s.0.now) ≡ false) }
-    ensures size { IfOk result
-        (λ s. size (tree s.0.now) + total_size (behind_references s.1.items)
-        ≤ size (tree term.now)) }
-    ensures smaller { IfOk result
-        (λ s. total_size (behind_references s.1.items) < size (tree term.now)) }
-{
-    let mut arguments = Vec::new(alloc);
-    let mut head = term;
-    loop {
-        match head {
-            Term::App(f, a) => {
-                let a: &'a Term = a;
-                arguments.push(a)?;
-                head = f;
-            }
-            other => return Ok((other, arguments)),
-        }
-    }
-}
 
 /// The type of a term.
 #[cycle(typing)]

@@ -3,7 +3,8 @@ use Rattle.dk_model.specs.Trees.{tree}
 use Rattle.dk_model.specs.Signatures.{plain_signature}
 use Rattle.dk_model.specs.Typing.{inferred}
 use Rattle.plain_check.specs.Contexts.{context_of}
-use Rattle.plain_check.specs.Spine.{behind_references, along, size, total_size}
+use Rattle.plain_evaluation.specs.Spine.{behind_references, size, total_size}
+use Rattle.plain_check.specs.Spine.{along}
 use Rattle.plain_check.proofs.infer.+typing.Given as goal
 
 abbrev pub decreases-infer : goal.decreases-infer

@@ -1,4 +1,4 @@
-use Rattle.plain_check.specs.Matrix.{AreRuled}
+use Rattle.plain_evaluation.specs.Rules.{AreRuled}
 use Rattle.plain_check.proofs.tests.outcome.Given as goal
 
 abbrev pub invariant-loop-i : goal.invariant-loop-i

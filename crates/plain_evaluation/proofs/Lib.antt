@@ -1,0 +1,13 @@
+pub mod Winding
+mod Turning
+mod Parts
+mod Choosing
+mod Pausing
+mod Through
+mod Trying
+mod Matched
+mod Comparing
+mod Refining
+mod Sources
+pub mod Places
+mod References
