@@ -25,10 +25,15 @@ fn main(rt: HostRuntime) -> ExitCode {
 }
 
 // The status, from a thread of its own with a large stack. Where none can be made the work is done here.
-fn status_on_large_stack<R: Threads + Wait + Env + Files + Print + AllocGlobal + Sync>(rt: &R) -> u8 {
+fn status_on_large_stack<R: Threads + Wait + Env + Files + Print + AllocGlobal + Sync>(
+    rt: &R,
+) -> u8 {
     thread::scope(thread::scope_env(), rt, |scope| {
         for size in STACKS {
-            if let Ok(handle) = Builder::new().stack_size(size).spawn_scoped(scope, || status(rt)) {
+            if let Ok(handle) = Builder::new()
+                .stack_size(size)
+                .spawn_scoped(scope, || status(rt))
+            {
                 return handle.join(rt);
             }
         }
