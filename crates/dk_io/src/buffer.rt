@@ -10,7 +10,7 @@ use std::marker::Model;
 /// calls. Contracts see the bytes that wait. No call takes memory.
 ///
 /// Put text by text, and flush once at the end. After `Failed` the sink has taken a front of what
-/// was put; let the buffer go then, since a part of the text may be missing in it.
+/// was put; let the buffer go then, since a part of the text may be missing in it or come twice.
 #[derive(Drop)]
 pub struct Buffer {
     bytes: [u8; 4096],
@@ -56,10 +56,11 @@ impl Buffer {
         self.count >= 4096
     }
 
-    /// Writes what waits.
+    /// Writes what waits. After `Failed` it waits still, also what the sink took of it.
     pub fn flush<K: Sink>(&mut self, sink: &mut K) -> Result<(), Failed>
         ensures wrote { Wrote (K.taken sink.old) (K.taken sink.new) self.old result }
         ensures empty { OnOk result (self.new ≡ []) }
+        ensures kept { OnErr result (self.new ≡ self.old) }
         ensures nothing { self.old ≡ [] → IsOk result × (sink.new ≡ sink.old) }
         ensures cause { HasCause (K.faults sink.old) (K.faults sink.new) result }
     {
