@@ -6,8 +6,7 @@ use std::env::Env;
 use std::fs::Files;
 use std::io::Print;
 use std::process::ExitCode;
-use std::sync::Wait;
-use std::thread::{self, Builder, Threads};
+use std::thread::{self, Builder};
 use std::{env, io};
 
 // Where memory ends before the words are there.
@@ -20,25 +19,20 @@ const BAD_WORDS: u8 = 2;
 // the term, and evaluation makes terms as deep as memory lasts. A page of a stack takes memory only once it is used.
 const STACKS: [usize; 5] = [1 << 36, 1 << 34, 1 << 32, 1 << 30, 1 << 28];
 
+// The status comes from a thread with a large stack. Where none can be made the work is done here.
 fn main(rt: HostRuntime) -> ExitCode {
-    ExitCode::from(status_on_large_stack(&rt))
-}
-
-// The status, from a thread of its own with a large stack. Where none can be made the work is done here.
-fn status_on_large_stack<R: Threads + Wait + Env + Files + Print + AllocGlobal + Sync>(
-    rt: &R,
-) -> u8 {
-    thread::scope(thread::scope_env(), rt, |scope| {
+    let status = thread::scope(thread::scope_env(), &rt, |scope| {
         for size in STACKS {
             if let Ok(handle) = Builder::new()
                 .stack_size(size)
-                .spawn_scoped(scope, || status(rt))
+                .spawn_scoped(scope, || status(&rt))
             {
-                return handle.join(rt);
+                return handle.join(&rt);
             }
         }
-        status(rt)
-    })
+        status(&rt)
+    });
+    ExitCode::from(status)
 }
 
 fn status<R: Env + Files + Print + AllocGlobal>(rt: &R) -> u8 {
