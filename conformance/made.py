@@ -62,7 +62,7 @@ FILES = {
     'rule_levels_1000': lambda: (b'a : Type.\ndef f : a -> a.\n[x : ' + b'(' * 1000 + b'a' + b')' * 1000 + b'] f ' + b'(' * 1000 + b'x'
                                  + b')' * 1000 + b' --> ' + b'(' * 1000 + b'x' + b')' * 1000 + b'.\n'),
     'rule_levels_1001': lambda: b'a : Type.\ndef f : a -> a.\n[x] f ' + b'(' * 1001 + b'x' + b')' * 1001 + b' --> x.\n',
-    'values_200000_deep': lambda: deep_values(400, 500),
+    'values_45000_deep': lambda: deep_values(50, 900),
     'patterns_1001': lambda: b'a : Type.\nx : a.\ndef f : a -> a.\n[] f' + b' x' * 1001 + b' --> x.\n',
 }
 LARGE = {'made:' + name for name in ('command_at_limit', 'command_past_limit', 'commands_at_limit', 'commands_past_limit')}

@@ -17,7 +17,7 @@ const BAD_WORDS: u8 = 2;
 
 // Sizes of a stack in bytes, of which the first is taken that the system grants. Copying and comparing a term nest as deep as
 // the term, and evaluation makes terms as deep as memory lasts. A page of a stack takes memory only once it is used.
-const STACKS: [usize; 5] = [1 << 36, 1 << 34, 1 << 32, 1 << 30, 1 << 28];
+const STACKS: [usize; 6] = [1 << 36, 1 << 34, 1 << 32, 1 << 30, 1 << 28, 1 << 26];
 
 // The status comes from a thread with a large stack. Where none can be made the work is done here.
 fn main(rt: HostRuntime) -> ExitCode {
