@@ -66,6 +66,7 @@ impl Reader {
         requires going { self.old.stop ≡ None }
         ensures judged { JudgesWhole self.old (written_command raw) self.new }
         ensures stop { IsStop self.new.stop }
+        ensures kept { (self.new.limits ≡ self.old.limits) × (self.new.budget ≡ self.old.budget) }
         ensures ready { self.new.stop ≡ None → IsReady self.new }
     {
         let line = raw.line;
@@ -85,6 +86,7 @@ impl Reader {
             GoesOnBehind limits budget taken self.old →
             StandsAtTokens limits budget bytes ending (taken ++ token ∷ []) self.new }
         ensures stop { IsStop self.new.stop }
+        ensures kept { (self.new.limits ≡ self.old.limits) × (self.new.budget ≡ self.old.budget) }
         ensures ready { self.new.stop ≡ None → IsReady self.new }
         ensures lexer { self.new.lexer ≡ self.old.lexer }
     {
@@ -110,6 +112,7 @@ impl Reader {
             StandsAtTokens limits budget bytes ending taken self.old →
             StandsAtTokens limits budget bytes ending (taken ++ with_token token []) self.new }
         ensures stop { IsStop self.new.stop }
+        ensures kept { (self.new.limits ≡ self.old.limits) × (self.new.budget ≡ self.old.budget) }
         ensures ready { self.new.stop ≡ None → IsReady self.new }
         ensures lexer { self.new.lexer ≡ self.old.lexer }
     {
@@ -141,6 +144,7 @@ impl Reader {
             StandsAtTokens limits budget bytes ending taken self.old →
             StandsAtTokens limits budget bytes ending (tokens limits bytes ending).tokens self.new }
         ensures stop { IsStop self.new.stop }
+        ensures kept { (self.new.limits ≡ self.old.limits) × (self.new.budget ≡ self.old.budget) }
         ensures ready { self.new.stop ≡ None → IsReady self.new }
         ensures lexer { self.new.lexer ≡ self.old.lexer }
     {
@@ -161,6 +165,7 @@ impl Reader {
             GoesOnBehind limits budget before.tokens self.old →
             StandsAtLexed limits budget bytes ending self.new }
         ensures stop { IsStop self.new.stop }
+        ensures kept { (self.new.limits ≡ self.old.limits) × (self.new.budget ≡ self.old.budget) }
         ensures ready { self.new.stop ≡ None → IsReady self.new }
         ensures lexer { self.new.lexer ≡ self.old.lexer }
     {
@@ -199,6 +204,7 @@ impl Reader {
             StandsAt limits budget bytes self.old →
             StandsAt limits budget (bytes ++ byte ∷ []) self.new }
         ensures stop { IsStop self.new.stop }
+        ensures kept { (self.new.limits ≡ self.old.limits) × (self.new.budget ≡ self.old.budget) }
         ensures ready { self.new.stop ≡ None → IsReady self.new }
     {
         if self.stop.is_some() {
@@ -218,6 +224,7 @@ impl Reader {
     pub fn finish(&mut self, alloc: Global) -> Outcome
         requires stop { IsStop self.old.stop }
         requires ready { self.old.stop ≡ None → IsReady self.old }
+        ensures kept { (self.new.limits ≡ self.old.limits) × (self.new.budget ≡ self.old.budget) }
         ensures itself { EndsByItself result }
         ensures ends { (limits : Limits) (budget : ℕ) (bytes : List ℕ) →
             StandsAt limits budget bytes self.old →
