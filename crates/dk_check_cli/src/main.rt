@@ -1,6 +1,8 @@
 //! The program: the real shelf, sink and words, on a stack that is large enough; what it does is `dk_check_run::run`.
 #![tactic(auto)]
 
+ghost use Rattle.std.specs.Prelude.{◌<◌};
+
 use dk_io::{OsShelf, OsSink};
 use std::env::Env;
 use std::fs::Files;
@@ -35,7 +37,10 @@ fn main(rt: HostRuntime) -> ExitCode {
     ExitCode::from(status)
 }
 
-fn status<R: Env + Files + Print + AllocGlobal>(rt: &R) -> u8 {
+// Asks `run` for the words of this call, and answers its status (docs/report.md).
+fn status<R: Env + Files + Print + AllocGlobal>(rt: &R) -> u8
+    ensures statuses { result < 7 }
+{
     let alloc = rt.alloc();
     let words: Vec<String> = match env::args(rt) {
         Ok(words) => match words.collect(alloc) {
