@@ -1,5 +1,6 @@
 pub mod formers
 pub mod Codes
+pub mod Stops
 pub mod Limits
 pub mod Trees
 pub mod Substitution

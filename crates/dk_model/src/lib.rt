@@ -10,6 +10,7 @@ mod memory;
 mod node;
 mod scoped;
 mod signature;
+mod stop;
 mod term;
 
 pub use code::{Code, Fault, Verdict};
@@ -19,6 +20,7 @@ pub use memory::NoMemory;
 pub use node::NodeOf;
 pub use scoped::{Left, Scoped, ScopedRule};
 pub use signature::{Entry, Pat, Rule, Signature, SymSort};
+pub use stop::{Stop, TypeFault};
 pub use term::{Term, make_annotated, make_app, make_bare, make_product};
 
 #[cfg(test)]
