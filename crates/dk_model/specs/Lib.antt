@@ -12,5 +12,6 @@ pub mod Spines
 pub mod Selection
 pub mod Evaluation
 pub mod Typing
+pub mod RuleTyping
 pub mod Shapes
 pub mod Verdicts

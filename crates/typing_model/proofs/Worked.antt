@@ -2,12 +2,13 @@
 use Rattle.std.proofs.Common.{List, [], ◌∷◌, Some, None, refl, arith}
 use Rattle.dk_model.specs.Trees.{Tree, star, kind, symbol, variable, rule_variable, apply, bare, product}
 use Rattle.dk_model.specs.Signatures.{rule_variable_pattern, PlainRule, symbol_entry, rules_entry, PlainSignature}
-use Rattle.dk_model.specs.Scoping.{PlainCommand, declare}
+use Rattle.dk_model.specs.Scoping.{left_symbol, left_rule_variable, left_wildcard, left_apply, PlainScopedRule, PlainCommand, declare}
 use Rattle.dk_model.specs.declared.signature.SymSort.TheVariants.{Static, Definable, Theorem}
 use Rattle.typing_model.specs.Steps.{at_rule_variable, no_arguments, one_argument, Step, beta, by_rule, no_step, one_step, AreMet, no_condition, one_condition}
-use Rattle.typing_model.specs.Derivations.{HasType, HasDerivation}
-use Rattle.typing_model.specs.Laws.{IsNumbered}
-use Rattle.typing_model.proofs.Rules.{whnf_reduces, comparison_joins}
+use Rattle.typing_model.specs.Derivations.{HasType, RuleHasDerivation, HasDerivation}
+use Rattle.typing_model.specs.Laws.{IsNumbered, HasNoAnnotations}
+use Rattle.typing_model.proofs.Rules.{whnf_reduces, normal_reduces, comparison_joins}
+use Rattle.typing_model.proofs.RuleTyping.{rule_derives}
 use Rattle.typing_model.proofs.Commands.{accepted_derives}
 
 module _ (S : PlainSignature) (types : List Tree) where
@@ -46,3 +47,30 @@ theorem = declare Theorem (Some (apply (symbol 4) (same (symbol 1) (symbol 1))))
 
 pub theorem_derives : HasDerivation repeated theorem
 theorem_derives = accepted_derives repeated (whnf_reduces repeated numbered) (comparison_joins repeated numbered) Theorem (Some (apply (symbol 4) (same (symbol 1) (symbol 1)))) (Some (symbol 5)) 100 refl
+
+unannotated : HasNoAnnotations repeated
+unannotated = ((tt, tt), ((tt, tt), (((tt, (tt, tt)), tt), ((tt, tt), (((tt, tt), tt), (((tt, tt), tt), tt))))))
+
+-- [x, y : nat] same x y --> y
+abbrev right_one : PlainScopedRule
+right_one = record {
+  vars = 2;
+  notes = None ∷ Some (symbol 0) ∷ [];
+  left = left_apply (left_apply (left_symbol 2) (left_rule_variable 0)) (left_rule_variable 1);
+  right = rule_variable 1;
+}
+
+pub right_one_derives : RuleHasDerivation repeated right_one
+right_one_derives = rule_derives repeated (whnf_reduces repeated numbered) (normal_reduces repeated numbered) (comparison_joins repeated numbered) unannotated right_one _ 4 0 tt refl refl
+
+-- [x] same _ x --> x
+abbrev past_wildcard : PlainScopedRule
+past_wildcard = record {
+  vars = 1;
+  notes = None ∷ [];
+  left = left_apply (left_apply (left_symbol 2) left_wildcard) (left_rule_variable 0);
+  right = rule_variable 0;
+}
+
+pub past_wildcard_derives : RuleHasDerivation repeated past_wildcard
+past_wildcard_derives = rule_derives repeated (whnf_reduces repeated numbered) (normal_reduces repeated numbered) (comparison_joins repeated numbered) unannotated past_wildcard _ 3 0 tt refl refl

@@ -1,15 +1,17 @@
 -- What the laws say: the answers of evaluation and of typing have the meaning that reduction and derivations give them.
-use Rattle.std.specs.Prelude.{ℕ, ◌≡◌, ◌<◌, Option, Some, true, List, [], ◌∷◌, ◌++◌}
+use Rattle.std.specs.Prelude.{ℕ, ◌≡◌, ◌<◌, Option, Some, None, Ok, true, List, [], ◌∷◌, ◌++◌}
 use Rattle.dk_model.specs.Trees.{Tree}
 use Rattle.dk_model.specs.Signatures.{Pattern, Patterns, no_patterns, more_patterns, rule_variable_pattern, wildcard_pattern, guard_pattern, symbol_pattern, variable_pattern, abstraction_pattern, PlainRule, PlainEntry, symbol_entry, rules_entry, PlainSignature}
-use Rattle.dk_model.specs.Scoping.{PlainCommand, declare}
+use Rattle.dk_model.specs.Scoping.{PlainScopedRule, PlainCommand, declare}
+use Rattle.dk_model.specs.Shapes.{shape_of}
+use Rattle.dk_model.specs.RuleTyping.{rule_checked}
 use Rattle.dk_model.specs.Evaluation.{whnf_of, comparison_of, normal_of}
 use Rattle.dk_model.specs.Typing.{answer, inferred, checked}
-use Rattle.dk_model.specs.Verdicts.{verdict_of, entry_of}
+use Rattle.dk_model.specs.Verdicts.{verdict_of, inferred_type, entry_of}
 use Rattle.dk_model.specs.declared.code.Verdict.TheVariants.{Accepted}
 use Rattle.dk_model.specs.declared.signature.SymSort.{SymSort}
-use Rattle.typing_model.specs.Steps.{ReducesTo, AreJoinable}
-use Rattle.typing_model.specs.Derivations.{Context, HasType, Fits, HasDerivation}
+use Rattle.typing_model.specs.Steps.{IsPlain, ReducesTo, AreJoinable}
+use Rattle.typing_model.specs.Derivations.{Context, HasType, Fits, RuleHasDerivation, HasDerivation}
 
 abbrev mutual
   -- the rule variables of a pattern, outside its guards, are numbered below `vars`
@@ -43,6 +45,23 @@ IsNumbered [] = Unit {0}
 IsNumbered (symbol_entry s t b ∷ es) = IsNumbered es
 IsNumbered (rules_entry rs ∷ es) = AreNumberedRules rs × IsNumbered es
 
+abbrev pub IsPlainOption : Option Tree → Type 0
+IsPlainOption None = Unit {0}
+IsPlainOption (Some t) = IsPlain t
+
+abbrev pub ArePlainRules : List PlainRule → Type 0
+ArePlainRules [] = Unit {0}
+ArePlainRules (r ∷ rs) = IsPlain r.right × ArePlainRules rs
+
+abbrev pub IsPlainEntry : PlainEntry → Type 0
+IsPlainEntry (symbol_entry s t b) = IsPlain t × IsPlainOption b
+IsPlainEntry (rules_entry rs) = ArePlainRules rs
+
+-- types, bodies and right sides have no annotations
+abbrev pub HasNoAnnotations : PlainSignature → Type 0
+HasNoAnnotations [] = Unit {0}
+HasNoAnnotations (e ∷ es) = IsPlainEntry e × HasNoAnnotations es
+
 -- a term reduces to its weak head form
 abbrev pub WhnfReduces : PlainSignature → Type 0
 WhnfReduces S = (n m : ℕ) (t u : Tree) → whnf_of S n t ≡ Some (u, m) → ReducesTo S t u
@@ -67,9 +86,18 @@ CheckedFits S = (types : List Tree) (context : Context) (n m : ℕ) (t T : Tree)
 abbrev pub AcceptedHasDerivation : PlainSignature → Type 0
 AcceptedHasDerivation S = (sort : SymSort) (typ body : Option Tree) (budget : ℕ) → verdict_of S (declare sort typ body) budget ≡ Accepted → HasDerivation S (declare sort typ body)
 
+-- a rule whose shape is typed has a derivation
+abbrev pub TypedRuleHasDerivation : PlainSignature → Type 0
+TypedRuleHasDerivation S = (rule : PlainScopedRule) (shape : PlainRule) (n m : ℕ) (u : Unit {0}) → shape_of rule ≡ Ok shape → rule_checked S shape n ≡ answer u m → RuleHasDerivation S rule
+
 -- the entry of a command is numbered, and numbered entries stay so with one more
 abbrev pub EntriesAreNumbered : PlainSignature → Type 0
 EntriesAreNumbered S = (command : PlainCommand) (typ : Option Tree) → IsNumbered S → IsNumbered (S ++ (entry_of S command typ ∷ []))
+
+-- the entry that an accepted command adds has no annotations, where those before have none
+abbrev pub EntriesArePlain : PlainSignature → Type 0
+EntriesArePlain S = (command : PlainCommand) (budget : ℕ) → IsNumbered S → HasNoAnnotations S
+    → HasNoAnnotations (S ++ (entry_of S command (inferred_type S command budget) ∷ []))
 
 -- no context gives the term a type
 abbrev pub HasNoType : PlainSignature → Tree → Type 0

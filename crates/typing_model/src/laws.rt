@@ -9,10 +9,13 @@ ghost use Rattle.typing_model.specs.Laws.{
   CheckedFits,
   ComparisonJoins,
   EntriesAreNumbered,
+  EntriesArePlain,
+  HasNoAnnotations,
   HasNoType,
   InferredHasType,
   IsNumbered,
   NormalReduces,
+  TypedRuleHasDerivation,
   WhnfReduces,
 };
 
@@ -44,12 +47,29 @@ pub fn accepted_has_derivation()
     // Proved for each command and budget.
 }
 
+/// A rule whose shape is typed over a signature has a derivation there.
+///
+/// The types of its rule variables are those that its left side gives.
+pub fn typed_rule_has_derivation()
+    ensures { (S : _) → IsNumbered S → HasNoAnnotations S → TypedRuleHasDerivation S }
+{
+    // Proved by the structure of the left side.
+}
+
 /// The signature of accepted commands meets the condition of the laws: it holds of the empty one, and stays.
 pub fn entries_are_numbered()
     ensures empty { IsNumbered [] }
     ensures more { (S : _) → EntriesAreNumbered S }
 {
     // Proved by the shapes of the rules.
+}
+
+/// The signature of accepted commands has no annotations: the empty one has none, and it stays so.
+pub fn entries_are_plain()
+    ensures empty { HasNoAnnotations [] }
+    ensures more { (S : _) → EntriesArePlain S }
+{
+    // Proved by the types that terms have.
 }
 
 /// `Kind` has no type, and an abstraction without annotation none of its own.

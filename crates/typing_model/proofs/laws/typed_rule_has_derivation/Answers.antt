@@ -1,0 +1,6 @@
+use Rattle.typing_model.proofs.Rules.{whnf_reduces, normal_reduces, comparison_joins}
+use Rattle.typing_model.proofs.RuleTyping.{rule_derives}
+use Rattle.typing_model.proofs.laws.typed_rule_has_derivation.Goals as goal
+
+pub returns : goal.returns
+returns c = λ S numbered plain. rule_derives S (whnf_reduces S numbered) (normal_reduces S numbered) (comparison_joins S numbered) plain
