@@ -16,7 +16,7 @@ use Rattle.dk_model.specs.Verdicts.{verdict, verdict_of, body_checked, body_type
 use Rattle.dk_model.specs.declared.code.Code.{Code}
 use Rattle.dk_model.specs.declared.code.Code.TheVariants.{E20, E24, E34, E35}
 use Rattle.dk_model.specs.declared.code.Verdict.TheVariants.{Ended}
-use Rattle.dk_model.proofs.Larger.{Raised, escaped_raised, whnf_raised, comparison_raised, normal_raised}
+use Rattle.dk_model.proofs.Counting.{Raised, escaped_raised, whnf_raised, comparison_raised}
 
 -- what the first gives the second gives too, with `d` units more left
 abbrev pub Grows : {A : Type 0} → ℕ → Judged A → Judged A → Type 0
@@ -144,7 +144,7 @@ module _ (d : ℕ) where
 
     confined_grows : (k : ℕ) (xs : List ℕ) (T : Tree) (n m : ℕ) → m ≡ n + d → Grows d (confined S k xs T n) (confined S k xs T m)
     confined_grows k xs T n m e = after_grows d (escaped (normal_of S) (comparison_of S) n k xs T) (escaped (normal_of S) (comparison_of S) m k xs T) allowed allowed
-        (escaped_raised d (normal_of S) (normal_of S) (comparison_of S) (comparison_of S) (normal_raised d S) (comparison_raised d S) n m k xs T e)
+        (escaped_raised d S n m k xs T e)
         (λ p. allowed_if_grows p.0 p.1)
 
     bound_type_grows : (G : List Tree) (xs : List ℕ) (T : Tree) (n m : ℕ) → m ≡ n + d → Grows d (bound_type S G xs T n) (bound_type S G xs T m)

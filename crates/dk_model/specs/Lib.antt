@@ -4,6 +4,7 @@ pub mod Stops
 pub mod Limits
 pub mod Trees
 pub mod Substitution
+pub mod Bounds
 pub mod Erasure
 pub mod Signatures
 pub mod Scoping
