@@ -12,49 +12,49 @@ pub enum SymSort {
     Theorem,
 }
 
-/// A pattern on the left side of a rule. Variables and rule variables are numbered as in a term.
+/// A pattern on the left side of a rule, over the type of its terms. Variables and rule variables are numbered as in a term.
 #[derive(Drop)]
-pub enum Pat {
+pub enum Pat<T = Term> {
     /// A rule variable applied to distinct variables that are bound in the pattern.
     Rvar(u32, Listed<u32>),
     /// The wildcard.
     Any,
     /// A guard: a term that the part must be convertible with.
-    Guard(Term),
+    Guard(T),
     /// A symbol applied to patterns.
-    Sym(u32, Listed<Pat>),
+    Sym(u32, Listed<Pat<T>>),
     /// A variable bound in the pattern, applied to patterns.
-    Var(u32, Listed<Pat>),
+    Var(u32, Listed<Pat<T>>),
     /// An abstraction.
-    Abs(Box<Pat>),
+    Abs(Box<Pat<T>>),
 }
 
-/// A rewrite rule of a symbol.
+/// A rewrite rule of a symbol, over the type of its terms.
 #[derive(Drop)]
-pub struct Rule {
+pub struct Rule<T = Term> {
     /// The symbol that is rewritten.
     pub head: u32,
     /// How many rule variables the context has.
     pub vars: u32,
     /// The patterns of the head's arguments.
-    pub pats: Listed<Pat>,
+    pub pats: Listed<Pat<T>>,
     /// The annotations of the context, in its order.
-    pub notes: Listed<Option<Term>>,
+    pub notes: Listed<Option<T>>,
     /// The right side.
-    pub right: Term,
+    pub right: T,
 }
 
-/// What one accepted command added.
+/// What one accepted command added, over the type of its terms.
 #[derive(Drop)]
-pub enum Entry {
+pub enum Entry<T = Term> {
     Symbol {
         sort: SymSort,
         /// The type, without annotations.
-        typ: Term,
+        typ: T,
         /// The body of a definition, without annotations.
-        body: Option<Term>,
+        body: Option<T>,
     },
-    Rules(Listed<Rule>),
+    Rules(Listed<Rule<T>>),
 }
 
 /// The entries of the commands accepted so far, in file order. Symbol `k` is declared by entry `k`, from 0.

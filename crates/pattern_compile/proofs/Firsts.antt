@@ -9,6 +9,7 @@ use Rattle.dk_model.specs.declared.signature.Pat.{Pat}
 use Rattle.dk_model.specs.declared.signature.Pat.TheVariants.{Sym}
 use Rattle.pattern_compile.specs.Admitted.{plain_patterns, first_order, all_first_order}
 use Rattle.pattern_compile.proofs.Rowed.{symbol_is}
+use Rattle.dk_model.specs.declared.term.Term.{Term}
 
 -- how many parts a left side has
 abbrev pub left_size : PlainLeft → ℕ
@@ -138,7 +139,7 @@ module _ (vars : ℕ) where
       by false = refl
 
   -- a symbol applied to these
-  pub symbol_found : (l : PlainLeft) (k : ℕ) (ps : List Pat) → left_head l ≡ Some k → all_first_order (left_patterns vars l no_patterns) ≡ Some (plain_patterns ps) → first_order (pattern_of vars l no_patterns) ≡ Some (pattern (Sym k ps))
+  pub symbol_found : (l : PlainLeft) (k : ℕ) (ps : List (Pat Term)) → left_head l ≡ Some k → all_first_order (left_patterns vars l no_patterns) ≡ Some (plain_patterns ps) → first_order (pattern_of vars l no_patterns) ≡ Some (pattern (Sym k ps))
   symbol_found l k ps h e =
       ap first_order (with_symbol l k no_patterns h) ∙ symbol_filtered k (left_patterns vars l no_patterns)
       ∙ ap (option_map (symbol_pattern k)) e ∙ ap Some (sym (symbol_is k ps))
@@ -150,7 +151,7 @@ module _ (vars : ℕ) where
 
 -- ---- the arguments, found from the last to the first
 
-abbrev pub stacked : List Pat → Patterns
+abbrev pub stacked : List (Pat Term) → Patterns
 stacked found = plain_patterns (reverse found)
 
 lost_behind : (f : Patterns → Option Patterns) (ps : Patterns) → ((q : Pattern) → all_first_order (f (more_patterns q ps)) ≡ None) → (o : Option Pattern) → all_first_order (applied_to f o ps) ≡ None
@@ -169,7 +170,7 @@ lost vars (left_apply g b) ps e =
     (λ q. lost vars g (more_patterns q ps) (ap (λ (b : Bool). is_first_order q && b) e ∙ and_false (is_first_order q)))
     (pattern_of vars b no_patterns)
 
-module _ (vars : ℕ) (whole : Option Patterns) (f a : PlainLeft) (found : List Pat) (at : whole ≡ left_patterns vars (left_apply f a) (stacked found)) where
+module _ (vars : ℕ) (whole : Option Patterns) (f a : PlainLeft) (found : List (Pat Term)) (at : whole ≡ left_patterns vars (left_apply f a) (stacked found)) where
   pub one_lost : first_order (pattern_of vars a no_patterns) ≡ None → all_first_order whole ≡ None
   one_lost e = ap all_first_order at ∙ by (pattern_of vars a no_patterns) e
     where

@@ -10,6 +10,7 @@ use Rattle.dk_model.specs.declared.signature.Pat.{Pat}
 use Rattle.pattern_compile.specs.Admitted.{plain_patterns}
 use Rattle.pattern_compile.specs.Marks.{marked, is_marked, are_marked}
 use Rattle.pattern_compile.proofs.Below.{Below}
+use Rattle.dk_model.specs.declared.term.Term.{Term}
 
 -- ---- marking in turn
 
@@ -24,11 +25,11 @@ marked_both (x ∷ xs) ys ms = by (get_or ms x true) (marked_both xs ys (set ms 
     by true e = refl
     by false e = e
 
-module _ (whole : Option (List Bool)) (ms : List Bool) (ps : List Pat) (i : ℕ) (p : Pat) (lt : i < length ps) (is : p ≡ get_or ps i p) (at : whole ≡ marked ms (patterns_variables (plain_patterns (drop i ps)))) where
+module _ (whole : Option (List Bool)) (ms : List Bool) (ps : List (Pat Term)) (i : ℕ) (p : Pat Term) (lt : i < length ps) (is : p ≡ get_or ps i p) (at : whole ≡ marked ms (patterns_variables (plain_patterns (drop i ps)))) where
   next_is : whole ≡ marked_on (marked ms (pattern_variables (pattern p))) (patterns_variables (plain_patterns (drop (i + 1) ps)))
   next_is =
       at ∙ at_drop_more (λ qs. marked ms (patterns_variables (plain_patterns qs))) ps i p lt
-      ∙ ap (λ (q : Pat). marked ms (pattern_variables (pattern q) ++ patterns_variables (plain_patterns (drop (i + 1) ps)))) (sym is)
+      ∙ ap (λ (q : Pat Term). marked ms (pattern_variables (pattern q) ++ patterns_variables (plain_patterns (drop (i + 1) ps)))) (sym is)
       ∙ marked_both (pattern_variables (pattern p)) (patterns_variables (plain_patterns (drop (i + 1) ps))) ms
 
   pub mark_goes_on : (new : List Bool) → marked ms (pattern_variables (pattern p)) ≡ Some new → whole ≡ marked new (patterns_variables (plain_patterns (drop (i + 1) ps)))

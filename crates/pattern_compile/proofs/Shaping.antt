@@ -14,6 +14,7 @@ use Rattle.pattern_compile.proofs.Rowed.{listed_patterns}
 use Rattle.pattern_compile.proofs.Firsts.{all_some, all_good, all_none}
 use Rattle.pattern_compile.proofs.Below.{Below, variables_below}
 use Rattle.pattern_compile.proofs.Marking.{Marks, distinct_is, marks_of, covers_is, covers_notes_is}
+use Rattle.dk_model.specs.declared.term.Term.{Term}
 
 -- ---- guards of first-order patterns: there are none
 
@@ -99,8 +100,8 @@ module _ (r : PlainScopedRule) where
         shaped c = decided true c
 
 -- a rule from its parts
-pub rule_is : (r : PlainScopedRule) (k : ℕ) (ps qs : List Pat) (notes : List (Option Tree)) (right : Tree) → qs ≡ ps → notes ≡ r.notes → right ≡ r.right → rule_with r k (plain_patterns ps) ≡ (let rule : PlainRule = record { head = k; vars = r.vars; pats = map pattern qs; notes = notes; right = right } in rule)
+pub rule_is : (r : PlainScopedRule) (k : ℕ) (ps qs : List (Pat Term)) (notes : List (Option Tree)) (right : Tree) → qs ≡ ps → notes ≡ r.notes → right ≡ r.right → rule_with r k (plain_patterns ps) ≡ (let rule : PlainRule = record { head = k; vars = r.vars; pats = map pattern qs; notes = notes; right = right } in rule)
 rule_is r k ps qs notes right q n t =
-    ap (λ (ds : List Pattern). (let rule : PlainRule = record { head = k; vars = r.vars; pats = ds; notes = r.notes; right = r.right } in rule)) (listed_patterns (map pattern ps) ∙ sym (ap (λ (xs : List Pat). map pattern xs) q))
+    ap (λ (ds : List Pattern). (let rule : PlainRule = record { head = k; vars = r.vars; pats = ds; notes = r.notes; right = r.right } in rule)) (listed_patterns (map pattern ps) ∙ sym (ap (λ (xs : List (Pat Term)). map pattern xs) q))
     ∙ ap (λ (ns : List (Option Tree)). (let rule : PlainRule = record { head = k; vars = r.vars; pats = map pattern qs; notes = ns; right = r.right } in rule)) (sym n)
     ∙ ap (λ (u : Tree). (let rule : PlainRule = record { head = k; vars = r.vars; pats = map pattern qs; notes = notes; right = u } in rule)) (sym t)

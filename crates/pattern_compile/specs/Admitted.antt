@@ -5,6 +5,7 @@ use Rattle.dk_model.specs.Scoping.{plain_left}
 use Rattle.dk_model.specs.Shapes.{is_first_order, are_first_order, pattern_of, left_patterns}
 use Rattle.dk_model.specs.declared.scoped.Left.{Left}
 use Rattle.dk_model.specs.declared.signature.Pat.{Pat}
+use Rattle.dk_model.specs.declared.term.Term.{Term}
 
 -- the patterns of a list
 abbrev pub as_patterns : List Pattern → Patterns
@@ -12,7 +13,7 @@ as_patterns [] = no_patterns
 as_patterns (p ∷ ps) = more_patterns p (as_patterns ps)
 
 -- these as plain data
-abbrev pub plain_patterns : List Pat → Patterns
+abbrev pub plain_patterns : List (Pat Term) → Patterns
 plain_patterns ps = as_patterns (map pattern ps)
 
 -- the pattern where there is one and it is first-order

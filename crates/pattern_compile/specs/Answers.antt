@@ -9,6 +9,7 @@ use Rattle.dk_model.specs.declared.code.Fault.TheVariants.{Refused, NoMemory}
 use Rattle.dk_model.specs.declared.scoped.ScopedRule.{ScopedRule}
 use Rattle.dk_model.specs.declared.signature.Rule.{Rule}
 use Rattle.dk_model.specs.declared.signature.Signature.{Signature}
+use Rattle.dk_model.specs.declared.term.Term.{Term}
 
 -- the fault is the code of the shape, or want of memory
 abbrev pub IsFaultOf : {A : Type 0} → Result A Code → Fault → Type 0
@@ -16,12 +17,12 @@ IsFaultOf due (Refused c) = due ≡ Err c
 IsFaultOf due NoMemory = Unit {0}
 
 -- a rule of this shape, or its code
-abbrev pub GivesRule : Result PlainRule Code → Result Rule Fault → Type 0
+abbrev pub GivesRule : Result PlainRule Code → Result (Rule Term) Fault → Type 0
 GivesRule due (Ok r) = due ≡ Ok (plain_rule r)
 GivesRule due (Err e) = IsFaultOf due e
 
 -- rules of these shapes, or their first code
-abbrev pub GivesRules : Result (List PlainRule) Code → Result (List Rule) Fault → Type 0
+abbrev pub GivesRules : Result (List PlainRule) Code → Result (List (Rule Term)) Fault → Type 0
 GivesRules due (Ok rs) = due ≡ Ok (map plain_rule rs)
 GivesRules due (Err e) = IsFaultOf due e
 

@@ -6,6 +6,7 @@ use Rattle.dk_model.specs.Shapes.{pattern_variables, patterns_variables}
 use Rattle.dk_model.specs.declared.scoped.ScopedRule.{ScopedRule}
 use Rattle.dk_model.specs.declared.signature.Pat.{Pat}
 use Rattle.pattern_compile.specs.Admitted.{plain_patterns}
+use Rattle.dk_model.specs.declared.term.Term.{Term}
 
 -- the marks once these are marked too, where each has a mark that wasn't set before
 abbrev pub marked : List Bool → List ℕ → Option (List Bool)
@@ -13,11 +14,11 @@ marked ms [] = Some ms
 marked ms (k ∷ ks) = if slice_index_or ms k true then None else marked (slice_set ms k true) ks
 
 -- the marks once the rule variables of a pattern are marked too
-abbrev pub marked_pattern : List Bool → Pat → Option (List Bool)
+abbrev pub marked_pattern : List Bool → Pat Term → Option (List Bool)
 marked_pattern ms p = marked ms (pattern_variables (pattern p))
 
 -- the same for each of these in turn
-abbrev pub marked_patterns : List Bool → List Pat → Option (List Bool)
+abbrev pub marked_patterns : List Bool → List (Pat Term) → Option (List Bool)
 marked_patterns ms ps = marked ms (patterns_variables (plain_patterns ps))
 
 -- the marks where they are set

@@ -32,7 +32,7 @@ IsDue s c budget v = IsVerdictOrMemory (due s c budget) v
 abbrev pub inferred_for : Signature → Scoped → ℕ → Option Tree
 inferred_for s c budget = inferred_type (plain_signature s) (plain_command c) budget
 
-abbrev pub IsEntryOf : Signature → Scoped → Option Tree → Entry → Type 0
+abbrev pub IsEntryOf : Signature → Scoped → Option Tree → Entry Term → Type 0
 IsEntryOf s c T e = plain_entry e ≡ entry_of (plain_signature s) (plain_command c) T
 
 abbrev pub ChecksDeclaration : Signature → Option Term → Option Term → ℕ → Result Unit TypeFault → ℕ → Type 0

@@ -22,7 +22,7 @@ IsVerdictOfShapes due OutOfUnits = ⊥
 IsVerdictOfShapes due Agreed = ⊥
 
 -- the rules of these shapes, or the verdict
-abbrev pub GivesShapes : Result (List PlainRule) Code → Result (List Rule) Verdict → Type 0
+abbrev pub GivesShapes : Result (List PlainRule) Code → Result (List (Rule Term)) Verdict → Type 0
 GivesShapes due (Ok rs) = due ≡ Ok (map plain_rule rs)
 GivesShapes due (Err v) = IsVerdictOfShapes due v
 

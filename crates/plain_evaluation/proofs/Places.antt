@@ -5,6 +5,7 @@ use Rattle.dk_model.specs.Signatures.{PlainRule, PlainEntry, symbol_entry, rules
 use Rattle.dk_model.specs.declared.signature.Entry.{Entry}
 use Rattle.dk_model.proofs.Entries.{signature_pushed}
 use Rattle.plain_evaluation.specs.Rules.{entry_rules, all_rules, rules_at_place, rules_at, place_of, rule_places}
+use Rattle.dk_model.specs.declared.term.Term.{Term}
 
 -- behind these entries
 entry_behind : (xs : PlainSignature) (e : PlainEntry) (es : PlainSignature) → slice_get (xs ++ e ∷ es) (length xs) ≡ Some e
@@ -56,17 +57,17 @@ pub place_after : (ruled more all : List ℕ) (n : ℕ) (e : PlainEntry) (es : P
     → ruled ++ rule_places n (e ∷ es) ≡ all → more ++ rule_places (n + 1) es ≡ all
 place_after ruled more all n e es is a = ap (λ (l : List ℕ). l ++ rule_places (n + 1) es) is ∙ together ruled (place_of n e) (rule_places (n + 1) es) ∙ a
 
-plain_length : (es : List Entry) → length (map plain_entry es) ≡ length es
+plain_length : (es : List (Entry Term)) → length (map plain_entry es) ≡ length es
 plain_length [] = refl
 plain_length (e ∷ es) = ap suc (plain_length es)
 
-pub entry_added : (es : List Entry) (ruled : List ℕ) (e : Entry) → ruled ≡ rule_places 0 (map plain_entry es)
+pub entry_added : (es : List (Entry Term)) (ruled : List ℕ) (e : Entry Term) → ruled ≡ rule_places 0 (map plain_entry es)
     → ruled ++ place_of (length es) (plain_entry e) ≡ rule_places 0 (map plain_entry (es ++ e ∷ []))
 entry_added es ruled e is = ap (λ n. ruled ++ place_of n (plain_entry e)) (sym (plain_length es))
     ∙ places_pushed (map plain_entry es) ruled (plain_entry e) is ∙ ap (rule_places 0) (sym (signature_pushed es e))
 
 -- the rules at a place, by the entry there
-pub entry_here : (es : List Entry) (p : ℕ) (e : Entry) → slice_get es p ≡ Some e → rules_at_place (slice_get (map plain_entry es) p) ≡ entry_rules (plain_entry e)
+pub entry_here : (es : List (Entry Term)) (p : ℕ) (e : Entry Term) → slice_get es p ≡ Some e → rules_at_place (slice_get (map plain_entry es) p) ≡ entry_rules (plain_entry e)
 entry_here [] p e h = cc
 entry_here (x ∷ es) zero e h = let q : x ≡ e = cc in ap (λ y. entry_rules (plain_entry y)) q
 entry_here (x ∷ es) (suc p) e h = entry_here es p e h
@@ -75,7 +76,7 @@ nothing : (xs : List PlainRule) → xs ≡ xs ++ []
 nothing [] = refl
 nothing (x ∷ xs) = ap (λ (l : List PlainRule). x ∷ l) (nothing xs)
 
-pub nothing_here : (es : List Entry) (p : ℕ) (xs : List PlainRule) → slice_get es p ≡ None → xs ≡ xs ++ rules_at_place (slice_get (map plain_entry es) p)
+pub nothing_here : (es : List (Entry Term)) (p : ℕ) (xs : List PlainRule) → slice_get es p ≡ None → xs ≡ xs ++ rules_at_place (slice_get (map plain_entry es) p)
 nothing_here [] p xs h = nothing xs
 nothing_here (x ∷ es) zero xs h = cc
 nothing_here (x ∷ es) (suc p) xs h = nothing_here es p xs h

@@ -13,45 +13,46 @@ use Rattle.dk_model.specs.declared.signature.Pat.TheBlock.{hidden-the_row-Pat-0,
 use Rattle.plain_evaluation.specs.declared.matrix.Cell.{Cell}
 use Rattle.plain_evaluation.specs.declared.matrix.Cell.TheVariants.{Blank}
 use Rattle.plain_evaluation.specs.Matrix.{pattern_cell, plain_cell, is_kept, cells_after}
+use Rattle.dk_model.specs.declared.term.Term.{Term}
 
 -- the patterns below a symbol
 
-pub each_cell : (ps : List Pat) → map cell (map pattern ps) ≡ map pattern_cell ps
+pub each_cell : (ps : List (Pat Term)) → map cell (map pattern ps) ≡ map pattern_cell ps
 each_cell [] = refl
 each_cell (p ∷ ps) = ap (λ (l : List PlainCell). pattern_cell p ∷ l) (each_cell ps)
 
-row_items : (n : _) (r : Row_of-Pat n) → pattern_list (patterns r) ≡ map pattern (items-the_row-Pat n r)
+row_items : (n : _) (r : Row_of-Pat Term n) → pattern_list (patterns r) ≡ map pattern (items-the_row-Pat Term n r)
 row_items n end_of-Pat = refl
 row_items n (more_of-Pat p r) = ap (λ (l : List Pattern). pattern p ∷ l) (row_items _ r)
 
-listed : (ps : List Pat) → pattern_list (patterns (hidden-the_row-Pat-0 ps)) ≡ map pattern ps
-listed ps = row_items _ (hidden-the_row-Pat-0 ps) ∙ ap (map pattern) (items_hidden-the_row-Pat-0 ps)
+listed : (ps : List (Pat Term)) → pattern_list (patterns (hidden-the_row-Pat-0 Term ps)) ≡ map pattern ps
+listed ps = row_items _ (hidden-the_row-Pat-0 Term ps) ∙ ap (map pattern) (items_hidden-the_row-Pat-0 Term ps)
 
-listed_cells : (ps : List Pat) → map cell (pattern_list (patterns (hidden-the_row-Pat-0 ps))) ≡ map pattern_cell ps
+listed_cells : (ps : List (Pat Term)) → map cell (pattern_list (patterns (hidden-the_row-Pat-0 Term ps))) ≡ map pattern_cell ps
 listed_cells ps = ap (map cell) (listed ps) ∙ each_cell ps
 
 -- what its head takes, and what it asks of the parts
 
-module _ (v h : Tree) (p : Pat) (k n : ℕ) (ps : List Pat) (at_head : h ≡ head v) (counted : n ≡ length (arguments v)) where
-  same_count : eqb n (length ps) ≡ eqb (length (arguments v)) (length (pattern_list (patterns (hidden-the_row-Pat-0 ps))))
+module _ (v h : Tree) (p : Pat Term) (k n : ℕ) (ps : List (Pat Term)) (at_head : h ≡ head v) (counted : n ≡ length (arguments v)) where
+  same_count : eqb n (length ps) ≡ eqb (length (arguments v)) (length (pattern_list (patterns (hidden-the_row-Pat-0 Term ps))))
   same_count = rw (listed ps, length-map ps pattern) (ap (λ (m : ℕ). eqb m (length ps)) counted)
 
   pub takes_symbol : p ≡ Sym k ps → heads_same h (symbol k) ≡ true → eqb n (length ps) ≡ is_kept v (cell (pattern p))
   takes_symbol e q =
       let same : heads_same (head v) (symbol k) ≡ true = ap (λ (t : Tree). heads_same t (symbol k)) (flip at_head) ∙ q in
-      same_count ∙ flip (ap (λ (x : Pat). is_kept v (cell (pattern x))) e ∙ ap (λ (b : Bool). b && eqb (length (arguments v)) (length (pattern_list (patterns (hidden-the_row-Pat-0 ps))))) same)
+      same_count ∙ flip (ap (λ (x : Pat Term). is_kept v (cell (pattern x))) e ∙ ap (λ (b : Bool). b && eqb (length (arguments v)) (length (pattern_list (patterns (hidden-the_row-Pat-0 Term ps))))) same)
 
   pub takes_variable : p ≡ Var k ps → heads_same h (variable k) ≡ true → eqb n (length ps) ≡ is_kept v (cell (pattern p))
   takes_variable e q =
       let same : heads_same (head v) (variable k) ≡ true = ap (λ (t : Tree). heads_same t (variable k)) (flip at_head) ∙ q in
-      same_count ∙ flip (ap (λ (x : Pat). is_kept v (cell (pattern x))) e ∙ ap (λ (b : Bool). b && eqb (length (arguments v)) (length (pattern_list (patterns (hidden-the_row-Pat-0 ps))))) same)
+      same_count ∙ flip (ap (λ (x : Pat Term). is_kept v (cell (pattern x))) e ∙ ap (λ (b : Bool). b && eqb (length (arguments v)) (length (pattern_list (patterns (hidden-the_row-Pat-0 Term ps))))) same)
 
-module _ (old new : List PlainCell) (p : Pat) (n k : ℕ) (ps : List Pat) (parts : new ≡ old ++ blank ∷ map pattern_cell ps) where
+module _ (old new : List PlainCell) (p : Pat Term) (n k : ℕ) (ps : List (Pat Term)) (parts : new ≡ old ++ blank ∷ map pattern_cell ps) where
   pub after_symbol : p ≡ Sym k ps → new ≡ old ++ cells_after n (cell (pattern p))
-  after_symbol e = parts ∙ ap (λ (l : List PlainCell). old ++ blank ∷ l) (flip (listed_cells ps)) ∙ flip (ap (λ (x : Pat). old ++ cells_after n (cell (pattern x))) e)
+  after_symbol e = parts ∙ ap (λ (l : List PlainCell). old ++ blank ∷ l) (flip (listed_cells ps)) ∙ flip (ap (λ (x : Pat Term). old ++ cells_after n (cell (pattern x))) e)
 
   pub after_variable : p ≡ Var k ps → new ≡ old ++ cells_after n (cell (pattern p))
-  after_variable e = parts ∙ ap (λ (l : List PlainCell). old ++ blank ∷ l) (flip (listed_cells ps)) ∙ flip (ap (λ (x : Pat). old ++ cells_after n (cell (pattern x))) e)
+  after_variable e = parts ∙ ap (λ (l : List PlainCell). old ++ blank ∷ l) (flip (listed_cells ps)) ∙ flip (ap (λ (x : Pat Term). old ++ cells_after n (cell (pattern x))) e)
 
 -- the cell at a place
 

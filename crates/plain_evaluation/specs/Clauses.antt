@@ -92,7 +92,7 @@ abbrev pub AtCell : Signature → Cell → Column → List (Option Term) → ℕ
 AtCell s c k taken old result k' taken' new =
     GivesCell (at_cell (normal_of (plain_signature s)) (comparison_of (plain_signature s)) (plain_cell c) (column k) old (captures_of taken)) result (column k') (captures_of taken') new
 
-abbrev pub AtPattern : Signature → Pat → Column → List (Option Term) → ℕ → Result Bool Stop → Column → List (Option Term) → ℕ → Type 0
+abbrev pub AtPattern : Signature → Pat Term → Column → List (Option Term) → ℕ → Result Bool Stop → Column → List (Option Term) → ℕ → Type 0
 AtPattern s p k taken old result k' taken' new =
     GivesCell (at_cell (normal_of (plain_signature s)) (comparison_of (plain_signature s)) (cell (pattern p)) (column k) old (captures_of taken)) result (column k') (captures_of taken') new
 
@@ -111,7 +111,7 @@ Guards s cells cs taken old result new =
 abbrev pub GuardsCell : Signature → Cell → Column → List (Option Term) → ℕ → Result Bool Stop → ℕ → Type 0
 GuardsCell s c k taken old result new = GivesBool (guard_of (comparison_of (plain_signature s)) (plain_cell c) (column k) old (captures_of taken)) result new
 
-abbrev pub GuardsPattern : Signature → Pat → Column → List (Option Term) → ℕ → Result Bool Stop → ℕ → Type 0
+abbrev pub GuardsPattern : Signature → Pat Term → Column → List (Option Term) → ℕ → Result Bool Stop → ℕ → Type 0
 GuardsPattern s p k taken old result new = GivesBool (guard_of (comparison_of (plain_signature s)) (cell (pattern p)) (column k) old (captures_of taken)) result new
 
 -- comparison

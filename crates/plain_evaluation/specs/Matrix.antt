@@ -19,7 +19,7 @@ use Rattle.plain_evaluation.specs.declared.matrix.Column.{Column}
 abbrev pub captures_of : List (Option Term) → Captures
 captures_of cs = map maybe_tree cs
 
-abbrev pub pattern_cell : Pat → PlainCell
+abbrev pub pattern_cell : Pat Term → PlainCell
 pattern_cell p = cell (pattern p)
 
 abbrev pub plain_cell : Cell → PlainCell

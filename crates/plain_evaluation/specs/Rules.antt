@@ -8,6 +8,7 @@ use Rattle.dk_model.specs.declared.signature.Rule.{Rule}
 use Rattle.dk_model.specs.declared.signature.Signature.{Signature}
 use Rattle.plain_evaluation.specs.declared.rules.Source.{Source}
 use Rattle.plain_evaluation.specs.declared.rules.Source.TheVariants.{Body, Rule as Declared}
+use Rattle.dk_model.specs.declared.term.Term.{Term}
 
 -- a definition is a rule of no patterns
 abbrev pub source_rule : Source → PlainRule
@@ -15,7 +16,7 @@ source_rule (Body k b) = record { head = k; vars = 0; pats = []; notes = []; rig
 source_rule (Declared r) = plain_rule r.now
 
 -- the rules behind references
-abbrev pub rules_behind : List (Bor Rule) → List PlainRule
+abbrev pub rules_behind : List (Bor (Rule Term)) → List PlainRule
 rules_behind rs = map (λ r. plain_rule r.now) rs
 
 abbrev pub entry_rules : PlainEntry → List PlainRule
@@ -51,7 +52,7 @@ abbrev pub AreRuled : Signature → List ℕ → Type 0
 AreRuled s ruled = ruled ≡ rule_places 0 (plain_signature s)
 
 -- that these are the rules of the signature's rule commands, in file order
-abbrev pub AreRules : Signature → List (Bor Rule) → Type 0
+abbrev pub AreRules : Signature → List (Bor (Rule Term)) → Type 0
 AreRules s rs = rules_behind rs ≡ all_rules (plain_signature s)
 
 -- the body of a definition as a rule

@@ -5,12 +5,13 @@ use Rattle.dk_model.specs.declared.signature.Pat.{Pat}
 use Rattle.pattern_compile.specs.Admitted.{plain_patterns}
 use Rattle.pattern_compile.proofs.Firsts.{application_lost, symbol_found, symbol_lost, one_lost}
 use Rattle.pattern_compile.proofs.pattern.+patterns.Goals as goal
+use Rattle.dk_model.specs.declared.term.Term.{Term}
 
 pub pattern-returns-in-Sym : goal.pattern-returns-in-Sym
 pattern-returns-in-Sym t c =
     rw c.in-Sym.is
     (symbol_found c.args.vars (left_symbol c.in-Sym.symbol) c.in-Sym.symbol c.new-in-Sym.result refl
-    (ap (λ (ps : List Pat). Some (plain_patterns ps)) (sym c.new-in-Sym.ensures)))
+    (ap (λ (ps : List (Pat Term)). Some (plain_patterns ps)) (sym c.new-in-Sym.ensures)))
 
 pub pattern-returns-in-Some-2 : goal.pattern-returns-in-Some-2
 pattern-returns-in-Some-2 t c =
