@@ -1,0 +1,107 @@
+//! What was worked out lately, by its number, its depth and a further number.
+ghost use Rattle.std.specs.Prelude.{◌≡◌, ◌≤◌, ◌<◌, ◌⊎◌, All, IfSome, IfOk};
+
+use crate::TermId;
+use dk_model::NoMemory;
+use std::alloc::Global;
+
+/// A result: that of `id` at depth `at`, with `by`.
+#[derive(Clone, Copy)]
+pub(crate) struct Done {
+    pub(crate) id: TermId,
+    pub(crate) at: u64,
+    pub(crate) by: u64,
+    pub(crate) result: TermId,
+}
+
+#[derive(Clone, Copy)]
+pub(crate) struct Slot {
+    pub(crate) era: u64,
+    pub(crate) done: Done,
+}
+
+const UNUSED: Slot = Slot {
+    era: 0,
+    done: Done {
+        id: TermId(0),
+        at: 0,
+        by: 0,
+        result: TermId(0),
+    },
+};
+
+/// Results by a slot that their key picks. A later one takes an earlier one's place, and those of an earlier era don't count.
+#[derive(Drop)]
+pub(crate) struct Memo {
+    pub(crate) slots: Vec<Slot>,
+    pub(crate) era: u64,
+    ghost past: { All (λ s. s.era ≤ era) slots.items },
+    ghost begun: { 0 < era },
+}
+
+fn slot_of(id: TermId, at: u64, by: u64, count: usize) -> usize {
+    let key = (id.0 as u64)
+        .wrapping_add(by.wrapping_mul(0x9e37_79b9))
+        .wrapping_add(at << 21)
+        .wrapping_mul(0x9e37_79b9_7f4a_7c15);
+    if count == 0 {
+        0
+    } else {
+        ((key >> 32) % count as u64) as usize
+    }
+}
+
+impl Memo {
+    ghost use Rattle.shared_term.specs.Memos.{Remembers, IsBlank, Is};
+    ghost use Rattle.shared_term.specs.declared.memo.Done.{Done};
+
+    /// Nothing, with a number of slots.
+    pub(crate) fn new(alloc: Global, count: usize) -> Result<Memo, NoMemory>
+        ensures { IfOk result IsBlank }
+    {
+        let slots = vec![in alloc; UNUSED; count]?;
+        Ok(Memo { slots, era: 1 })
+    }
+
+    /// The result that is remembered under the key, if one is.
+    #[inline(always)]
+    pub(crate) fn find(&self, id: TermId, at: u64, by: u64) -> Option<TermId>
+        ensures { IfSome result (λ r. Remembers self.now (Is id at by r)) }
+    {
+        let slot = slot_of(id, at, by, self.slots.len());
+        match self.slots.get(slot) {
+            Some(s) => {
+                if s.era == self.era && s.done.id == id && s.done.at == at && s.done.by == by {
+                    Some(s.done.result)
+                } else {
+                    None
+                }
+            }
+            None => None,
+        }
+    }
+
+    /// Remembers a result.
+    #[inline(always)]
+    pub(crate) fn put(&mut self, done: Done)
+        ensures { (d : Done) → Remembers self.new d → (d ≡ done) ⊎ Remembers self.old d }
+    {
+        let slot = slot_of(done.id, done.at, done.by, self.slots.len());
+        let era = self.era;
+        if let Some(place) = self.slots.get_mut(slot) {
+            *place = Slot { era, done };
+        }
+    }
+
+    /// Forgets everything, at once.
+    pub(crate) fn clear(&mut self)
+        ensures { IsBlank self.new }
+    {
+        if self.era < u64::MAX {
+            self.era += 1;
+        } else {
+            self.slots.fill(UNUSED);
+            self.era = 1;
+        }
+    }
+}

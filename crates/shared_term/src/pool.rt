@@ -1,0 +1,158 @@
+//! A pool of shared terms.
+ghost use Rattle.std.specs.Prelude.{◌≡◌, ◌<◌, ◌↔◌, [], length, slice_get, Some, IfOk, IsTrue};
+ghost use Rattle.dk_model.specs.Substitution.{shift, substitute};
+ghost use Rattle.shared_term.specs.Storage.{stored_term};
+ghost use Rattle.shared_term.specs.Pools.{term, terms, denoted, Extends, IsWithin, Moves};
+
+use crate::loading::loaded;
+use crate::memo::Memo;
+use crate::shifting::shifted;
+use crate::storing::stored;
+use crate::substitution::substituted;
+use crate::{Node, Nodes, Stored, TermId};
+use dk_model::NoMemory;
+use std::alloc::Global;
+use std::marker::Model;
+
+const SLOTS: usize = 1024;
+
+/// Nodes, each once. A contract sees their list, and by it the term at each place.
+#[derive(Drop)]
+pub struct Pool {
+    alloc: Global,
+    nodes: Nodes,
+    shifts: Memo,
+    substitutions: Memo,
+}
+
+impl Model for Pool {
+    ghost use Rattle.std.specs.Prelude.{List};
+    ghost use Rattle.dk_model.specs.declared.NodeOf.{NodeOf};
+    ghost use Rattle.shared_term.specs.declared.id.TermId.{TermId};
+    ghost use Rattle.shared_term.specs.Memos.{AreShifts, AreSubstitutions};
+
+    ghost Value = { List (NodeOf TermId) };
+
+    ghost view = { λ p. p.nodes };
+
+    ghost invariant = { λ p. AreShifts p.nodes p.shifts × AreSubstitutions p.nodes p.substitutions };
+}
+
+impl Pool {
+    /// An empty pool.
+    #[tactic(auto, using(crate::proofs::Walks::shifts_blank, crate::proofs::Walks::substitutions_blank))]
+    pub fn new(alloc: Global) -> Result<Pool, NoMemory>
+        ensures { IfOk result (λ p. p ≡ []) }
+    {
+        let shifts = Memo::new(alloc, SLOTS)?;
+        let substitutions = Memo::new(alloc, SLOTS)?;
+        Ok(Pool {
+            alloc,
+            nodes: Nodes::new(alloc),
+            shifts,
+            substitutions,
+        })
+    }
+
+    pub(crate) fn alloc(&self) -> Global {
+        self.alloc
+    }
+
+    /// How many nodes there are.
+    pub fn len(&self) -> usize
+        ensures { result ≡ length self.now }
+    {
+        self.nodes.len()
+    }
+
+    /// Takes all nodes out, and keeps the memory.
+    #[tactic(auto, using(crate::proofs::Walks::shifts_blank, crate::proofs::Walks::substitutions_blank))]
+    pub fn clear(&mut self)
+        ensures { self.new ≡ [] }
+    {
+        self.nodes.clear();
+        self.shifts.clear();
+        self.substitutions.clear();
+    }
+
+    /// A place's number in the list.
+    pub fn number(&self, id: TermId) -> u32
+        ensures { result ≡ id.0 }
+    {
+        id.0
+    }
+
+    /// The outermost node of a term.
+    pub fn get(&self, id: TermId) -> Node
+        requires { id.0 < length self.now }
+        ensures node { slice_get self.now id.0 ≡ Some result }
+        ensures denoted { term self.now id ≡ denoted (terms self.now) result }
+        ensures within { IsWithin id.0 result }
+    {
+        self.nodes.get(id)
+    }
+
+    /// Whether two places are one, as they are exactly where their terms are.
+    pub fn same(&self, a: TermId, b: TermId) -> bool
+        requires a { a.0 < length self.now }
+        requires b { b.0 < length self.now }
+        ensures { IsTrue result ↔ (term self.now a ≡ term self.now b) }
+    {
+        self.nodes.same(a, b)
+    }
+
+    /// The place of a node, which goes last where it isn't there.
+    #[tactic(auto, using(crate::proofs::Walks::shifts_grown, crate::proofs::Walks::substitutions_grown))]
+    pub fn intern(&mut self, node: Node) -> Result<TermId, NoMemory>
+        requires { IsWithin (length self.old) node }
+        ensures within { IfOk result (λ id. id.0 < length self.new) }
+        ensures denotes { IfOk result (λ id. term self.new id ≡ denoted (terms self.old) node) }
+        ensures keeps { Extends self.old self.new }
+    {
+        self.nodes.intern(node)
+    }
+
+    /// Puts `by` in the place of variable `depth`.
+    pub fn substitute(&mut self, id: TermId, depth: u64, by: TermId) -> Result<TermId, NoMemory>
+        requires id { id.0 < length self.old }
+        requires by { by.0 < length self.old }
+        ensures moves { IfOk result (λ r. Moves (substitute depth (term self.old by)) self.old self.new id r) }
+        ensures keeps { Extends self.old self.new }
+    {
+        substituted(
+            &mut self.nodes,
+            &mut self.shifts,
+            &mut self.substitutions,
+            id,
+            depth,
+            by,
+        )
+    }
+
+    /// Adds `by` to each free variable from `cut` on.
+    #[tactic(auto, using(crate::proofs::Walks::shifts_grown, crate::proofs::Walks::substitutions_grown))]
+    pub fn shift(&mut self, id: TermId, cut: u64, by: u64) -> Result<TermId, NoMemory>
+        requires { id.0 < length self.old }
+        ensures moves { IfOk result (λ r. Moves (shift cut by) self.old self.new id r) }
+        ensures keeps { Extends self.old self.new }
+    {
+        shifted(&mut self.nodes, &mut self.shifts, id, cut, by)
+    }
+
+    /// A term in a list of its own, which has each node once.
+    pub fn store(&self, id: TermId) -> Result<Stored, NoMemory>
+        requires { id.0 < length self.now }
+        ensures { IfOk result (λ s. stored_term s ≡ term self.now id) }
+    {
+        stored(self, id)
+    }
+
+    /// Brings a stored term into the pool.
+    pub fn load(&mut self, stored: &Stored) -> Result<TermId, NoMemory>
+        ensures within { IfOk result (λ id. id.0 < length self.new) }
+        ensures denotes { IfOk result (λ id. term self.new id ≡ stored_term stored.now) }
+        ensures keeps { Extends self.old self.new }
+    {
+        loaded(self, stored)
+    }
+}
