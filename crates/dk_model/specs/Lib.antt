@@ -10,8 +10,13 @@ pub mod Signatures
 pub mod Scoping
 pub mod Units
 pub mod Spines
+pub mod SymbolRules
+pub mod Matrix
+pub mod Captures
 pub mod Selection
+pub mod Parts
 pub mod Evaluation
+pub mod Equations
 pub mod Typing
 pub mod RuleTyping
 pub mod Shapes

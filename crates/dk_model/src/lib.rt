@@ -4,6 +4,7 @@
 #![tactic(auto)]
 
 mod code;
+pub mod laws;
 mod limits;
 mod listed;
 mod memory;

@@ -4,7 +4,7 @@ use Rattle.std.proofs.lemmas.List.{at_drop_more, length-replicate, length-set}
 use Rattle.std.specs.Prelude.{Option, Some, None, ◌&&◌, ◌||◌, not}
 use Rattle.dk_model.specs.Trees.{Tree, star, kind, symbol, variable, rule_variable, apply, bare, annotated, product}
 use Rattle.dk_model.specs.Signatures.{pattern}
-use Rattle.dk_model.specs.Selection.{is_in}
+use Rattle.dk_model.specs.Captures.{is_in}
 use Rattle.dk_model.specs.Shapes.{are_distinct, covers, covers_notes, pattern_variables, patterns_variables}
 use Rattle.dk_model.specs.declared.signature.Pat.{Pat}
 use Rattle.pattern_compile.specs.Admitted.{plain_patterns}

@@ -5,7 +5,9 @@ use Rattle.std.proofs.lemmas.List.{append-nil, take-take, length-map}
 use Rattle.dk_model.specs.Trees.{Tree}
 use Rattle.dk_model.specs.Signatures.{PlainRule, PlainSignature}
 use Rattle.dk_model.specs.Units.{Units, bind}
-use Rattle.dk_model.specs.Selection.{Column, Captures, Row, select_from, tried, rigid_at, opened, refined_rows}
+use Rattle.dk_model.specs.Matrix.{Column, Row, rigid_at, opened_columns, refined_rows}
+use Rattle.dk_model.specs.Captures.{Captures}
+use Rattle.dk_model.specs.Selection.{select_from, row_taken, RowTrial, Selected}
 use Rattle.dk_model.specs.Evaluation.{whnf_of, comparison_of, normal_of, selection_of}
 use Rattle.dk_model.proofs.Turns.{selection_is}
 use Rattle.plain_evaluation.specs.declared.fault.Stop.{Stop}
@@ -21,73 +23,73 @@ taken_length zero (x ∷ xs) k e = refl
 taken_length (suc i) (x ∷ xs) k e = ap suc (taken_length i xs k e)
 
 module _ (S : PlainSignature) where
-  abbrev from : List Row → List Column → ℕ → Units (Option (Captures × PlainRule))
+  abbrev from : List Row → List Column → ℕ → Units (Option Selected)
   from = select_from (normal_of S) (comparison_of S) (whnf_of S) (selection_of S)
 
-  abbrev attempt : Row → List Column → ℕ → Units (Option Captures × List Column)
-  attempt = tried (normal_of S) (comparison_of S)
+  abbrev attempt : Row → List Column → ℕ → Units RowTrial
+  attempt = row_taken (normal_of S) (comparison_of S)
 
   pub no_row : (n : ℕ) (cols : List Column) (rs : List Row) → first_rigid rs ≡ None → selection_of S n cols rs ≡ Some (None, n)
   no_row n cols [] e = selection_is S n cols []
   no_row n cols (r ∷ rs) e = cc
 
-  from_fails : (n m : ℕ) (cols cols' : List Column) (r : Row) (rs : List Row) → rigid_at r.0 ≡ None → attempt r cols n ≡ Some ((None, cols'), m) → from (r ∷ rs) cols n ≡ from rs cols' m
+  from_fails : (n m : ℕ) (cols cols' : List Column) (r : Row) (rs : List Row) → rigid_at r.cells ≡ None → attempt r cols n ≡ Some (record { captures = None; columns = cols' }, m) → from (r ∷ rs) cols n ≡ from rs cols' m
   from_fails n m cols cols' r rs e q = rw (e, q, select_from) refl
 
-  from_takes : (n m : ℕ) (cols cols' : List Column) (r : Row) (rs : List Row) (cs : Captures) → rigid_at r.0 ≡ None → attempt r cols n ≡ Some ((Some cs, cols'), m)
-      → from (r ∷ rs) cols n ≡ Some (Some (cs, r.1), m)
+  from_takes : (n m : ℕ) (cols cols' : List Column) (r : Row) (rs : List Row) (cs : Captures) → rigid_at r.cells ≡ None → attempt r cols n ≡ Some (record { captures = Some cs; columns = cols' }, m)
+      → from (r ∷ rs) cols n ≡ Some (Some (record { captures = cs; rule = r.rule }), m)
   from_takes n m cols cols' r rs cs e q = rw (e, q, select_from) refl
 
-  from_ends : (n : ℕ) (cols : List Column) (r : Row) (rs : List Row) → rigid_at r.0 ≡ None → attempt r cols n ≡ None → from (r ∷ rs) cols n ≡ None
+  from_ends : (n : ℕ) (cols : List Column) (r : Row) (rs : List Row) → rigid_at r.cells ≡ None → attempt r cols n ≡ None → from (r ∷ rs) cols n ≡ None
   from_ends n cols r rs e q = rw (e, q, select_from) refl
 
-  from_out : (n : ℕ) (cols : List Column) (r : Row) (rs : List Row) (i : ℕ) → rigid_at r.0 ≡ Some i → slice_get cols i ≡ None → from (r ∷ rs) cols n ≡ Some (None, n)
+  from_out : (n : ℕ) (cols : List Column) (r : Row) (rs : List Row) (i : ℕ) → rigid_at r.cells ≡ Some i → slice_get cols i ≡ None → from (r ∷ rs) cols n ≡ Some (None, n)
   from_out n cols r rs i e q = rw (e, q, select_from) refl
 
-  from_asks : (n : ℕ) (cols : List Column) (r : Row) (rs : List Row) (i : ℕ) (k : Column) → rigid_at r.0 ≡ Some i → slice_get cols i ≡ Some k
-      → from (r ∷ rs) cols n ≡ bind (whnf_of S n k.1) (λ v m. selection_of S m (take i cols ++ (k.0, v) ∷ opened k.0 v ++ drop (i + 1) cols) (refined_rows v (length (opened k.0 v)) i (r ∷ rs)))
+  from_asks : (n : ℕ) (cols : List Column) (r : Row) (rs : List Row) (i : ℕ) (k : Column) → rigid_at r.cells ≡ Some i → slice_get cols i ≡ Some k
+      → from (r ∷ rs) cols n ≡ bind (whnf_of S n k.term) (λ v m. selection_of S m (take i cols ++ (record { depth = k.depth; term = v }) ∷ opened_columns k.depth v ++ drop (i + 1) cols) (refined_rows v (length (opened_columns k.depth v)) i (r ∷ rs)))
   from_asks n cols r rs i k e q = rw (e, q, select_from) refl
 
   -- the same of the selection, by what the first row asks for
 
-  pub row_fails : (n m : ℕ) (cols cols' : List Column) (r : Row) (rs all : List Row) → first_rigid all ≡ Some None → all ≡ r ∷ rs → tried (normal_of S) (comparison_of S) r cols n ≡ Some ((None, cols'), m)
+  pub row_fails : (n m : ℕ) (cols cols' : List Column) (r : Row) (rs all : List Row) → first_rigid all ≡ Some None → all ≡ r ∷ rs → row_taken (normal_of S) (comparison_of S) r cols n ≡ Some (record { captures = None; columns = cols' }, m)
       → selection_of S m cols' rs ≡ selection_of S n cols all
   row_fails n m cols cols' r rs [] e q h = cc
   row_fails n m cols cols' r rs (x ∷ xs) e q h =
-      let e' : rigid_at r.0 ≡ None = cc in
+      let e' : rigid_at r.cells ≡ None = cc in
       selection_is S m cols' rs ∙ flip (selection_is S n cols (x ∷ xs) ∙ ap (λ (l : List Row). from l cols n) q ∙ from_fails n m cols cols' r rs e' h)
 
-  pub row_taken : (n m : ℕ) (cols cols' : List Column) (r : Row) (rs all : List Row) (cs : Captures) → first_rigid all ≡ Some None → all ≡ r ∷ rs
-      → tried (normal_of S) (comparison_of S) r cols n ≡ Some ((Some cs, cols'), m) → selection_of S n cols all ≡ Some (Some (cs, r.1), m)
-  row_taken n m cols cols' r rs [] cs e q h = cc
-  row_taken n m cols cols' r rs (x ∷ xs) cs e q h =
-      let e' : rigid_at r.0 ≡ None = cc in
+  pub row_takes : (n m : ℕ) (cols cols' : List Column) (r : Row) (rs all : List Row) (cs : Captures) → first_rigid all ≡ Some None → all ≡ r ∷ rs
+      → row_taken (normal_of S) (comparison_of S) r cols n ≡ Some (record { captures = Some cs; columns = cols' }, m) → selection_of S n cols all ≡ Some (Some (record { captures = cs; rule = r.rule }), m)
+  row_takes n m cols cols' r rs [] cs e q h = cc
+  row_takes n m cols cols' r rs (x ∷ xs) cs e q h =
+      let e' : rigid_at r.cells ≡ None = cc in
       selection_is S n cols (x ∷ xs) ∙ ap (λ (l : List Row). from l cols n) q ∙ from_takes n m cols cols' r rs cs e' h
 
-  pub row_ends : (n : ℕ) (cols : List Column) (r : Row) (rs all : List Row) → first_rigid all ≡ Some None → all ≡ r ∷ rs → tried (normal_of S) (comparison_of S) r cols n ≡ None
+  pub row_ends : (n : ℕ) (cols : List Column) (r : Row) (rs all : List Row) → first_rigid all ≡ Some None → all ≡ r ∷ rs → row_taken (normal_of S) (comparison_of S) r cols n ≡ None
       → selection_of S n cols all ≡ None
   row_ends n cols r rs [] e q h = cc
   row_ends n cols r rs (x ∷ xs) e q h =
-      let e' : rigid_at r.0 ≡ None = cc in
+      let e' : rigid_at r.cells ≡ None = cc in
       selection_is S n cols (x ∷ xs) ∙ ap (λ (l : List Row). from l cols n) q ∙ from_ends n cols r rs e' h
 
   pub no_column : (n : ℕ) (cols : List Column) (rs : List Row) (i : ℕ) → first_rigid rs ≡ Some (Some i) → slice_get cols i ≡ None → selection_of S n cols rs ≡ Some (None, n)
   no_column n cols [] i e q = cc
-  no_column n cols (x ∷ xs) i e q = let e' : rigid_at x.0 ≡ Some i = cc in selection_is S n cols (x ∷ xs) ∙ from_out n cols x xs i e' q
+  no_column n cols (x ∷ xs) i e q = let e' : rigid_at x.cells ≡ Some i = cc in selection_is S n cols (x ∷ xs) ∙ from_out n cols x xs i e' q
 
-  pub row_asks : (n : ℕ) (cols : List Column) (rs : List Row) (i : ℕ) (g : Gap) (t : Tree) → first_rigid rs ≡ Some (Some i) → slice_get cols i ≡ Some (g.depth, t)
+  pub row_asks : (n : ℕ) (cols : List Column) (rs : List Row) (i : ℕ) (g : Gap) (t : Tree) → first_rigid rs ≡ Some (Some i) → slice_get cols i ≡ Some (record { depth = g.depth; term = t })
       → plain g.before ≡ take i cols → plain g.behind ≡ drop (i + 1) cols → map row g.rows.items ≡ rs → selection_of S n cols rs ≡ bind (whnf_of S n t) (reselected S g)
   row_asks n cols [] i g t e q before behind same = cc
   row_asks n cols (x ∷ xs) i g t e q before behind same =
-      let e' : rigid_at x.0 ≡ Some i = cc in
-      let at : length g.before.items ≡ i = flip (length-map g.before.items column) ∙ ap length before ∙ taken_length i cols (g.depth, t) q in
-      selection_is S n cols (x ∷ xs) ∙ from_asks n cols x xs i (g.depth, t) e' q
-      ∙ ap (λ (l : List Column). bind (whnf_of S n t) (λ v m. selection_of S m (l ++ (g.depth, v) ∷ opened g.depth v ++ drop (i + 1) cols) (refined_rows v (length (opened g.depth v)) i (x ∷ xs)))) (flip before)
-      ∙ ap (λ (l : List Column). bind (whnf_of S n t) (λ v m. selection_of S m (plain g.before ++ (g.depth, v) ∷ opened g.depth v ++ l) (refined_rows v (length (opened g.depth v)) i (x ∷ xs)))) (flip behind)
-      ∙ ap (λ (j : ℕ). bind (whnf_of S n t) (λ v m. selection_of S m (columns_with g v) (refined_rows v (length (opened g.depth v)) j (x ∷ xs)))) (flip at)
-      ∙ ap (λ (l : List Row). bind (whnf_of S n t) (λ v m. selection_of S m (columns_with g v) (refined_rows v (length (opened g.depth v)) (length g.before.items) l))) (flip same)
+      let e' : rigid_at x.cells ≡ Some i = cc in
+      let at : length g.before.items ≡ i = flip (length-map g.before.items column) ∙ ap length before ∙ taken_length i cols (record { depth = g.depth; term = t }) q in
+      selection_is S n cols (x ∷ xs) ∙ from_asks n cols x xs i (record { depth = g.depth; term = t }) e' q
+      ∙ ap (λ (l : List Column). bind (whnf_of S n t) (λ v m. selection_of S m (l ++ (record { depth = g.depth; term = v }) ∷ opened_columns g.depth v ++ drop (i + 1) cols) (refined_rows v (length (opened_columns g.depth v)) i (x ∷ xs)))) (flip before)
+      ∙ ap (λ (l : List Column). bind (whnf_of S n t) (λ v m. selection_of S m (plain g.before ++ (record { depth = g.depth; term = v }) ∷ opened_columns g.depth v ++ l) (refined_rows v (length (opened_columns g.depth v)) i (x ∷ xs)))) (flip behind)
+      ∙ ap (λ (j : ℕ). bind (whnf_of S n t) (λ v m. selection_of S m (columns_with g v) (refined_rows v (length (opened_columns g.depth v)) j (x ∷ xs)))) (flip at)
+      ∙ ap (λ (l : List Row). bind (whnf_of S n t) (λ v m. selection_of S m (columns_with g v) (refined_rows v (length (opened_columns g.depth v)) (length g.before.items) l))) (flip same)
 
-pub no_choice : (S : PlainSignature) (k : ℕ) (o : Units (Option Captures × List Column)) (x : Units (Option (Captures × PlainRule))) (e : Stop) (m : ℕ) (cols : List Column)
+pub no_choice : (S : PlainSignature) (k : ℕ) (o : Units RowTrial) (x : Units (Option Selected)) (e : Stop) (m : ℕ) (cols : List Column)
     → (o ≡ None → x ≡ None) → GivesTried o (Err e) cols m → GivesChoice S k x (Err e) m
 no_choice S k o x Ended m cols f h = f h
 no_choice S k o x NoMemory m cols f h = tt

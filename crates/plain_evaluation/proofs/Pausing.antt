@@ -4,8 +4,8 @@ use Rattle.std.proofs.lemmas.List.{length-map}
 use Rattle.dk_model.specs.Trees.{Tree, symbol}
 use Rattle.dk_model.specs.Signatures.{PlainSignature}
 use Rattle.dk_model.specs.Units.{Units, bind}
-use Rattle.dk_model.specs.Selection.{opened, refined_rows}
-use Rattle.dk_model.specs.Selection.{Column as PlainColumn, Row as PlainRow}
+use Rattle.dk_model.specs.Matrix.{opened_columns, refined_rows}
+use Rattle.dk_model.specs.Matrix.{Column as PlainColumn, Row as PlainRow}
 use Rattle.dk_model.specs.Evaluation.{selection_of}
 use Rattle.plain_evaluation.specs.declared.matrix.Column.{Column}
 use Rattle.plain_evaluation.specs.declared.matrix.Matrix.{Matrix}
@@ -36,7 +36,7 @@ module _ (S : PlainSignature) where
 
 -- the rows that a value keeps, by how many parts it has
 
-pub rows_closed : (g : Gap) (v : Tree) (parts : List Column) (rs : List PlainRow) (n : ℕ) → map column parts ≡ opened g.depth v → n ≡ length parts
+pub rows_closed : (g : Gap) (v : Tree) (parts : List Column) (rs : List PlainRow) (n : ℕ) → map column parts ≡ opened_columns g.depth v → n ≡ length parts
     → rs ≡ refined_rows v n (length g.before.items) (map row g.rows.items) → rs ≡ rows_with g v
 rows_closed g v parts rs n e q r =
     r ∙ ap (λ (j : ℕ). refined_rows v j (length g.before.items) (map row g.rows.items)) (q ∙ flip (length-map parts column) ∙ ap length e)

@@ -5,8 +5,8 @@ use Rattle.std.specs.Prelude.{eqb, ◌&&◌, length, if◌then◌else◌}
 use Rattle.dk_model.specs.Trees.{Tree, symbol, variable}
 use Rattle.dk_model.specs.Signatures.{Pattern, rule_variable_pattern, wildcard_pattern, guard_pattern, symbol_pattern, variable_pattern, abstraction_pattern, pattern_list, pattern, patterns}
 use Rattle.dk_model.specs.Spines.{head, arguments}
-use Rattle.dk_model.specs.Selection.{blank, cell, cell_at, is_rigid, rigid_at, refined, refined_rows, heads_same}
-use Rattle.dk_model.specs.Selection.{Cell as PlainCell, Row as PlainRow}
+use Rattle.dk_model.specs.Matrix.{blank, cell, cell_at, is_rigid, rigid_at, refined_cells, refined_rows, heads_same}
+use Rattle.dk_model.specs.Matrix.{Cell as PlainCell, Row as PlainRow}
 use Rattle.dk_model.specs.declared.signature.Pat.{Pat, Row_of-Pat, end_of-Pat, more_of-Pat, items-the_row-Pat}
 use Rattle.dk_model.specs.declared.signature.Pat.TheVariants.{Sym, Var}
 use Rattle.dk_model.specs.declared.signature.Pat.TheBlock.{hidden-the_row-Pat-0, items_hidden-the_row-Pat-0}
@@ -98,7 +98,7 @@ cells_joined all xs ys zs mid i e q r =
 
 -- a row is kept where its cell is
 
-refined_when : (v : Tree) (n : ℕ) (c : PlainCell) → refined v n c ≡ (if is_kept v c then Some (cells_after n c) else None)
+refined_when : (v : Tree) (n : ℕ) (c : PlainCell) → refined_cells v n c ≡ (if is_kept v c then Some (cells_after n c) else None)
 refined_when v n blank = refl
 refined_when v n (cell (rule_variable_pattern k xs)) = refl
 refined_when v n (cell wildcard_pattern) = refl
@@ -107,19 +107,19 @@ refined_when v n (cell (symbol_pattern k ps)) = refl
 refined_when v n (cell (variable_pattern k ps)) = refl
 refined_when v n (cell (abstraction_pattern p)) = refl
 
-kept : (v : Tree) (n : ℕ) (c : PlainCell) → is_kept v c ≡ true → refined v n c ≡ Some (cells_after n c)
+kept : (v : Tree) (n : ℕ) (c : PlainCell) → is_kept v c ≡ true → refined_cells v n c ≡ Some (cells_after n c)
 kept v n c e = refined_when v n c ∙ ap (λ (b : Bool). if b then Some (cells_after n c) else None) e
 
-dropped : (v : Tree) (n : ℕ) (c : PlainCell) → is_kept v c ≡ false → refined v n c ≡ None
+dropped : (v : Tree) (n : ℕ) (c : PlainCell) → is_kept v c ≡ false → refined_cells v n c ≡ None
 dropped v n c e = refined_when v n c ∙ ap (λ (b : Bool). if b then Some (cells_after n c) else None) e
 
 module _ (v : Tree) (n i : ℕ) (r : PlainRow) (rs : List PlainRow) where
   abbrev with_cells : Option (List PlainCell) → List PlainRow
-  with_cells o = elim o [ None ↦ refined_rows v n i rs | Some cs ↦ (take i r.0 ++ cs ++ drop (i + 1) r.0, r.1) ∷ refined_rows v n i rs ]
+  with_cells o = elim o [ None ↦ refined_rows v n i rs | Some cs ↦ record { cells = take i r.cells ++ cs ++ drop (i + 1) r.cells; rule = r.rule } ∷ refined_rows v n i rs ]
 
-  pub row_kept : is_kept v (cell_at r.0 i) ≡ true
-      → refined_rows v n i (r ∷ rs) ≡ (take i r.0 ++ cells_after n (cell_at r.0 i) ++ drop (i + 1) r.0, r.1) ∷ refined_rows v n i rs
-  row_kept e = ap with_cells (kept v n (cell_at r.0 i) e)
+  pub row_kept : is_kept v (cell_at r.cells i) ≡ true
+      → refined_rows v n i (r ∷ rs) ≡ record { cells = take i r.cells ++ cells_after n (cell_at r.cells i) ++ drop (i + 1) r.cells; rule = r.rule } ∷ refined_rows v n i rs
+  row_kept e = ap with_cells (kept v n (cell_at r.cells i) e)
 
-  pub row_dropped : is_kept v (cell_at r.0 i) ≡ false → refined_rows v n i (r ∷ rs) ≡ refined_rows v n i rs
-  row_dropped e = ap with_cells (dropped v n (cell_at r.0 i) e)
+  pub row_dropped : is_kept v (cell_at r.cells i) ≡ false → refined_rows v n i (r ∷ rs) ≡ refined_rows v n i rs
+  row_dropped e = ap with_cells (dropped v n (cell_at r.cells i) e)

@@ -6,11 +6,15 @@ use Rattle.dk_model.specs.Trees.{Tree, symbol, apply, bare, tree}
 use Rattle.dk_model.specs.Substitution.{substitute}
 use Rattle.dk_model.specs.Signatures.{PlainRule, PlainSignature}
 use Rattle.dk_model.specs.Units.{Units, bind}
+use Rattle.dk_model.specs.Selection.{Selected}
 use Rattle.dk_model.specs.Spines.{contraction, head_symbol, body_of, applied}
-use Rattle.dk_model.specs.Selection.{rules_of, rows_for, width, filled, Captures, Column, Row}
+use Rattle.dk_model.specs.SymbolRules.{rules_of}
+use Rattle.dk_model.specs.Matrix.{rows_for, width, Column, Row}
+use Rattle.dk_model.specs.Captures.{filled, Captures}
 use Rattle.dk_model.specs.Evaluation.{whnf_of, selection_of, columns, rows}
 use Rattle.dk_model.specs.declared.term.Term.{Term}
-use Rattle.dk_model.proofs.Turns.{whnf_contracts, whnf_stands, whnf_selects, after_selection}
+use Rattle.dk_model.specs.Equations.{after_selection}
+use Rattle.dk_model.proofs.Turns.{whnf_contracts, whnf_stands, whnf_selects}
 use Rattle.plain_evaluation.specs.declared.matrix.Matrix.{Matrix}
 use Rattle.plain_evaluation.specs.declared.pause.Pause.{Pause}
 use Rattle.plain_evaluation.specs.Machine.{trees, wound, from_top, unbound, is_application, is_stuck}
@@ -64,7 +68,7 @@ module _ (S : PlainSignature) where
   stands zero t l e q = absurd (omega arith)
   stands (suc n) t l e q = whnf_stands S n t e q ∙ ap (λ (m : ℕ). Some (t, m)) (omega arith)
 
-  same_choice : (t : Tree) (x : Units (Option (Captures × PlainRule))) → bind x (after_selection S t) ≡ bind x (after_choice S t)
+  same_choice : (t : Tree) (x : Units (Option Selected)) → bind x (after_selection S t) ≡ bind x (after_choice S t)
   same_choice t None = refl
   same_choice t (Some (None, m)) = refl
   same_choice t (Some (Some p, m)) = refl
@@ -129,7 +133,7 @@ module _ (S : PlainSignature) (m : Matrix) (n : ℕ) (ts : List Term) where
       → bind (selected S m n) (after_choice S (wound (symbol m.symbol) (trees ts))) ≡ Some (wound (symbol m.symbol) (trees ts), j)
   choice_stands j e = ap (λ x. bind x (after_choice S redex)) e
 
-  pub choice_goes : (j : ℕ) (cs : Captures) (r : PlainRule) (u : Tree) → selected S m n ≡ Some (Some (cs, r), j)
+  pub choice_goes : (j : ℕ) (cs : Captures) (r : PlainRule) (u : Tree) → selected S m n ≡ Some (Some (record { captures = cs; rule = r }), j)
       → u ≡ applied (filled cs 0 r.right) (drop (length r.pats) (from_top ts)) → bind (selected S m n) (after_choice S (wound (symbol m.symbol) (trees ts))) ≡ whnf_of S j u
   choice_goes j cs r u e q =
       ap (λ x. bind x (after_choice S redex)) e

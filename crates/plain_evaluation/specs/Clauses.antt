@@ -6,7 +6,10 @@ use Rattle.dk_model.specs.Trees.{symbol, tree}
 use Rattle.dk_model.specs.Signatures.{plain_signature, pattern}
 use Rattle.dk_model.specs.Units.{bind}
 use Rattle.dk_model.specs.Spines.{applied}
-use Rattle.dk_model.specs.Selection.{cell, filled, tried, through, at_cell, escaped, matched, guarded, each_normal}
+use Rattle.dk_model.specs.Matrix.{cell}
+use Rattle.dk_model.specs.Captures.{filled}
+use Rattle.dk_model.specs.Selection.{row_taken, captures_of_row, cell_captures, part_at, recorded, guards_hold}
+use Rattle.dk_model.specs.Parts.{each_normal}
 use Rattle.dk_model.specs.Evaluation.{whnf_of, comparison_of, normal_of, columns, rows}
 use Rattle.dk_model.specs.declared.term.Term.{Term}
 use Rattle.dk_model.specs.declared.signature.Pat.{Pat}
@@ -43,7 +46,7 @@ Normalises s t old result new = GivesTerm (normal_of (plain_signature s) old (tr
 
 -- the normal form of each part of the term
 abbrev pub NormalisesParts : Signature → Term → ℕ → Result Term Stop → ℕ → Type 0
-NormalisesParts s t old result new = GivesTerm (each_normal (normal_of (plain_signature s)) (comparison_of (plain_signature s)) (tree t) old) result new
+NormalisesParts s t old result new = GivesTerm (each_normal (normal_of (plain_signature s)) (tree t) old) result new
 
 -- the turn of a head over a stack, with the stack and the units after it
 abbrev pub TakesTurn : Signature → Term → Vec Term Global → ℕ → Result Turn Stop → Vec Term Global → ℕ → Type 0
@@ -82,31 +85,31 @@ Selects s m old result new = GivesChoice (plain_signature s) m.symbol (selected 
 
 abbrev pub Tries : Signature → Row → List Column → ℕ → Result (Option (Vec (Option Term) Global)) Stop → List Column → ℕ → Type 0
 Tries s r cs old result cs' new =
-    GivesTried (tried (normal_of (plain_signature s)) (comparison_of (plain_signature s)) (row r) (map column cs) old) result (map column cs') new
+    GivesTried (row_taken (normal_of (plain_signature s)) (comparison_of (plain_signature s)) (row r) (map column cs) old) result (map column cs') new
 
 abbrev pub Passes : Signature → List Cell → List Column → List (Option Term) → ℕ → Result Bool Stop → List Column → List (Option Term) → ℕ → Type 0
 Passes s cells cs taken old result cs' taken' new =
-    GivesThrough (through (normal_of (plain_signature s)) (comparison_of (plain_signature s)) (map plain_cell cells) (map column cs) old (captures_of taken)) result (map column cs') (captures_of taken') new
+    GivesThrough (captures_of_row (normal_of (plain_signature s)) (comparison_of (plain_signature s)) (map plain_cell cells) (map column cs) old (captures_of taken)) result (map column cs') (captures_of taken') new
 
 abbrev pub AtCell : Signature → Cell → Column → List (Option Term) → ℕ → Result Bool Stop → Column → List (Option Term) → ℕ → Type 0
 AtCell s c k taken old result k' taken' new =
-    GivesCell (at_cell (normal_of (plain_signature s)) (comparison_of (plain_signature s)) (plain_cell c) (column k) old (captures_of taken)) result (column k') (captures_of taken') new
+    GivesCell (cell_captures (normal_of (plain_signature s)) (comparison_of (plain_signature s)) (plain_cell c) (column k) old (captures_of taken)) result (column k') (captures_of taken') new
 
 abbrev pub AtPattern : Signature → Pat Term → Column → List (Option Term) → ℕ → Result Bool Stop → Column → List (Option Term) → ℕ → Type 0
 AtPattern s p k taken old result k' taken' new =
-    GivesCell (at_cell (normal_of (plain_signature s)) (comparison_of (plain_signature s)) (cell (pattern p)) (column k) old (captures_of taken)) result (column k') (captures_of taken') new
+    GivesCell (cell_captures (normal_of (plain_signature s)) (comparison_of (plain_signature s)) (cell (pattern p)) (column k) old (captures_of taken)) result (column k') (captures_of taken') new
 
 abbrev pub Escapes : Signature → List ℕ → Column → ℕ → Result Bool Stop → Column → ℕ → Type 0
 Escapes s xs k old result k' new =
-    GivesPart (escaped (normal_of (plain_signature s)) (comparison_of (plain_signature s)) old k.depth xs (tree k.term)) result (column k') k.depth new
+    GivesPart (part_at (normal_of (plain_signature s)) old k.depth xs (tree k.term)) result (column k') k.depth new
 
 abbrev pub Matches : Signature → List (Option Term) → ℕ → Term → ℕ → Result Bool Stop → List (Option Term) → ℕ → Type 0
 Matches s taken k t old result taken' new =
-    GivesCaptures (matched (normal_of (plain_signature s)) (comparison_of (plain_signature s)) old (captures_of taken) k (tree t)) result (captures_of taken') new
+    GivesCaptures (recorded (comparison_of (plain_signature s)) old (captures_of taken) k (tree t)) result (captures_of taken') new
 
 abbrev pub Guards : Signature → List Cell → List Column → List (Option Term) → ℕ → Result Bool Stop → ℕ → Type 0
 Guards s cells cs taken old result new =
-    GivesBool (guarded (normal_of (plain_signature s)) (comparison_of (plain_signature s)) (map plain_cell cells) (map column cs) old (captures_of taken)) result new
+    GivesBool (guards_hold (comparison_of (plain_signature s)) (map plain_cell cells) (map column cs) old (captures_of taken)) result new
 
 abbrev pub GuardsCell : Signature → Cell → Column → List (Option Term) → ℕ → Result Bool Stop → ℕ → Type 0
 GuardsCell s c k taken old result new = GivesBool (guard_of (comparison_of (plain_signature s)) (plain_cell c) (column k) old (captures_of taken)) result new

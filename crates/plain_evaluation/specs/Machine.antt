@@ -1,7 +1,7 @@
 -- How the evaluating code holds a term: its head beside a stack of arguments.
 use Rattle.std.specs.Prelude.{Bool, true, false, List, [], ◌∷◌, ◌++◌, map}
 use Rattle.dk_model.specs.Trees.{Tree, symbol, apply, bare, tree}
-use Rattle.dk_model.specs.Selection.{Column}
+use Rattle.dk_model.specs.Matrix.{Column}
 use Rattle.dk_model.specs.declared.term.Term.{Term}
 
 abbrev pub trees : List Term → List Tree
@@ -19,7 +19,7 @@ from_top (t ∷ ts) = from_top ts ++ (tree t ∷ [])
 
 -- a column of an argument, where no pattern binds a variable yet
 abbrev pub unbound : Tree → Column
-unbound a = (0, a)
+unbound a = record { depth = 0; term = a }
 
 abbrev pub is_application : Tree → Bool
 is_application (apply f a) = true

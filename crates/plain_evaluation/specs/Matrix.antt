@@ -5,8 +5,9 @@ use Rattle.std.specs.declared.alloc.Global.{Global}
 use Rattle.dk_model.specs.Trees.{Tree, symbol, variable, tree}
 use Rattle.dk_model.specs.Signatures.{symbol_pattern, variable_pattern, abstraction_pattern, pattern_list, pattern, maybe_tree, PlainRule}
 use Rattle.dk_model.specs.Spines.{head, arguments}
-use Rattle.dk_model.specs.Selection.{blank, cell, cell_at, heads_same, is_bare, Captures}
-use Rattle.dk_model.specs.Selection.{Cell as PlainCell, Column as PlainColumn, Row as PlainRow}
+use Rattle.dk_model.specs.Matrix.{blank, cell, cell_at, heads_same, is_bare}
+use Rattle.dk_model.specs.Captures.{Captures}
+use Rattle.dk_model.specs.Matrix.{Cell as PlainCell, Column as PlainColumn, Row as PlainRow}
 use Rattle.dk_model.specs.declared.term.Term.{Term}
 use Rattle.dk_model.specs.declared.signature.Pat.{Pat}
 use Rattle.plain_evaluation.specs.declared.matrix.Cell.{Cell}
@@ -27,10 +28,10 @@ plain_cell Blank = blank
 plain_cell (Asks p) = pattern_cell p.now
 
 abbrev pub column : Column → PlainColumn
-column c = (c.depth, tree c.term)
+column c = record { depth = c.depth; term = tree c.term }
 
 abbrev pub row : Row → PlainRow
-row r = (map plain_cell r.cells.items, source_rule r.source)
+row r = record { cells = map plain_cell r.cells.items; rule = source_rule r.source }
 
 -- whether a row that has this cell in a column is kept where the column has the value `v`
 abbrev pub is_kept : Tree → PlainCell → Bool
@@ -47,12 +48,8 @@ cells_after n (cell (abstraction_pattern p)) = blank ∷ cell p ∷ []
 cells_after n c = c ∷ replicate n blank
 
 -- the cells of a kept row, once the column at `i` has a value of `n` parts
-abbrev pub refined_cells : ℕ → ℕ → List PlainCell → List PlainCell
-refined_cells n i cs = take i cs ++ cells_after n (cell_at cs i) ++ drop (i + 1) cs
-
--- the cells of a rule before any column has a value, over `w` columns
-abbrev pub first_cells : ℕ → PlainRule → List PlainCell
-first_cells w r = map cell r.pats ++ replicate (w - length r.pats) blank
+abbrev pub cells_when_kept : ℕ → ℕ → List PlainCell → List PlainCell
+cells_when_kept n i cs = take i cs ++ cells_after n (cell_at cs i) ++ drop (i + 1) cs
 
 -- that these cells were put behind the old ones
 abbrev pub Appends : Vec Cell Global → Vec Cell Global → List PlainCell → Type 0

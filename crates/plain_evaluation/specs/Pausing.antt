@@ -5,8 +5,10 @@ use Rattle.std.specs.declared.alloc.Global.{Global}
 use Rattle.dk_model.specs.Trees.{Tree, symbol}
 use Rattle.dk_model.specs.Signatures.{PlainRule, PlainSignature}
 use Rattle.dk_model.specs.Units.{Units, bind}
-use Rattle.dk_model.specs.Selection.{opened, refined_rows, Captures}
-use Rattle.dk_model.specs.Selection.{Column as PlainColumn, Row as PlainRow}
+use Rattle.dk_model.specs.Selection.{Selected}
+use Rattle.dk_model.specs.Matrix.{opened_columns, refined_rows}
+use Rattle.dk_model.specs.Captures.{Captures}
+use Rattle.dk_model.specs.Matrix.{Column as PlainColumn, Row as PlainRow}
 use Rattle.dk_model.specs.Evaluation.{whnf_of, selection_of, columns, rows, rewritten}
 use Rattle.plain_evaluation.specs.declared.matrix.Column.{Column}
 use Rattle.plain_evaluation.specs.declared.matrix.Matrix.{Matrix}
@@ -20,11 +22,11 @@ abbrev pub plain : Vec Column Global → List PlainColumn
 plain cs = map column cs.items
 
 -- the selection that a matrix stands for
-abbrev pub selected : PlainSignature → Matrix → ℕ → Units (Option (Captures × PlainRule))
+abbrev pub selected : PlainSignature → Matrix → ℕ → Units (Option Selected)
 selected S m n = selection_of S n (plain m.columns) (map row m.rows.items)
 
 -- the weak head form of a term once its selection is made: of what the rule makes of it, or the term as it stands
-abbrev pub after_choice : PlainSignature → Tree → Option (Captures × PlainRule) → ℕ → Units Tree
+abbrev pub after_choice : PlainSignature → Tree → Option Selected → ℕ → Units Tree
 after_choice S t None n = Some (t, n)
 after_choice S t (Some p) n = whnf_of S n (rewritten t p)
 
@@ -34,14 +36,14 @@ rewritten_by S n k t = bind (selection_of S n (columns S k t) (rows S k t)) (aft
 
 -- the columns where the one that was taken out has the value `v`
 abbrev pub columns_with : Gap → Tree → List PlainColumn
-columns_with g v = plain g.before ++ (g.depth, v) ∷ opened g.depth v ++ plain g.behind
+columns_with g v = plain g.before ++ record { depth = g.depth; term = v } ∷ opened_columns g.depth v ++ plain g.behind
 
 -- the rows that are then kept
 abbrev pub rows_with : Gap → Tree → List PlainRow
-rows_with g v = refined_rows v (length (opened g.depth v)) (length g.before.items) (map row g.rows.items)
+rows_with g v = refined_rows v (length (opened_columns g.depth v)) (length g.before.items) (map row g.rows.items)
 
 -- the selection goes on with the value `v`
-abbrev pub reselected : PlainSignature → Gap → Tree → ℕ → Units (Option (Captures × PlainRule))
+abbrev pub reselected : PlainSignature → Gap → Tree → ℕ → Units (Option Selected)
 reselected S g v n = selection_of S n (columns_with g v) (rows_with g v)
 
 -- the weak head form of the term whose selection waited, once the value `v` is there

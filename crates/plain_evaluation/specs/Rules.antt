@@ -3,7 +3,7 @@ use Rattle.std.specs.Prelude.{ℕ, ◌≡◌, ◌+◌, Option, Some, None, List,
 use Rattle.std.specs.Borrow.{Bor}
 use Rattle.dk_model.specs.Trees.{tree}
 use Rattle.dk_model.specs.Signatures.{PlainRule, PlainEntry, symbol_entry, rules_entry, PlainSignature, plain_rule, plain_signature}
-use Rattle.dk_model.specs.Selection.{body_rule}
+use Rattle.dk_model.specs.SymbolRules.{body_rule}
 use Rattle.dk_model.specs.declared.signature.Rule.{Rule}
 use Rattle.dk_model.specs.declared.signature.Signature.{Signature}
 use Rattle.plain_evaluation.specs.declared.rules.Source.{Source}

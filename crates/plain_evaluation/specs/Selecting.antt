@@ -6,8 +6,10 @@ use Rattle.dk_model.specs.Trees.{Tree, tree}
 use Rattle.dk_model.specs.Substitution.{shift}
 use Rattle.dk_model.specs.Signatures.{guard_pattern, PlainRule, PlainSignature}
 use Rattle.dk_model.specs.Units.{Units, bind}
-use Rattle.dk_model.specs.Selection.{cell, filled, rigid_at, Captures}
-use Rattle.dk_model.specs.Selection.{Cell as PlainCell, Column as PlainColumn, Row as PlainRow}
+use Rattle.dk_model.specs.Selection.{PartTrial, Selected, CellTrial, RowTrial}
+use Rattle.dk_model.specs.Matrix.{cell, rigid_at}
+use Rattle.dk_model.specs.Captures.{filled, Captures}
+use Rattle.dk_model.specs.Matrix.{Cell as PlainCell, Column as PlainColumn, Row as PlainRow}
 use Rattle.dk_model.specs.Evaluation.{whnf_of}
 use Rattle.dk_model.specs.declared.term.Term.{Term}
 use Rattle.plain_evaluation.specs.declared.fault.Stop.{Stop}
@@ -21,40 +23,40 @@ use Rattle.plain_evaluation.specs.Pausing.{reselected}
 -- what the first row asks for, where there is a row
 abbrev pub first_rigid : List PlainRow → Option (Option ℕ)
 first_rigid [] = None
-first_rigid (r ∷ rs) = Some (rigid_at r.0)
+first_rigid (r ∷ rs) = Some (rigid_at r.cells)
 
 -- where the selection `due` for a symbol comes to
-abbrev pub GivesChoice : PlainSignature → ℕ → Units (Option (Captures × PlainRule)) → Result Choice Stop → ℕ → Type 0
+abbrev pub GivesChoice : PlainSignature → ℕ → Units (Option Selected) → Result Choice Stop → ℕ → Type 0
 GivesChoice S k due (Ok Nothing) left = due ≡ Some (None, left)
-GivesChoice S k due (Ok (Taken cs r)) left = due ≡ Some (Some (captures_of cs.items, source_rule r), left)
+GivesChoice S k due (Ok (Taken cs r)) left = due ≡ Some (Some (record { captures = captures_of cs.items; rule = source_rule r }), left)
 GivesChoice S k due (Ok (Asks g t)) left = (due ≡ bind (whnf_of S left (tree t)) (reselected S g)) × (g.symbol ≡ k)
 GivesChoice S k due (Err Ended) left = due ≡ None
 GivesChoice S k due (Err NoMemory) left = Unit {0}
 
 -- the captures of a row that is taken, and the columns as they then are
-abbrev pub GivesTried : Units (Option Captures × List PlainColumn) → Result (Option (Vec (Option Term) Global)) Stop → List PlainColumn → ℕ → Type 0
-GivesTried due (Ok None) cols left = due ≡ Some ((None, cols), left)
-GivesTried due (Ok (Some v)) cols left = due ≡ Some ((Some (captures_of v.items), cols), left)
+abbrev pub GivesTried : Units RowTrial → Result (Option (Vec (Option Term) Global)) Stop → List PlainColumn → ℕ → Type 0
+GivesTried due (Ok None) cols left = due ≡ Some (record { captures = None; columns = cols }, left)
+GivesTried due (Ok (Some v)) cols left = due ≡ Some (record { captures = Some (captures_of v.items); columns = cols }, left)
 GivesTried due (Err Ended) cols left = due ≡ None
 GivesTried due (Err NoMemory) cols left = Unit {0}
 
 -- whether a row goes on, with what it has captured and the columns as they then are
-abbrev pub GivesThrough : Units (Option Captures × List PlainColumn) → Result Bool Stop → List PlainColumn → Captures → ℕ → Type 0
-GivesThrough due (Ok true) cols cs left = due ≡ Some ((Some cs, cols), left)
-GivesThrough due (Ok false) cols cs left = due ≡ Some ((None, cols), left)
+abbrev pub GivesThrough : Units RowTrial → Result Bool Stop → List PlainColumn → Captures → ℕ → Type 0
+GivesThrough due (Ok true) cols cs left = due ≡ Some (record { captures = Some cs; columns = cols }, left)
+GivesThrough due (Ok false) cols cs left = due ≡ Some (record { captures = None; columns = cols }, left)
 GivesThrough due (Err Ended) cols cs left = due ≡ None
 GivesThrough due (Err NoMemory) cols cs left = Unit {0}
 
 -- the same of one cell and its column
-abbrev pub GivesCell : Units (Option Captures × PlainColumn) → Result Bool Stop → PlainColumn → Captures → ℕ → Type 0
-GivesCell due (Ok true) col cs left = due ≡ Some ((Some cs, col), left)
-GivesCell due (Ok false) col cs left = due ≡ Some ((None, col), left)
+abbrev pub GivesCell : Units CellTrial → Result Bool Stop → PlainColumn → Captures → ℕ → Type 0
+GivesCell due (Ok true) col cs left = due ≡ Some (record { captures = Some cs; column = col }, left)
+GivesCell due (Ok false) col cs left = due ≡ Some (record { captures = None; column = col }, left)
 GivesCell due (Err Ended) col cs left = due ≡ None
 GivesCell due (Err NoMemory) col cs left = Unit {0}
 
 -- the part of a column as it then is, and whether it may be captured
-abbrev pub GivesPart : Units (Tree × Bool) → Result Bool Stop → PlainColumn → ℕ → ℕ → Type 0
-GivesPart due (Ok b) col depth left = (due ≡ Some ((col.1, b), left)) × (col.0 ≡ depth)
+abbrev pub GivesPart : Units PartTrial → Result Bool Stop → PlainColumn → ℕ → ℕ → Type 0
+GivesPart due (Ok b) col depth left = (due ≡ Some (record { term = col.term; fits = b }, left)) × (col.depth ≡ depth)
 GivesPart due (Err Ended) col depth left = due ≡ None
 GivesPart due (Err NoMemory) col depth left = Unit {0}
 
@@ -66,5 +68,5 @@ GivesCaptures due (Err NoMemory) cs left = Unit {0}
 
 -- the guard of a cell, where it has one, by the comparison `C`
 abbrev pub guard_of : (ℕ → Tree → Tree → Units Bool) → PlainCell → PlainColumn → ℕ → Captures → Units Bool
-guard_of C (cell (guard_pattern g)) col n cs = C n col.1 (shift 0 col.0 (filled cs 0 g))
+guard_of C (cell (guard_pattern g)) col n cs = C n col.term (shift 0 col.depth (filled cs 0 g))
 guard_of C c col n cs = Some (true, n)

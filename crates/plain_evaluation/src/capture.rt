@@ -1,7 +1,7 @@
 //! Captures: a part of an argument as a rule variable captures it, and a term under the captures.
 ghost use Rattle.std.specs.Prelude.{◌≡◌, ◌+◌, IfOk, MatchOption, Some, None};
 ghost use Rattle.dk_model.specs.Trees.{tree};
-ghost use Rattle.dk_model.specs.Selection.{is_in, place, strays, renamed, abstracted, captured, capture_at, filled};
+ghost use Rattle.dk_model.specs.Captures.{is_in, index_of, mentions_others, renamed, abstracted, captured, capture_at, filled};
 ghost use Rattle.plain_evaluation.specs.Matrix.{captures_of};
 
 use dk_model::{NoMemory, Term, make_annotated, make_app, make_bare, make_product};
@@ -33,7 +33,7 @@ fn is_in(variable: u64, listed: &[u32]) -> bool
 
 /// The place of a variable among those listed, from the end.
 fn place(variable: u64, listed: &[u32]) -> u64
-    ensures { result ≡ place variable listed.now }
+    ensures { result ≡ index_of variable listed.now }
 {
     match listed {
         [] => 0,
@@ -48,7 +48,7 @@ fn place(variable: u64, listed: &[u32]) -> u64
 /// Whether the term, under `under` binders of its own, mentions of the `depth` variables bound by the pattern one
 /// that isn't listed.
 pub fn strays(under: u64, depth: u64, listed: &[u32], term: &Term) -> Result<bool, NoMemory>
-    ensures { IfOk result (λ b. b ≡ strays under depth listed.now (tree term.now)) }
+    ensures { IfOk result (λ b. b ≡ mentions_others under depth listed.now (tree term.now)) }
 {
     match term {
         Term::Star => Ok(false),

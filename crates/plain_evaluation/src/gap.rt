@@ -2,7 +2,7 @@
 ghost use Rattle.std.specs.Prelude.{◌≡◌, ◌+◌, ◌<◌, [], ◌∷◌, IfOk, Some, map, take, drop, slice_get, vec_len};
 ghost use Rattle.dk_model.specs.Trees.{tree};
 ghost use Rattle.dk_model.specs.Spines.{arguments};
-ghost use Rattle.dk_model.specs.Selection.{opened};
+ghost use Rattle.dk_model.specs.Matrix.{opened_columns};
 ghost use Rattle.plain_evaluation.specs.Matrix.{row};
 ghost use Rattle.plain_evaluation.specs.Pausing.{plain, columns_with, rows_with};
 
@@ -34,7 +34,8 @@ pub fn gap_at<'a>(
     requires { at < vec_len columns }
     ensures symbol { IfOk result (λ g. g.0.symbol ≡ symbol) }
     ensures before { IfOk result (λ g. plain g.0.before ≡ take at (plain columns)) }
-    ensures term { IfOk result (λ g. slice_get (plain columns) at ≡ Some (g.0.depth, tree g.1)) }
+    ensures term { IfOk result (λ g. slice_get (plain columns) at
+        ≡ Some (record { depth = g.0.depth; term = tree g.1 })) }
     ensures behind { IfOk result (λ g. plain g.0.behind ≡ drop (at + 1) (plain columns)) }
     ensures rows { IfOk result (λ g. map row g.0.rows.items ≡ map row rows.entry.items) }
 {
@@ -77,7 +78,7 @@ pub fn closed<'a>(alloc: Global, gap: Gap<'a>, value: Term) -> Result<Matrix<'a>
 
 /// The columns that a value opens: its body under one more binder, or its arguments.
 fn opened(alloc: Global, depth: u64, value: &Term) -> Result<Vec<Column>, NoMemory>
-    ensures { IfOk result (λ columns. plain columns ≡ opened depth (tree value.now)) }
+    ensures { IfOk result (λ columns. plain columns ≡ opened_columns depth (tree value.now)) }
 {
     match value {
         Term::Abs(None, body) => body_column(alloc, depth, body),
@@ -87,7 +88,7 @@ fn opened(alloc: Global, depth: u64, value: &Term) -> Result<Vec<Column>, NoMemo
 
 /// A column for the body of an abstraction at this depth.
 fn body_column(alloc: Global, depth: u64, body: &Term) -> Result<Vec<Column>, NoMemory>
-    ensures { IfOk result (λ columns. plain columns ≡ (depth + 1, tree body.now) ∷ []) }
+    ensures { IfOk result (λ columns. plain columns ≡ record { depth = depth + 1; term = tree body.now } ∷ []) }
 {
     let mut columns = Vec::new(alloc);
     match depth.checked_add(1) {
@@ -103,7 +104,7 @@ fn body_column(alloc: Global, depth: u64, body: &Term) -> Result<Vec<Column>, No
 /// A column at this depth for each argument.
 #[tactic(auto, using(crate::proofs::References::spine_arguments))]
 fn argument_columns(alloc: Global, depth: u64, term: &Term) -> Result<Vec<Column>, NoMemory>
-    ensures { IfOk result (λ cs. plain cs ≡ map (λ a. (depth, a)) (arguments (tree term.now))) }
+    ensures { IfOk result (λ cs. plain cs ≡ map (λ a. record { depth = depth; term = a }) (arguments (tree term.now))) }
 {
     let (_, arguments) = spine(alloc, term)?;
     let mut arguments = arguments;

@@ -5,9 +5,9 @@
 ghost use Rattle.std.specs.Prelude.{◌≡◌, ◌+◌, ◌<◌, [], ◌∷◌, IfOk, IfSome, length, map, take, drop, replicate};
 ghost use Rattle.dk_model.specs.Trees.{tree, symbol, variable};
 ghost use Rattle.dk_model.specs.Spines.{head as head_of, arguments};
-ghost use Rattle.dk_model.specs.Selection.{blank, cell, is_rigid, rigid_at, heads_same, is_bare, cell_at, refined_rows, width, rows_for};
+ghost use Rattle.dk_model.specs.Matrix.{blank, cell, is_rigid, rigid_at, heads_same, is_bare, cell_at, first_cells, refined_rows, width, rows_for};
 ghost use Rattle.plain_evaluation.specs.Rules.{source_rule};
-ghost use Rattle.plain_evaluation.specs.Matrix.{pattern_cell, plain_cell, row as row_of, is_kept, cells_after, refined_cells, first_cells, Appends};
+ghost use Rattle.plain_evaluation.specs.Matrix.{pattern_cell, plain_cell, row as row_of, is_kept, cells_after, cells_when_kept, Appends};
 
 use crate::rules::{Source, patterns_of};
 use crate::spines::spine;
@@ -247,8 +247,9 @@ fn refined_row<'a>(
     at: usize,
     row: &Row<'a>,
 ) -> Result<Row<'a>, NoMemory>
-    ensures cells { IfOk result (λ r. (row_of r).0 ≡ refined_cells count at (row_of row.now).0) }
-    ensures rule { IfOk result (λ r. (row_of r).1 ≡ (row_of row.now).1) }
+    ensures cells { IfOk result (λ r. (row_of r).cells
+        ≡ cells_when_kept count at (row_of row.now).cells) }
+    ensures rule { IfOk result (λ r. (row_of r).rule ≡ (row_of row.now).rule) }
 {
     let old = row.cells.as_slice();
     let mut cells = Vec::from_slice(alloc, before(old, at))?;
@@ -318,8 +319,9 @@ pub fn rows_for<'a>(
 
 /// A rule's patterns, and nothing for the columns that are left of the `width`.
 fn row_for<'a>(alloc: Global, width: usize, source: &Source<'a>) -> Result<Row<'a>, NoMemory>
-    ensures cells { IfOk result (λ r. (row_of r).0 ≡ first_cells width (source_rule source.now)) }
-    ensures rule { IfOk result (λ r. (row_of r).1 ≡ source_rule source.now) }
+    ensures cells { IfOk result (λ r. (row_of r).cells
+        ≡ first_cells width (source_rule source.now)) }
+    ensures rule { IfOk result (λ r. (row_of r).rule ≡ source_rule source.now) }
 {
     let mut cells = Vec::new(alloc);
     push_source(&mut cells, source)?;

@@ -3,7 +3,7 @@
 //! The rules of a long signature are listed once, by the places of its rule commands. Begin at `rules_in`.
 ghost use Rattle.std.specs.Prelude.{◌≡◌, ◌++◌, IfOk, length, map, slice_get};
 ghost use Rattle.dk_model.specs.Signatures.{plain_signature, plain_rule, plain_entry};
-ghost use Rattle.dk_model.specs.Selection.{rules_of};
+ghost use Rattle.dk_model.specs.SymbolRules.{rules_of};
 ghost use Rattle.plain_evaluation.specs.Rules.{source_rule, rules_behind, entry_rules, rules_at, rules_at_place, place_of, AreRuled, AreRules, own_rules};
 
 use dk_model::{Entry, NoMemory, Rule, Signature, Term};

@@ -98,7 +98,7 @@ fn take_first<'a>(rows: &mut Vec<Row<'a>>) -> Row<'a>
 
 /// Whether a row that asks for no head is taken, with its captures.
 #[cycle(evaluation)]
-#[tactic(auto, using(crate::proofs::Trying::tried_fails, crate::proofs::Trying::tried_ends, crate::proofs::Trying::guards_end, crate::proofs::Trying::guards_fail, crate::proofs::Trying::tried_takes))]
+#[tactic(auto, using(crate::proofs::Trying::row_taken_fails, crate::proofs::Trying::row_taken_ends, crate::proofs::Trying::guards_end, crate::proofs::Trying::guards_fail, crate::proofs::Trying::row_taken_takes))]
 fn tried<'a>(
     alloc: Global,
     signature: &'a Signature,

@@ -1,11 +1,11 @@
 use Rattle.std.proofs.Common.{◌≡◌, ◌∙◌, ◌<◌, map, length, min, None, Some, arith, sym as flip}
 use Rattle.std.proofs.lemmas.List.{map-set, length-map}
 use Rattle.dk_model.specs.Signatures.{plain_signature}
-use Rattle.dk_model.specs.Selection.{capture_at}
+use Rattle.dk_model.specs.Captures.{capture_at}
 use Rattle.dk_model.specs.Evaluation.{normal_of, comparison_of}
 use Rattle.plain_evaluation.specs.Matrix.{captures_of, plain_cell, column, row}
 use Rattle.plain_evaluation.specs.Selecting.{first_rigid}
-use Rattle.plain_evaluation.proofs.Choosing.{row_fails, row_taken, row_ends, no_choice, got}
+use Rattle.plain_evaluation.proofs.Choosing.{row_fails, row_takes, row_ends, no_choice, got}
 use Rattle.plain_evaluation.proofs.Matched.{matched_new}
 use Rattle.plain_evaluation.proofs.Through.{goes_on, fails_at, ends_at, passed_all, no_pass, guard_met, guard_fails, guard_ends, guards_met, no_guard}
 use Rattle.plain_evaluation.proofs.+evaluation.Goals as goal
@@ -16,7 +16,7 @@ pub select::select-returns-in-Ok-Some-clause-gives : goal.select::select-returns
 select::select-returns-in-Ok-Some-clause-gives t c =
     let e : first_rigid (map row c.loop-rows.rows.items) ≡ Some None = cc in
     let h = rw c.in-Ok-Some.field-0-is at c.in-Ok-Some.ensures.gives in
-    flip c.loop-rows.invariant.same ∙ row_taken _ _ _ _ _ _ _ _ _ e c.take_first-row.ensures.rows h
+    flip c.loop-rows.invariant.same ∙ row_takes _ _ _ _ _ _ _ _ _ e c.take_first-row.ensures.rows h
 
 pub select::select-returns-in-Err-clause-gives : goal.select::select-returns-in-Err-clause-gives
 select::select-returns-in-Err-clause-gives t c =
@@ -34,7 +34,7 @@ select::select-loop-rows-preserved t c =
 pub select::matched-returns-then-variable-len-clause-gives : goal.select::matched-returns-then-variable-len-clause-gives
 select::matched-returns-then-variable-len-clause-gives t c =
     let e : capture_at (captures_of c.args.captures.now.items) c.args.variable ≡ None = cc c.in-None.ensures in
-    matched_new (normal_of (plain_signature c.args.signature.now)) (comparison_of (plain_signature c.args.signature.now)) c.args.left.now c.args.captures.now.items c.args.variable c.args.part e
+    matched_new (comparison_of (plain_signature c.args.signature.now)) c.args.left.now c.args.captures.now.items c.args.variable c.args.part e
 
 -- the cells of a row
 

@@ -1,7 +1,8 @@
 use Rattle.std.proofs.Common.{◌≡◌, ◌≤◌, ◌+◌, ◌*◌, map, vec_len, false, Some}
 use Rattle.dk_model.specs.Trees.{tree}
 use Rattle.dk_model.specs.Signatures.{plain_signature}
-use Rattle.dk_model.specs.Selection.{each_normal, through, guarded}
+use Rattle.dk_model.specs.Selection.{captures_of_row, guards_hold}
+use Rattle.dk_model.specs.Parts.{each_normal}
 use Rattle.dk_model.specs.Evaluation.{whnf_of, selection_of, comparison_of, normal_of}
 use Rattle.plain_evaluation.specs.Machine.{trees, wound, is_application}
 use Rattle.plain_evaluation.specs.Matrix.{plain_cell, column, row, captures_of}
@@ -111,7 +112,7 @@ decreases-compare::same-loop-pair l = l.left
 abbrev pub invariant-normal::each_normal-loop-argument : goal.invariant-normal::each_normal-loop-argument
 invariant-normal::each_normal-loop-argument l = record {
   same : arguments_normal (plain_signature l.signature) (trees l.stack.items) (tree l.term) l.left
-      ≡ each_normal (normal_of (plain_signature l.fn.signature)) (comparison_of (plain_signature l.fn.signature)) (tree l.fn.value) l.fn.left;
+      ≡ each_normal (normal_of (plain_signature l.fn.signature)) (tree l.fn.value) l.fn.left;
   less : l.left ≤ l.fn.left;
 }
 
@@ -135,7 +136,7 @@ decreases-select::select-loop-rows l = vec_len l.rows
 abbrev pub invariant-select::through-loop-i : goal.invariant-select::through-loop-i
 invariant-select::through-loop-i l = record {
   same : passed (normal_of (plain_signature l.signature)) (comparison_of (plain_signature l.signature)) (map plain_cell l.cells) (map column l.columns.items) l.i l.left (captures_of l.captures.items)
-      ≡ through (normal_of (plain_signature l.fn.signature)) (comparison_of (plain_signature l.fn.signature)) (map plain_cell l.fn.cells) (map column l.fn.columns.items) l.fn.left (captures_of l.fn.captures.items);
+      ≡ captures_of_row (normal_of (plain_signature l.fn.signature)) (comparison_of (plain_signature l.fn.signature)) (map plain_cell l.fn.cells) (map column l.fn.columns.items) l.fn.left (captures_of l.fn.captures.items);
   long : vec_len l.columns ≡ vec_len l.fn.columns;
   less : l.left ≤ l.fn.left;
 }
@@ -143,6 +144,6 @@ invariant-select::through-loop-i l = record {
 abbrev pub invariant-select::guarded-loop-i : goal.invariant-select::guarded-loop-i
 invariant-select::guarded-loop-i l = record {
   same : guards_from (normal_of (plain_signature l.signature)) (comparison_of (plain_signature l.signature)) (map plain_cell l.cells) (map column l.columns) l.i l.left (captures_of l.captures)
-      ≡ guarded (normal_of (plain_signature l.fn.signature)) (comparison_of (plain_signature l.fn.signature)) (map plain_cell l.fn.cells) (map column l.fn.columns) l.fn.left (captures_of l.fn.captures);
+      ≡ guards_hold (comparison_of (plain_signature l.fn.signature)) (map plain_cell l.fn.cells) (map column l.fn.columns) l.fn.left (captures_of l.fn.captures);
   less : l.left ≤ l.fn.left;
 }

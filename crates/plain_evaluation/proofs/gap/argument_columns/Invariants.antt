@@ -6,7 +6,7 @@ use Rattle.plain_evaluation.specs.Matrix.{column}
 use Rattle.plain_evaluation.proofs.gap.argument_columns.Given as goal
 
 abbrev pub invariant-loop-argument : goal.invariant-loop-argument
-invariant-loop-argument l = map column l.columns.items ++ map (λ a. (l.depth, a)) (reverse (behind_references l.arguments.items)) ≡ map (λ a. (l.depth, a)) (arguments (tree l.fn.term))
+invariant-loop-argument l = map column l.columns.items ++ map (λ a. record { depth = l.depth; term = a }) (reverse (behind_references l.arguments.items)) ≡ map (λ a. record { depth = l.depth; term = a }) (arguments (tree l.fn.term))
 
 abbrev pub decreases-loop-argument : goal.decreases-loop-argument
 decreases-loop-argument l = vec_len l.arguments

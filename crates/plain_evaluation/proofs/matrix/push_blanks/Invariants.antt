@@ -1,5 +1,5 @@
 use Rattle.std.proofs.Common.{◌≡◌, ◌++◌, map, replicate}
-use Rattle.dk_model.specs.Selection.{blank}
+use Rattle.dk_model.specs.Matrix.{blank}
 use Rattle.plain_evaluation.specs.Matrix.{plain_cell}
 use Rattle.plain_evaluation.proofs.matrix.push_blanks.Given as goal
 

@@ -1,6 +1,6 @@
 use Rattle.std.proofs.Common.{◌≡◌, ◌+◌, ◌∙◌, ◌++◌, ap, List, map, take, drop}
-use Rattle.dk_model.specs.Selection.{cell_at}
-use Rattle.dk_model.specs.Selection.{Cell as PlainCell}
+use Rattle.dk_model.specs.Matrix.{cell_at}
+use Rattle.dk_model.specs.Matrix.{Cell as PlainCell}
 use Rattle.plain_evaluation.specs.declared.matrix.Cell.{Cell}
 use Rattle.plain_evaluation.specs.Matrix.{plain_cell, cells_after}
 use Rattle.plain_evaluation.proofs.Refining.{cells_joined}

@@ -1,6 +1,6 @@
 use Rattle.std.proofs.Common.{◌≡◌, ◌++◌, map, drop}
 use Rattle.dk_model.specs.Trees.{tree}
-use Rattle.dk_model.specs.Selection.{refined_rows}
+use Rattle.dk_model.specs.Matrix.{refined_rows}
 use Rattle.plain_evaluation.specs.Matrix.{row}
 use Rattle.plain_evaluation.proofs.matrix.refined_rows.Given as goal
 

@@ -1,5 +1,5 @@
 use Rattle.std.proofs.Common.{◌≡◌, map, drop}
-use Rattle.dk_model.specs.Selection.{rigid_at}
+use Rattle.dk_model.specs.Matrix.{rigid_at}
 use Rattle.plain_evaluation.specs.Matrix.{plain_cell}
 use Rattle.plain_evaluation.proofs.Refining.{from_place}
 use Rattle.plain_evaluation.proofs.matrix.rigid_at.Given as goal

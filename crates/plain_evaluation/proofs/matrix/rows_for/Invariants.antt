@@ -1,5 +1,5 @@
 use Rattle.std.proofs.Common.{◌≡◌, ◌++◌, map, drop}
-use Rattle.dk_model.specs.Selection.{rows_for}
+use Rattle.dk_model.specs.Matrix.{rows_for}
 use Rattle.plain_evaluation.specs.Rules.{source_rule}
 use Rattle.plain_evaluation.specs.Matrix.{row}
 use Rattle.plain_evaluation.proofs.matrix.rows_for.Given as goal

@@ -1,5 +1,5 @@
 use Rattle.std.proofs.Common.{◌≡◌, map, drop, max}
-use Rattle.dk_model.specs.Selection.{width}
+use Rattle.dk_model.specs.Matrix.{width}
 use Rattle.plain_evaluation.specs.Rules.{source_rule}
 use Rattle.plain_evaluation.proofs.matrix.width.Given as goal
 
