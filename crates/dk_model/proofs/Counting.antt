@@ -7,7 +7,10 @@ use Rattle.dk_model.specs.Substitution.{shift, equal}
 use Rattle.dk_model.specs.Signatures.{rule_variable_pattern, guard_pattern, PlainRule, PlainSignature}
 use Rattle.dk_model.specs.Units.{Units, bind, Takes}
 use Rattle.dk_model.specs.Spines.{head_symbol, contraction, pairs_of}
-use Rattle.dk_model.specs.Selection.{Cell, cell, Column, Row, rigid_at, filled, strays, captured, Captures, capture_at, escaped, matched, at_cell, through, guarded, tried, each_same, each_normal, select_from}
+use Rattle.dk_model.specs.Matrix.{Cell, cell, Column, Row, rigid_at}
+use Rattle.dk_model.specs.Captures.{filled, mentions_others, captured, Captures, capture_at}
+use Rattle.dk_model.specs.Selection.{part_at, recorded, cell_captures, captures_of_row, guards_hold, row_taken, select_from, PartTrial, Selected}
+use Rattle.dk_model.specs.Parts.{each_same, each_normal}
 use Rattle.dk_model.specs.Evaluation.{whnf_with, selection_with, comparison_with, normal_with, whnf_of, comparison_of, normal_of, columns, rows, rewritten}
 use Rattle.dk_model.proofs.Fuel.{Within, agree}
 
@@ -91,53 +94,53 @@ counts_turn {A} F G none some h = record { lowers = lowers; falls = falls }
     falls (suc n) = subst (λ (y : Units A). Within (suc (suc n)) y) (sym (some n)) (within_more (suc n) (suc (suc n)) (F n) (omega arith) (h.falls n))
 
 module _ (N : ℕ → Tree → Units Tree) (C : ℕ → Tree → Tree → Units Bool) (cn : (t : Tree) → Counts (λ n. N n t)) (cc' : (t u : Tree) → Counts (λ n. C n t u)) where
-  escaped_counts : (k : ℕ) (xs : List ℕ) (t : Tree) → Counts (λ n. escaped N C n k xs t)
-  escaped_counts k xs t = counts_if (strays 0 k xs t) (counts_bind (cn t) (λ u. counts_some (u, not (strays 0 k xs u)))) (counts_some (t, true))
+  part_at_counts : (k : ℕ) (xs : List ℕ) (t : Tree) → Counts (λ n. part_at N n k xs t)
+  part_at_counts k xs t = counts_if (mentions_others 0 k xs t) (counts_bind (cn t) (λ u. counts_some (record { term = u; fits = not (mentions_others 0 k xs u) }))) (counts_some (record { term = t; fits = true }))
 
-  matched_counts : (cs : Captures) (k : ℕ) (t : Tree) → Counts (λ n. matched N C n cs k t)
-  matched_counts cs k t = counts_option (capture_at cs k) (counts_some (Some (slice_set cs k (Some t))))
+  recorded_counts : (cs : Captures) (k : ℕ) (t : Tree) → Counts (λ n. recorded C n cs k t)
+  recorded_counts cs k t = counts_option (capture_at cs k) (counts_some (Some (slice_set cs k (Some t))))
       (λ u. counts_bind (cc' u t) (λ alike. counts_some (if alike then Some cs else None)))
 
-  at_cell_counts : (x : Cell) (col : Column) (cs : Captures) → Counts (λ n. at_cell N C x col n cs)
-  at_cell_counts (cell (rule_variable_pattern k xs)) col cs = counts_bind (escaped_counts col.0 xs col.1) (λ part.
-      counts_if part.1 (counts_bind (matched_counts cs k (captured col.0 xs part.0)) (λ o. counts_some (o, (col.0, part.0)))) (counts_some (None, (col.0, part.0))))
-  at_cell_counts x col cs = counts_some (Some cs, col)
+  cell_captures_counts : (x : Cell) (col : Column) (cs : Captures) → Counts (λ n. cell_captures N C x col n cs)
+  cell_captures_counts (cell (rule_variable_pattern k xs)) col cs = counts_bind (part_at_counts col.depth xs col.term) (λ part.
+      counts_if part.fits (counts_bind (recorded_counts cs k (captured col.depth xs part.term)) (λ o. counts_some (record { captures = o; column = record { depth = col.depth; term = part.term } }))) (counts_some (record { captures = None; column = record { depth = col.depth; term = part.term } })))
+  cell_captures_counts x col cs = counts_some (record { captures = Some cs; column = col })
 
-  through_counts : (cells : List Cell) (cols : List Column) (cs : Captures) → Counts (λ n. through N C cells cols n cs)
-  through_counts [] cols cs = counts_some (Some cs, cols)
-  through_counts (x ∷ rest) [] cs = counts_some (Some cs, [])
-  through_counts (x ∷ rest) (col ∷ cols) cs = counts_bind (at_cell_counts x col cs) (λ o.
-      counts_option o.0 (counts_some (None, o.1 ∷ cols)) (λ cs'. counts_bind (through_counts rest cols cs') (λ r. counts_some (r.0, o.1 ∷ r.1))))
+  captures_of_row_counts : (cells : List Cell) (cols : List Column) (cs : Captures) → Counts (λ n. captures_of_row N C cells cols n cs)
+  captures_of_row_counts [] cols cs = counts_some (record { captures = Some cs; columns = cols })
+  captures_of_row_counts (x ∷ rest) [] cs = counts_some (record { captures = Some cs; columns = [] })
+  captures_of_row_counts (x ∷ rest) (col ∷ cols) cs = counts_bind (cell_captures_counts x col cs) (λ o.
+      counts_option o.captures (counts_some (record { captures = None; columns = o.column ∷ cols })) (λ cs'. counts_bind (captures_of_row_counts rest cols cs') (λ r. counts_some (record { captures = r.captures; columns = o.column ∷ r.columns }))))
 
-  guarded_counts : (cells : List Cell) (cols : List Column) (cs : Captures) → Counts (λ n. guarded N C cells cols n cs)
-  guarded_counts [] cols cs = counts_some true
-  guarded_counts (x ∷ rest) [] cs = counts_some true
-  guarded_counts (cell (guard_pattern g) ∷ rest) (col ∷ cols) cs = counts_bind (cc' col.1 (shift 0 col.0 (filled cs 0 g))) (λ alike.
-      counts_if alike (guarded_counts rest cols cs) (counts_some false))
-  guarded_counts (x ∷ rest) (col ∷ cols) cs = guarded_counts rest cols cs
+  guards_hold_counts : (cells : List Cell) (cols : List Column) (cs : Captures) → Counts (λ n. guards_hold C cells cols n cs)
+  guards_hold_counts [] cols cs = counts_some true
+  guards_hold_counts (x ∷ rest) [] cs = counts_some true
+  guards_hold_counts (cell (guard_pattern g) ∷ rest) (col ∷ cols) cs = counts_bind (cc' col.term (shift 0 col.depth (filled cs 0 g))) (λ alike.
+      counts_if alike (guards_hold_counts rest cols cs) (counts_some false))
+  guards_hold_counts (x ∷ rest) (col ∷ cols) cs = guards_hold_counts rest cols cs
 
-  tried_counts : (r : Row) (cols : List Column) → Counts (λ n. tried N C r cols n)
-  tried_counts r cols = counts_bind (through_counts r.0 cols (replicate r.1.vars None)) (λ o.
-      counts_option o.0 (counts_some (None, o.1)) (λ cs. counts_bind (guarded_counts r.0 o.1 cs) (λ alike. counts_some (if alike then Some cs else None, o.1))))
+  row_taken_counts : (r : Row) (cols : List Column) → Counts (λ n. row_taken N C r cols n)
+  row_taken_counts r cols = counts_bind (captures_of_row_counts r.cells cols (replicate r.rule.vars None)) (λ o.
+      counts_option o.captures (counts_some (record { captures = None; columns = o.columns })) (λ cs. counts_bind (guards_hold_counts r.cells o.columns cs) (λ alike. counts_some (record { captures = if alike then Some cs else None; columns = o.columns }))))
 
-  each_same_counts : (ps : List (Tree × Tree)) → Counts (λ n. each_same N C ps n)
+  each_same_counts : (ps : List (Tree × Tree)) → Counts (λ n. each_same C ps n)
   each_same_counts [] = counts_some true
   each_same_counts (p ∷ ps) = counts_bind (cc' p.0 p.1) (λ alike. counts_if alike (each_same_counts ps) (counts_some false))
 
-  each_normal_counts : (t : Tree) → Counts (λ n. each_normal N C t n)
+  each_normal_counts : (t : Tree) → Counts (λ n. each_normal N t n)
   each_normal_counts (apply f a) = counts_bind (each_normal_counts f) (λ g. counts_bind (cn a) (λ b. counts_some (apply g b)))
   each_normal_counts (bare b) = counts_bind (cn b) (λ u. counts_some (bare u))
   each_normal_counts (annotated a b) = counts_bind (cn a) (λ t. counts_bind (cn b) (λ u. counts_some (annotated t u)))
   each_normal_counts (product a b) = counts_bind (cn a) (λ t. counts_bind (cn b) (λ u. counts_some (product t u)))
   each_normal_counts t = counts_some t
 
-  module _ (W : ℕ → Tree → Units Tree) (A : ℕ → List Column → List Row → Units (Option (Captures × PlainRule)))
+  module _ (W : ℕ → Tree → Units Tree) (A : ℕ → List Column → List Row → Units (Option Selected))
       (cw : (t : Tree) → Counts (λ n. W n t)) (ca : (cols : List Column) (rs : List Row) → Counts (λ n. A n cols rs)) where
     select_counts : (rs : List Row) (cols : List Column) → Counts (λ n. select_from N C W A rs cols n)
     select_counts [] cols = counts_some None
-    select_counts (r ∷ rs) cols = counts_option (rigid_at r.0)
-        (counts_bind (tried_counts r cols) (λ o. counts_option o.0 (select_counts rs o.1) (λ cs. counts_some (Some (cs, r.1)))))
-        (λ i. counts_option (slice_get cols i) (counts_some None) (λ col. counts_bind (cw col.1) (λ v. ca _ _)))
+    select_counts (r ∷ rs) cols = counts_option (rigid_at r.cells)
+        (counts_bind (row_taken_counts r cols) (λ o. counts_option o.captures (select_counts rs o.columns) (λ cs. counts_some (Some (record { captures = cs; rule = r.rule })))))
+        (λ i. counts_option (slice_get cols i) (counts_some None) (λ col. counts_bind (cw col.term) (λ v. ca _ _)))
 
 -- the four count, with the fuel `f`
 pub record AllCount (f : ℕ) (S : PlainSignature) : Type 0 where
@@ -267,8 +270,8 @@ comparison_raised d S n m t u e = raised d (comparison_of S n t u) (comparison_o
 pub normal_raised : (d : ℕ) (S : PlainSignature) (n m : ℕ) (t : Tree) → m ≡ n + d → Raised d (normal_of S n t) (normal_of S m t)
 normal_raised d S n m t e = raised d (normal_of S n t) (normal_of S m t) ((normal_counts S t).lowers n d ∙ ap (λ k. lowered d (normal_of S k t)) (sym e))
 
-pub escaped_raised : (d : ℕ) (S : PlainSignature) (n m k : ℕ) (xs : List ℕ) (t : Tree) → m ≡ n + d
-    → Raised d (escaped (normal_of S) (comparison_of S) n k xs t) (escaped (normal_of S) (comparison_of S) m k xs t)
-escaped_raised d S n m k xs t e =
-    let F : ℕ → Units (Tree × Bool) = λ i. escaped (normal_of S) (comparison_of S) i k xs t in
-    raised d (F n) (F m) ((escaped_counts (normal_of S) (comparison_of S) (normal_counts S) (comparison_counts S) k xs t).lowers n d ∙ ap (λ i. lowered d (F i)) (sym e))
+pub part_at_raised : (d : ℕ) (S : PlainSignature) (n m k : ℕ) (xs : List ℕ) (t : Tree) → m ≡ n + d
+    → Raised d (part_at (normal_of S) n k xs t) (part_at (normal_of S) m k xs t)
+part_at_raised d S n m k xs t e =
+    let F : ℕ → Units PartTrial = λ i. part_at (normal_of S) i k xs t in
+    raised d (F n) (F m) ((part_at_counts (normal_of S) (comparison_of S) (normal_counts S) (comparison_counts S) k xs t).lowers n d ∙ ap (λ i. lowered d (F i)) (sym e))

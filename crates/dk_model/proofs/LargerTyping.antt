@@ -9,14 +9,15 @@ use Rattle.dk_model.specs.Shapes.{shapes_of}
 use Rattle.dk_model.specs.Scoping.{PlainCommand, declare, rule_command}
 use Rattle.dk_model.specs.Units.{Units}
 use Rattle.dk_model.specs.Evaluation.{whnf_of, comparison_of, normal_of}
-use Rattle.dk_model.specs.Selection.{renamed, escaped}
+use Rattle.dk_model.specs.Captures.{renamed}
+use Rattle.dk_model.specs.Selection.{part_at}
 use Rattle.dk_model.specs.RuleTyping.{Guard, Found, Walked, found_type, outermost_first, occurrence, with_type, with_wildcard, guard_walked, convertible, allowed, as_convertible, confined, bound_type, first_type, later_type, rule_variable_walked, wildcard_walked, as_expected, walked, spine_walked, all_types, notes_agree, guards_fit, sides_fit, left_walked, rule_checked, rules_typed}
 use Rattle.dk_model.specs.Typing.{Judged, answer, refused, ended, after, next, parts_of_product, a_sort, the_star, agreed, not_kind, symbol_type, variable_type, rule_variable_type, as_product, as_sort, as_star, as_same, against, application_type, product_type, abstraction_type, annotated_fits, inferred, checked, sort_of}
 use Rattle.dk_model.specs.Verdicts.{verdict, verdict_of, body_checked, body_type, rules_checked, command_checked}
 use Rattle.dk_model.specs.declared.code.Code.{Code}
 use Rattle.dk_model.specs.declared.code.Code.TheVariants.{E20, E24, E34, E35}
 use Rattle.dk_model.specs.declared.code.Verdict.TheVariants.{Ended}
-use Rattle.dk_model.proofs.Counting.{Raised, escaped_raised, whnf_raised, comparison_raised}
+use Rattle.dk_model.proofs.Counting.{Raised, part_at_raised, whnf_raised, comparison_raised}
 
 -- what the first gives the second gives too, with `d` units more left
 abbrev pub Grows : {A : Type 0} → ℕ → Judged A → Judged A → Type 0
@@ -143,9 +144,9 @@ module _ (d : ℕ) where
     as_convertible_grows T U n m e = after_grows d (comparison_of S n T U) (comparison_of S m T U) convertible convertible (comparison_raised d S n m T U e) convertible_grows
 
     confined_grows : (k : ℕ) (xs : List ℕ) (T : Tree) (n m : ℕ) → m ≡ n + d → Grows d (confined S k xs T n) (confined S k xs T m)
-    confined_grows k xs T n m e = after_grows d (escaped (normal_of S) (comparison_of S) n k xs T) (escaped (normal_of S) (comparison_of S) m k xs T) allowed allowed
-        (escaped_raised d S n m k xs T e)
-        (λ p. allowed_if_grows p.0 p.1)
+    confined_grows k xs T n m e = after_grows d (part_at (normal_of S) n k xs T) (part_at (normal_of S) m k xs T) allowed allowed
+        (part_at_raised d S n m k xs T e)
+        (λ p. allowed_if_grows p.term p.fits)
 
     bound_type_grows : (G : List Tree) (xs : List ℕ) (T : Tree) (n m : ℕ) → m ≡ n + d → Grows d (bound_type S G xs T n) (bound_type S G xs T m)
     bound_type_grows G xs T n m e = next_grows d (confined S (length G) xs T n) (confined S (length G) xs T m) _ _ (confined_grows (length G) xs T n m e)

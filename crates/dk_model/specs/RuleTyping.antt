@@ -5,7 +5,8 @@ use Rattle.dk_model.specs.Substitution.{shift, substitute}
 use Rattle.dk_model.specs.Erasure.{erased}
 use Rattle.dk_model.specs.Signatures.{Pattern, Patterns, no_patterns, more_patterns, rule_variable_pattern, wildcard_pattern, guard_pattern, symbol_pattern, variable_pattern, abstraction_pattern, PlainRule, PlainSignature}
 use Rattle.dk_model.specs.Spines.{applied}
-use Rattle.dk_model.specs.Selection.{renamed, escaped}
+use Rattle.dk_model.specs.Captures.{renamed}
+use Rattle.dk_model.specs.Selection.{PartTrial, part_at}
 use Rattle.dk_model.specs.Evaluation.{comparison_of, normal_of}
 use Rattle.dk_model.specs.Typing.{Judged, answer, refused, after, next, symbol_type, variable_type, as_product, checked}
 use Rattle.dk_model.specs.declared.code.Code.TheVariants.{E34, E35}
@@ -83,8 +84,8 @@ convertible true n = answer tt n
 convertible false n = refused E34
 
 -- a type, and whether it mentions only what it may, else E35
-abbrev pub allowed : Tree × Bool → ℕ → Judged Tree
-allowed p n = if p.1 then answer p.0 n else refused E35
+abbrev pub allowed : PartTrial → ℕ → Judged Tree
+allowed p n = if p.fits then answer p.term n else refused E35
 
 module _ (S : PlainSignature) where
   abbrev pub as_convertible : Tree → Tree → ℕ → Judged (Unit {0})
@@ -94,7 +95,7 @@ module _ (S : PlainSignature) where
 
   -- a type that may mention, of the `d` variables of the pattern, only these: its normal form where it mentions another
   abbrev pub confined : ℕ → List ℕ → Tree → ℕ → Judged Tree
-  confined d xs T n = after (escaped (normal_of S) (comparison_of S) n d xs T) allowed
+  confined d xs T n = after (part_at (normal_of S) n d xs T) allowed
 
   -- a confined type, as it stands behind the binders of these
   abbrev pub bound_type : List Tree → List ℕ → Tree → ℕ → Judged Tree
