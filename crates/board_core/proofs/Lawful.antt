@@ -10,16 +10,16 @@ use Rattle.dk_model.specs.declared.code.Verdict.{Verdict}
 use Rattle.dk_model.specs.declared.code.Verdict.TheVariants.{Accepted}
 use Rattle.board_core.specs.declared.event.Event.{Event}
 use Rattle.board_core.specs.declared.event.Event.TheVariants.{Put, Claim, Answer, Seal}
-use Rattle.board_core.specs.Events.{claims, claims_by, answers, answers_by, is_seal, puts, is_settled, answered_verdict, verdict_at}
+use Rattle.board_core.specs.Events.{claims, claims_by, answers, answers_by, faults, is_fault, is_put, is_seal, puts, is_settled, answered_verdict, verdict_at}
 use Rattle.board_core.specs.Machine.{Holds, IsFree, IsBelowFaults, IsClaimable, HoldsNone, Allowed, AllowedFrom, IsLawful, IsFinished}
-use Rattle.board_core.proofs.Histories.{not_before, any_same, any_hit, or_left, kept_or, or_right, and_left, and_right, both, not_true, same_number, any_snoc, any_kept, any_weaker, found, claimed_by, claimer, unanswered, verdict_new}
+use Rattle.board_core.proofs.Histories.{not_before, any_same, any_hit, or_left, kept_or, or_right, and_left, and_right, both, not_true, same_number, any_snoc, puts_snoc, any_kept, any_weaker, found, claimed_by, claimer, unanswered, verdict_new}
 
 pub lawful_snoc : (marks : List Bool) (before es : List Event) (e : Event) → AllowedFrom marks before es → Allowed marks (before ++ es) e → AllowedFrom marks before (es ++ e ∷ [])
 lawful_snoc marks before [] e a ok = (rw append-nil at ok, tt)
 lawful_snoc marks before (x ∷ es) e a ok = (a.0, lawful_snoc marks (before ++ x ∷ []) es e a.1 (rw append_assoc ok))
 
 -- a lawful history in two parts
-lawful_parts : (marks : List Bool) (before es fs : List Event) → AllowedFrom marks before (es ++ fs) → AllowedFrom marks before es × AllowedFrom marks (before ++ es) fs
+pub lawful_parts : (marks : List Bool) (before es fs : List Event) → AllowedFrom marks before (es ++ fs) → AllowedFrom marks before es × AllowedFrom marks (before ++ es) fs
 lawful_parts marks before [] fs a = (tt, subst (λ l. AllowedFrom marks l fs) (sym (append-nil before)) a)
 lawful_parts marks before (e ∷ es) fs a = let t = lawful_parts marks (before ++ e ∷ []) es fs a.1 in
     ((a.0, t.0), subst (λ l. AllowedFrom marks l fs) (append_assoc before (e ∷ []) es) t.1)
@@ -251,6 +251,13 @@ unfolding free_test
 free_tests marks es n f = let a = f.0 in let b = f.1 in both (ltb 0 n) (leb n (puts es) && (not (is_settled marks n) && not (list_any (claims n) es))) (lt-ltb 0 n a)
     (both (leb n (puts es)) (not (is_settled marks n) && not (list_any (claims n) es)) (le-leb n (puts es) b) (both (not (is_settled marks n)) (not (list_any (claims n) es)) (ap not f.2) (ap not f.3)))
 
+-- where a number is free and lies below the faults, some number can be claimed
+pub some_claimable : (marks : List Bool) (es : List Event) (n : ℕ) → IsFree marks es n → IsBelowFaults es n → (m : ℕ) × IsClaimable marks es m
+some_claimable marks es n free below = ⊎_elim
+    (λ r. (r.0, (test_free marks es r.0 r.2, (λ m f. r.3 m (free_tests marks es m f)), λ m bad. let t = below m bad in let u = r.3 n (free_tests marks es n free) in omega arith)))
+    (λ no. absurd (let t = no n (omega arith) in let u = free_tests marks es n free in cc))
+    (least (free_test marks es) (n + 1))
+
 -- a sealed history with nothing held and nothing claimable is finished
 pub finished : (marks : List Bool) (es : List Event) → list_any is_seal es ≡ true → ((w : ℕ) → HoldsNone w es) → ((n : ℕ) → ¬ IsClaimable marks es n) → IsFinished marks es
 finished marks es sealed none drained = record {
@@ -260,7 +267,24 @@ finished marks es sealed none drained = record {
   where
     go : (n : ℕ) → IsBelowFaults es n → 0 < n → n ≤ puts es → is_settled marks n ≡ false → (b : Bool) → list_any (claims n) es ≡ b → list_any (answers n) es ≡ true
     go n below pos put unsettled true h = let r = claimer n es h in answered_by r.0 n es (none r.0 n r.1)
-    go n below pos put unsettled false h = absurd (⊎_elim
-        (λ r. drained r.0 (test_free marks es r.0 r.2, (λ m f. r.3 m (free_tests marks es m f)), λ m bad. let t = below m bad in let u = r.3 n (free_tests marks es n (pos, put, unsettled, h)) in omega arith))
-        (λ no. let t = no n (omega arith) in let u = free_tests marks es n (pos, put, unsettled, h) in cc)
-        (least (free_test marks es) (n + 1)))
+    go n below pos put unsettled false h = let r = some_claimable marks es n (pos, put, unsettled, h) below in absurd (drained r.0 r.1)
+
+-- after a seal or a fault no job is put
+pub no_more_puts : (marks : List Bool) (before es : List Event) → AllowedFrom marks before es → (list_any is_seal before ≡ true) ⊎ (list_any is_fault before ≡ true) → puts (before ++ es) ≡ puts before
+no_more_puts marks before [] a over = ap puts (append-nil before)
+no_more_puts marks before (e ∷ es) a over = ap puts (sym (append_assoc before (e ∷ []) es))
+    ∙ (no_more_puts marks (before ++ e ∷ []) es a.1 (⊎_elim (λ h. inl (any_kept is_seal before (e ∷ []) h)) (λ h. inr (any_kept is_fault before (e ∷ []) h)) over)
+    ∙ (puts_snoc before e ∙ (let no : ◌≡◌ {A = ℕ} (cond (is_put e) 1 0) 0 = none e a.0 in omega arith)))
+  where
+    none : (e : Event) → Allowed marks before e → ◌≡◌ {A = ℕ} (cond (is_put e) 1 0) 0
+    none (Put n) ok = absurd (⊎_elim (λ h. let u = ok.1 in let z : true ≡ false = sym h ∙ u in cc) (λ h. let u = ok.2 in let z : true ≡ false = sym h ∙ u in cc) over)
+    none (Claim w n) ok = refl
+    none (Answer w n v) ok = refl
+    none (Seal x) ok = refl
+
+-- what is drained, and sealed or stopped, stays drained
+pub still_drained : (marks : List Bool) (before es : List Event) → IsLawful marks (before ++ es) → (list_any is_seal before ≡ true) ⊎ (list_any is_fault before ≡ true)
+    → ((n : ℕ) → ¬ IsClaimable marks before n) → (n : ℕ) → ¬ IsClaimable marks (before ++ es) n
+still_drained marks before es a over drained n c = let same = no_more_puts marks before es (lawful_parts marks [] before es a).1 over in let f = c.0 in
+    let free : IsFree marks before n = (f.0, subst (λ k. n ≤ k) same f.1, f.2, not_true (list_any (claims n) before) (λ h. let t = any_kept (claims n) before es h in let u = f.3 in let z : true ≡ false = sym t ∙ u in cc)) in
+    let r = some_claimable marks before n free (λ m bad. c.2 m (any_kept (faults m) before es bad)) in drained r.0 r.1

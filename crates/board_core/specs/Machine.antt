@@ -1,6 +1,6 @@
 -- The board machine: which event may come after a list of events, at a list of jobs, of which each
 -- was put as settled or not (docs/board.md).
-use Rattle.std.specs.Prelude.{◌≡◌, ◌⊎◌, ℕ, ◌+◌, ◌-◌, ◌<◌, ◌≤◌, Bool, true, false, List, [], ◌∷◌, ◌++◌, map, All, slice_get, Some}
+use Rattle.std.specs.Prelude.{◌≡◌, ◌⊎◌, ℕ, ◌+◌, ◌-◌, ◌<◌, ◌≤◌, Bool, true, false, List, [], ◌∷◌, ◌++◌, length, map, All, slice_get, Some}
 use Rattle.std.specs.List.{list_any}
 use Rattle.dk_model.specs.declared.code.Verdict.{Verdict}
 use Rattle.dk_model.specs.declared.code.Verdict.TheVariants.{Accepted, Memory}
@@ -79,6 +79,8 @@ MaySettle due early j = j.1 ≡ true → (early j.0 ≡ true) × (due j.0 ≡ Ac
 -- a legal history of these jobs
 pub record IsLegal {J : Type 0} (due : J → Verdict) (early : J → Bool) (jobs : List (J × Bool)) (es : List Event) : Type 0 where
   pub lawful : IsLawful (marks_of jobs) es
+  -- no job but those that were put
+  pub all_put : puts es ≡ length jobs
   pub verdicts_due : All (IsDue due jobs) es
   pub settled_early : All (MaySettle due early) jobs
 

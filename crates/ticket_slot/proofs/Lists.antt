@@ -1,15 +1,13 @@
 -- Lists, sums over them, and what a history has of one maker.
-use Rattle.std.proofs.Common.{◌≡◌, ◌≢◌, ◌⊎◌, ℕ, zero, suc, ◌+◌, ◌%◌, ◌^◌, ◌≤◌, Bool, true, false, cond, eqb, List, [], ◌∷◌, ◌++◌, length, set, sym, refl, ap, ◌∙◌, ⊎_elim, inl, inr, arith, Some, append_assoc, append-nil, ne_eqb, length-append, leb}
+use Rattle.std.proofs.Common.{◌≡◌, ◌≢◌, ◌⊎◌, ℕ, zero, suc, ◌+◌, ◌%◌, ◌^◌, ◌≤◌, Bool, true, false, cond, eqb, List, [], ◌∷◌, ◌++◌, length, set, sym, refl, ap, ◌∙◌, ⊎_elim, inl, inr, arith, Some, append_assoc, append-nil, ne_eqb}
 use mathlib.Core.Option.{some, some-injective, some-ne-none}
 use native.Mathlib.Decide.{ℕ_discrete}
 use lib.ListN.{get_elem?}
 use Rattle.std.specs.List.{All, count_by}
 use Rattle.std.proofs.lemmas.List.Elements.{filter-append, All-nil, All-cons}
 use Rattle.std.proofs.lemmas.List.Sums.{sum_by-append}
-use Rattle.std.proofs.lemmas.Bool.{leb-true}
-use Rattle.std.proofs.lemmas.List.{nil_from_length}
 use Rattle.std.proofs.Math.Seq.{drop-append_seam}
-use Rattle.ticket_slot.specs.Views.{StartsWith, behind, longer, calls_by}
+use Rattle.ticket_slot.specs.Views.{StartsWith, behind, calls_by}
 use Rattle.ticket_slot.specs.Rule.{total}
 
 pub total_set : {A : Type 0} (f : A → ℕ) (vs : List A) (i : ℕ) (v w : A) → get_elem? vs i ≡ some v → total f (set vs i w) + f v ≡ total f vs + f w
@@ -66,10 +64,6 @@ none_pass p (x ∷ xs) e = let s : count_by p (x ∷ xs) ≡ cond (p x) 1 0 + co
 pub count_cons : {A : Type 0} (p : A → Bool) (x : A) (xs : List A) → count_by p (x ∷ xs) ≡ cond (p x) 1 0 + count_by p xs
 count_cons p x xs = let t = sum_by-append (λ x. cond (p x) 1 0) (x ∷ []) xs in omega (arith, t)
 
-pub longer_ok : {A : Type 0} (log xs ys : List A) (b : Bool) → StartsWith log xs → StartsWith log ys → StartsWith log (cond b ys xs)
-longer_ok log xs ys true p q = q
-longer_ok log xs ys false p q = p
-
 pick : {A B : Type 0} → Dec A → B → B → B
 pick (yes _) x y = x
 pick (no _) x y = y
@@ -107,15 +101,6 @@ whole log es e = ([], sym e ∙ sym (append-nil es))
 
 pub starts_more : {A : Type 0} (log seen more : List A) → StartsWith log seen → StartsWith (log ++ more) seen
 starts_more log seen more t = (t.0 ++ more, ap (λ l. l ++ more) t.1 ∙ append_assoc seen t.0 more)
-
--- the whole list is not shorter than a part of it
-pub longest : {A : Type 0} (log ys : List A) → StartsWith log ys → (xs : List A) → xs ≡ log → longer xs ys ≡ log
-longest log ys p xs e = go (leb (length xs) (length ys)) refl
-  where
-    go : (b : Bool) → leb (length xs) (length ys) ≡ b → cond b ys xs ≡ log
-    go true h = let le = leb-true (length xs) (length ys) h in let a = ap length p.1 ∙ length-append ys p.0 in let x = ap length e in
-        let none : p.0 ≡ [] = nil_from_length p.0 (omega (arith, le, a, x)) in sym (p.1 ∙ (ap (λ r. ys ++ r) none ∙ append-nil ys))
-    go false h = e
 
 pub calls_more : {E : Type 0} (by n : ℕ) (e : E) (log : List (ℕ × E)) → by ≢ n → calls_by by (log ++ (n, e) ∷ []) ≡ calls_by by log
 calls_more {E} by n e log other = filter-append (λ (x : ℕ × E). eqb x.0 by) log ((n, e) ∷ []) ∙ (ap (λ (b : Bool). calls_by by log ++ cond b ((n, e) ∷ []) []) (ne_eqb n by (λ i. other (sym i))) ∙ append-nil (calls_by by log))

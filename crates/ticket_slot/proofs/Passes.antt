@@ -1,5 +1,5 @@
 -- The first state keeps the rule, and so do a split and a join.
-use Rattle.std.proofs.Common.{◌≡◌, ◌≢◌, ℕ, zero, suc, ◌+◌, ◌-◌, ◌^◌, ◌<◌, true, false, cond, eqb, leb, List, [], ◌∷◌, ◌++◌, length, set, sym, refl, ap, ◌∙◌, subst, arith, Option, Some, None, length-set, length-append}
+use Rattle.std.proofs.Common.{◌≡◌, ◌≢◌, ℕ, zero, suc, ◌+◌, ◌-◌, ◌^◌, ◌<◌, true, false, cond, eqb, List, [], ◌∷◌, ◌++◌, length, set, sym, refl, ap, ◌∙◌, subst, arith, Option, Some, None, length-set, length-append}
 use mathlib.Core.Logic.{dite}
 use mathlib.Core.Option as maybe
 use mathlib.Core.Option.{none, some, some-injective, some-ne-none}
@@ -12,7 +12,7 @@ use Rattle.atomic_table.proofs.Lists.{set_here, set_else, at_longer}
 use Rattle.ticket_slot.specs.declared.view.View.{View}
 use Rattle.ticket_slot.specs.Views.{calls_by, reader, child, parent, spent_view, ended_of, joined, has_number, IsReader, EndsIn}
 use Rattle.ticket_slot.specs.Rule.{has_ticket, has_ticket_of, is_live, spent_at, Knows, Sits, Ruled}
-use Rattle.ticket_slot.proofs.Lists.{total_set, total_snoc, inside, longer_ok, longest, count_cons}
+use Rattle.ticket_slot.proofs.Lists.{total_set, total_snoc, inside, count_cons}
 use Rattle.ticket_slot.proofs.Seats.{seats_stay, seats_split, spent_same, spent_snoc, spent_more, live_same}
 use Rattle.ticket_slot.proofs.Rules.{no_ticket, off_turn, owned_same}
 
@@ -147,8 +147,8 @@ module _ {S E J : Type 0} (events : S → List (ℕ × E)) (items : S → List J
             (λ j d _ a. seats_stay (Knows r.served r.waiting r.owner r.log r.list) s.views id u
             record {
               ticket_ok = known.ticket_ok;
-              live_ok = λ _. record { numbered = l.numbered; has_seen = longer_ok r.log v.seen w.seen (leb (length v.seen) (length w.seen)) l.has_seen m.has_seen; has_known = l.has_known; own = l.own };
-              in_turn = λ on. let t = known.in_turn on in (t.0, longest r.log w.seen m.has_seen v.seen t.1, t.2, live);
+              live_ok = λ _. record { numbered = l.numbered; has_seen = l.has_seen; has_known = l.has_known; own = l.own };
+              in_turn = λ on. let t = known.in_turn on in (t.0, t.1, t.2, live);
             }
             (λ j d _ a. r.each j d a) j d a);
         leads = record {

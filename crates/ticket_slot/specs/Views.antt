@@ -1,5 +1,5 @@
 -- What a pass shows, and what each kind of step makes of it (docs/board-lock.md).
-use Rattle.std.specs.Prelude.{◌≡◌, ℕ, ◌+◌, ◌<◌, ◌==◌, Bool, true, false, List, [], ◌∷◌, ◌++◌, length, drop, cond, nat_le, Option, Some, None}
+use Rattle.std.specs.Prelude.{◌≡◌, ℕ, ◌+◌, ◌<◌, ◌==◌, Bool, true, false, List, [], ◌∷◌, ◌++◌, length, drop, Option, Some, None}
 use Rattle.std.specs.List.{filter, count_by}
 use Rattle.atomic_table.specs.Table.{Me}
 use Rattle.ticket_slot.specs.declared.view.View.{View}
@@ -12,10 +12,6 @@ StartsWith {A} xs ys = (rest : List A) × (xs ≡ ys ++ rest)
 -- what stands in ys behind its first elements, as many as xs has
 abbrev pub behind : {A : Type 0} → List A → List A → List A
 behind xs ys = drop (length xs) ys
-
--- the longer of two lists
-abbrev pub longer : {A : Type 0} → List A → List A → List A
-longer xs ys = cond (nat_le (length xs) (length ys)) ys xs
 
 -- the events of one maker, in order
 abbrev pub calls_by : {E : Type 0} → ℕ → List (ℕ × E) → List (ℕ × E)
@@ -46,9 +42,9 @@ module _ {E J : Type 0} where
   abbrev pub ended_of : View E J → Ended E J
   ended_of w = record { number = w.number; seen = w.seen; mine = w.mine; known = w.known }
 
-  -- the reader's pass after a join; its list is the whole list, so it stays
+  -- the reader's pass after a join: what it has seen and knows stays, and it keeps what the other showed
   abbrev pub joined : View E J → View E J → View E J
-  joined v w = record v { seen = longer v.seen w.seen; ended = ended_of w ∷ v.ended }
+  joined v w = record v { ended = ended_of w ∷ v.ended }
 
   -- a pass that drew a ticket
   abbrev pub with_ticket : View E J → ℕ → View E J

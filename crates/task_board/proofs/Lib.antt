@@ -1,0 +1,5 @@
+pub mod Logs
+pub mod Changing
+mod Claiming
+mod Reading
+mod Closing
