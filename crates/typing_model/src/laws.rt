@@ -4,6 +4,7 @@
 
 ghost use Rattle.std.specs.Prelude.{[]};
 ghost use Rattle.dk_model.specs.Trees.{bare, kind};
+ghost use Rattle.typing_model.specs.Captures.{CaptureGivesPart};
 ghost use Rattle.typing_model.specs.Laws.{
   AcceptedHasDerivation,
   CheckedFits,
@@ -28,6 +29,16 @@ pub fn evaluation_reduces()
     ensures comparison { (S : _) → IsNumbered S → ComparisonJoins S }
 {
     // Proved for each signature, number of units and term.
+}
+
+/// A capture means the part that it was made of: below the variables that the pattern binds, and applied to the
+/// arguments of its rule variable, it reduces to that part by beta alone.
+///
+/// An instance of a pattern is defined by its captures (docs/derivations.md); this says that they are the right ones.
+pub fn capture_gives_part()
+    ensures { CaptureGivesPart }
+{
+    // Proved with one step for each argument.
 }
 
 /// A term has the type that inference answers, and fits the type against which checking accepts it.
