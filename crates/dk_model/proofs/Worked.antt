@@ -2,7 +2,7 @@
 use Rattle.std.proofs.Common.{ℕ, zero, suc, ◌≡◌, Some, None, true, [], ◌∷◌, refl}
 use Rattle.dk_model.specs.Trees.{Tree, star, symbol, variable, rule_variable, apply, bare, annotated, product}
 use Rattle.dk_model.specs.Signatures.{no_patterns, more_patterns, rule_variable_pattern, symbol_pattern, symbol_entry, rules_entry, PlainSignature}
-use Rattle.dk_model.specs.Scoping.{PlainLeft, left_symbol, left_rule_variable, left_variable, left_abstraction, left_guard, left_apply, PlainScopedRule, PlainCommand, declare, rule_command}
+use Rattle.dk_model.specs.Scoping.{PlainLeft, left_symbol, left_rule_variable, left_variable, left_abstraction, left_apply, PlainScopedRule, PlainCommand, declare, rule_command}
 use Rattle.dk_model.specs.Evaluation.{whnf_of, comparison_of, normal_of}
 use Rattle.dk_model.specs.Typing.{answer, ended, checked}
 use Rattle.dk_model.specs.Verdicts.{verdict_of, entry_of, body_type}
@@ -159,16 +159,6 @@ first_rule_first = refl
 -- plus is symbol 3: [F] plus (x => F x x) --> F.
 pub argument_twice : verdict_of numbers (rule_command (rule 1 (left_apply (left_symbol 3) (left_abstraction (left_apply (left_apply (left_rule_variable 0) (left_variable 0)) (left_variable 0)))) (rule_variable 0) ∷ [])) 100 ≡ Refused E32
 argument_twice = refl
-
--- [F] plus (x => F) --> F.  [] plus {z} --> z.  [x] plus x x --> x.
-pub abstraction_not_admitted : verdict_of numbers (rule_command (rule 1 (left_apply (left_symbol 3) (left_abstraction (left_rule_variable 0))) (rule_variable 0) ∷ [])) 100 ≡ Refused E32
-abstraction_not_admitted = refl
-
-pub guard_not_admitted : verdict_of numbers (rule_command (rule 0 (left_apply (left_symbol 3) (left_guard (symbol 1))) (symbol 1) ∷ [])) 100 ≡ Refused E32
-guard_not_admitted = refl
-
-pub second_occurrence_not_admitted : verdict_of numbers (rule_command (rule 1 (left_apply (left_apply (left_symbol 3) (left_rule_variable 0)) (left_rule_variable 0)) (rule_variable 0) ∷ [])) 100 ≡ Refused E32
-second_occurrence_not_admitted = refl
 
 -- [x, y] plus x --> y.
 pub variable_missing : verdict_of numbers (rule_command (rule 2 (left_apply (left_symbol 3) (left_rule_variable 0)) (rule_variable 1) ∷ [])) 100 ≡ Refused E33

@@ -1,7 +1,9 @@
 pub mod Rowed
-pub mod Firsts
+pub mod Heads
 pub mod Below
 pub mod Marking
 pub mod Shaping
 pub mod Commands
 pub mod Rows
+pub mod Distinct
+pub mod Variables

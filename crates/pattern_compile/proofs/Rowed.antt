@@ -1,13 +1,12 @@
 -- The patterns below a symbol, as a list.
 use Rattle.std.proofs.Common.{◌≡◌, ◌∙◌, ap, sym, refl, ℕ, List, [], ◌∷◌, map, Bool}
-use Rattle.std.specs.Prelude.{Option}
 use Rattle.dk_model.specs.Signatures.{Pattern, Patterns, more_patterns, symbol_pattern, variable_pattern, pattern_list, pattern, patterns}
 use Rattle.dk_model.specs.Shapes.{erased_pattern, erased_patterns, pattern_variables, patterns_variables}
 use Rattle.dk_model.specs.declared.signature.Pat.{Pat, Row_of-Pat, end_of-Pat, more_of-Pat, items-the_row-Pat}
 use Rattle.dk_model.specs.declared.signature.Pat.TheVariants.{Sym, Var}
 use Rattle.dk_model.specs.declared.signature.Pat.TheBlock.{hidden-the_row-Pat-0, items_hidden-the_row-Pat-0}
-use Rattle.pattern_compile.specs.Admitted.{as_patterns, plain_patterns}
-use Rattle.pattern_compile.specs.Marks.{marked}
+use Rattle.pattern_compile.specs.Patterns.{as_patterns, plain_patterns}
+use Rattle.pattern_compile.specs.Marks.{marked, guards_are_marked, all_guards_are_marked}
 use Rattle.dk_model.specs.declared.term.Term.{Term}
 
 row_items : (n : _) (r : Row_of-Pat Term n) → patterns r ≡ plain_patterns (items-the_row-Pat Term n r)
@@ -46,9 +45,15 @@ erased_variable p k ps qs is e =
 
 -- ---- marks
 
-module _ (ms : List Bool) (o : Option (List Bool)) (p : Pat Term) (k : ℕ) (ps : List (Pat Term)) where
-  pub marked_symbol : p ≡ Sym k ps → marked ms (patterns_variables (plain_patterns ps)) ≡ o → marked ms (pattern_variables (pattern p)) ≡ o
-  marked_symbol is e = ap (λ (q : Pattern). marked ms (pattern_variables q)) (ap pattern is ∙ symbol_is k ps) ∙ e
+module _ (ms : List Bool) (p : Pat Term) (k : ℕ) (ps : List (Pat Term)) where
+  pub marked_symbol : (new : List Bool) → p ≡ Sym k ps → marked ms (patterns_variables (plain_patterns ps)) ≡ new → marked ms (pattern_variables (pattern p)) ≡ new
+  marked_symbol new is e = ap (λ (q : Pattern). marked ms (pattern_variables q)) (ap pattern is ∙ symbol_is k ps) ∙ e
 
-  pub marked_variable : p ≡ Var k ps → marked ms (patterns_variables (plain_patterns ps)) ≡ o → marked ms (pattern_variables (pattern p)) ≡ o
-  marked_variable is e = ap (λ (q : Pattern). marked ms (pattern_variables q)) (ap pattern is ∙ variable_is k ps) ∙ e
+  pub marked_variable : (new : List Bool) → p ≡ Var k ps → marked ms (patterns_variables (plain_patterns ps)) ≡ new → marked ms (pattern_variables (pattern p)) ≡ new
+  marked_variable new is e = ap (λ (q : Pattern). marked ms (pattern_variables q)) (ap pattern is ∙ variable_is k ps) ∙ e
+
+  pub guards_symbol : (b : Bool) → p ≡ Sym k ps → b ≡ all_guards_are_marked ms (plain_patterns ps) → b ≡ guards_are_marked ms (pattern p)
+  guards_symbol b is e = e ∙ ap (guards_are_marked ms) (sym (ap pattern is ∙ symbol_is k ps))
+
+  pub guards_variable : (b : Bool) → p ≡ Var k ps → b ≡ all_guards_are_marked ms (plain_patterns ps) → b ≡ guards_are_marked ms (pattern p)
+  guards_variable b is e = e ∙ ap (guards_are_marked ms) (sym (ap pattern is ∙ variable_is k ps))

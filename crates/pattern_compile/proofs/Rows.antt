@@ -2,7 +2,7 @@
 use Rattle.std.proofs.Common.{◌≡◌, List, [], ◌∷◌, length, refl}
 use Rattle.std.specs.Prelude.{Option, Some, None, Result, Ok, Err}
 use Rattle.dk_model.specs.Trees.{Tree, star, symbol, rule_variable, apply}
-use Rattle.dk_model.specs.Signatures.{no_patterns, rule_variable_pattern, wildcard_pattern, symbol_pattern, variable_pattern, abstraction_pattern, more_patterns, PlainRule, PlainSignature, symbol_entry}
+use Rattle.dk_model.specs.Signatures.{no_patterns, rule_variable_pattern, wildcard_pattern, guard_pattern, symbol_pattern, variable_pattern, abstraction_pattern, more_patterns, PlainRule, PlainSignature, symbol_entry}
 use Rattle.dk_model.specs.Scoping.{PlainLeft, left_symbol, left_rule_variable, left_variable, left_wildcard, left_guard, left_abstraction, left_apply, PlainScopedRule}
 use Rattle.dk_model.specs.Shapes.{pattern_of, shapes_of}
 use Rattle.dk_model.specs.declared.signature.SymSort.TheVariants.{Static, Definable}
@@ -55,6 +55,16 @@ variable_twice = refl
 wildcard_applied : pattern_of 1 (left_apply left_wildcard m) no_patterns ≡ None
 wildcard_applied = refl
 
+guard_applied : pattern_of 1 (left_apply (left_guard (symbol 0)) m) no_patterns ≡ None
+guard_applied = refl
+
+abstraction_applied : pattern_of 1 (left_apply (left_abstraction x) m) no_patterns ≡ None
+abstraction_applied = refl
+
+-- under x => y => : m y x
+variables_applied : pattern_of 1 (left_apply (left_apply m x) (left_variable 1)) no_patterns ≡ Some (rule_variable_pattern 0 (0 ∷ 1 ∷ []))
+variables_applied = refl
+
 -- ---- accepted rules
 
 abbrev sum : Tree
@@ -71,6 +81,18 @@ wildcard = refl
 -- [m : s, n] plus n zero --> n.
 idle_entry : given (rule (Some (symbol 1) ∷ None ∷ []) (plus n zero_left) (rule_variable 1) ∷ []) ≡ Ok (record { head = 2; vars = 2; pats = rule_variable_pattern 1 [] ∷ symbol_pattern 0 no_patterns ∷ []; notes = Some (symbol 1) ∷ None ∷ []; right = rule_variable 1 } ∷ [])
 idle_entry = refl
+
+-- [m] plus (x => m x) zero --> zero.
+abstraction : given (rule one (plus (left_abstraction (left_apply m x)) zero_left) (symbol 0) ∷ []) ≡ Ok (record { head = 2; vars = 1; pats = abstraction_pattern (rule_variable_pattern 0 (0 ∷ [])) ∷ symbol_pattern 0 no_patterns ∷ []; notes = one; right = symbol 0 } ∷ [])
+abstraction = refl
+
+-- [m] plus {zero} m --> m.
+guard : given (rule one (plus (left_guard (symbol 0)) m) (rule_variable 0) ∷ []) ≡ Ok (record { head = 2; vars = 1; pats = guard_pattern (symbol 0) ∷ rule_variable_pattern 0 [] ∷ []; notes = one; right = rule_variable 0 } ∷ [])
+guard = refl
+
+-- [m] plus m m --> m.
+twice : given (rule one (plus m m) (rule_variable 0) ∷ []) ≡ Ok (record { head = 2; vars = 1; pats = rule_variable_pattern 0 [] ∷ rule_variable_pattern 0 [] ∷ []; notes = one; right = rule_variable 0 } ∷ [])
+twice = refl
 
 -- ---- codes
 
@@ -90,21 +112,13 @@ applied_to_a_symbol = refl
 applied_twice : given (rule one (plus (left_abstraction (left_apply (left_apply m x) x)) zero_left) (symbol 0) ∷ []) ≡ Err E32
 applied_twice = refl
 
--- [m] plus (x => m x) zero --> zero.
-abstraction : given (rule one (plus (left_abstraction (left_apply m x)) zero_left) (symbol 0) ∷ []) ≡ Err E32
-abstraction = refl
-
--- [m] plus {zero} m --> m.
-guard : given (rule one (plus (left_guard (symbol 0)) m) (rule_variable 0) ∷ []) ≡ Err E32
-guard = refl
-
--- [m] plus m m --> m.
-twice : given (rule one (plus m m) (rule_variable 0) ∷ []) ≡ Err E32
-twice = refl
-
 -- [m, n] plus m zero --> n.
 missing : given (rule two (plus m zero_left) (rule_variable 1) ∷ []) ≡ Err E33
 missing = refl
+
+-- [m] plus _ {m} --> zero.
+missing_for_a_guard : given (rule one (plus left_wildcard (left_guard (rule_variable 0))) (symbol 0) ∷ []) ≡ Err E33
+missing_for_a_guard = refl
 
 -- [m, n : m] plus n zero --> n.
 missing_for_a_note : given (rule (None ∷ Some (rule_variable 0) ∷ []) (plus n zero_left) (rule_variable 1) ∷ []) ≡ Err E33

@@ -1,3 +1,3 @@
 pub mod Answers
-pub mod Admitted
+pub mod Patterns
 pub mod Marks

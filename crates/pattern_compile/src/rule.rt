@@ -7,7 +7,9 @@ ghost use Rattle.pattern_compile.specs.Answers.{GivesRule, GivesRules, command_s
 
 use crate::mark::{is_covered, variable_marks};
 use crate::pattern::{head, patterns};
-use dk_model::{Code, Entry, Fault, Listed, NoMemory, Rule, ScopedRule, Signature, SymSort, Term};
+use dk_model::{
+    Code, Entry, Fault, Left, Listed, NoMemory, Rule, ScopedRule, Signature, SymSort, Term,
+};
 use std::alloc::Global;
 
 /// Copies of the annotations of a context.
@@ -26,24 +28,21 @@ fn copied(alloc: Global, notes: &[Option<Term>]) -> Result<Listed<Option<Term>>,
 }
 
 /// The rule that a scoped rule stands for, or the first of these codes: E31 where its head isn't a
-/// symbol, E32 where an argument isn't an admitted pattern, E33 where a rule variable is missing in
+/// symbol, E32 where an argument isn't a pattern, E33 where a rule variable is missing in
 /// the patterns. The head may be any symbol. The rule keeps all annotations, in memory of its own.
 pub fn shape(alloc: Global, rule: &ScopedRule) -> Result<Rule, Fault>
     ensures { GivesRule (shape_of (plain_scoped_rule rule.now)) result }
 {
     let head = match head(&rule.left) {
-        Some(head) => head,
-        None => return Err(Fault::Refused(Code::E31)),
+        Left::Sym(symbol) => *symbol,
+        _ => return Err(Fault::Refused(Code::E31)),
     };
     let pats = match patterns(alloc, rule.vars, &rule.left)? {
         Some(pats) => pats,
         None => return Err(Fault::Refused(Code::E32)),
     };
-    let marks = match variable_marks(alloc, rule.vars, pats.as_slice())? {
-        Some(marks) => marks,
-        None => return Err(Fault::Refused(Code::E32)),
-    };
-    if !is_covered(marks.as_slice(), rule) {
+    let marks = variable_marks(alloc, rule.vars, pats.as_slice())?;
+    if !is_covered(marks.as_slice(), rule, pats.as_slice()) {
         return Err(Fault::Refused(Code::E33));
     }
     Ok(Rule {

@@ -41,6 +41,11 @@ enum Part {
     Guard(u32),
     Abstraction(u32),
     Applied(u32),
+    Under(u32),
+    UnderTwice(u32),
+    WildcardApplied(u32),
+    GuardApplied(u32),
+    AbstractionApplied(u32),
 }
 
 fn left(alloc: Global, part: Part) -> Result<Left, NoMemory> {
@@ -52,6 +57,23 @@ fn left(alloc: Global, part: Part) -> Result<Left, NoMemory> {
         Part::Guard(variable) => Ok(Left::Guard(Term::Rvar(variable))),
         Part::Abstraction(variable) => Ok(Left::Abs(Box::new(alloc, Left::Rvar(variable))?)),
         Part::Applied(variable) => applied(alloc, Left::Rvar(variable), Left::Sym(ZERO)),
+        Part::Under(variable) => {
+            let body = applied(alloc, Left::Rvar(variable), Left::Var(0))?;
+            Ok(Left::Abs(Box::new(alloc, body)?))
+        }
+        Part::UnderTwice(variable) => {
+            let once = applied(alloc, Left::Rvar(variable), Left::Var(0))?;
+            let twice = applied(alloc, once, Left::Var(0))?;
+            Ok(Left::Abs(Box::new(alloc, twice)?))
+        }
+        Part::WildcardApplied(variable) => applied(alloc, Left::Any, Left::Rvar(variable)),
+        Part::GuardApplied(variable) => {
+            applied(alloc, Left::Guard(Term::Sym(ZERO)), Left::Rvar(variable))
+        }
+        Part::AbstractionApplied(variable) => {
+            let identity = Left::Abs(Box::new(alloc, Left::Var(0))?);
+            applied(alloc, identity, Left::Rvar(variable))
+        }
     }
 }
 
@@ -85,7 +107,10 @@ fn code_of(shapes: Result<Listed<Rule>, Fault>) -> Result<Option<Code>, NoMemory
 
 #[test]
 fn refuses_rules_of_another_shape(rt: HostRuntime) -> Result<(), Fail> {
-    use Part::{Abstraction, Applied, Guard, Successor, Symbol, Variable, Wildcard};
+    use Part::{
+        Abstraction, AbstractionApplied, Applied, Guard, GuardApplied, Successor, Symbol, Under,
+        UnderTwice, Variable, Wildcard, WildcardApplied,
+    };
     let alloc = rt.alloc();
     let signature = signature(alloc)?;
     for (row, parts, right, code) in [
@@ -123,29 +148,65 @@ fn refuses_rules_of_another_shape(rt: HostRuntime) -> Result<(), Fail> {
             "plus m m --> m",
             (Symbol(PLUS), Variable(0), Variable(0)),
             0,
-            Some(Code::E32),
+            None,
         ),
         (
             "plus (s m) m --> m",
             (Symbol(PLUS), Successor(0), Variable(0)),
             0,
-            Some(Code::E32),
+            None,
         ),
         (
             "plus (x => m) n --> m",
             (Symbol(PLUS), Abstraction(0), Variable(1)),
             0,
-            Some(Code::E32),
+            None,
+        ),
+        (
+            "plus (x => m x) n --> m",
+            (Symbol(PLUS), Under(0), Variable(1)),
+            0,
+            None,
+        ),
+        (
+            "plus {m} m --> m",
+            (Symbol(PLUS), Guard(0), Variable(0)),
+            0,
+            None,
         ),
         (
             "plus {m} n --> n",
             (Symbol(PLUS), Guard(0), Variable(1)),
             1,
-            Some(Code::E32),
+            Some(Code::E33),
         ),
         (
             "plus (m zero) n --> m",
             (Symbol(PLUS), Applied(0), Variable(1)),
+            0,
+            Some(Code::E32),
+        ),
+        (
+            "plus (x => m x x) n --> m",
+            (Symbol(PLUS), UnderTwice(0), Variable(1)),
+            0,
+            Some(Code::E32),
+        ),
+        (
+            "plus (_ m) n --> m",
+            (Symbol(PLUS), WildcardApplied(0), Variable(1)),
+            0,
+            Some(Code::E32),
+        ),
+        (
+            "plus ({zero} m) n --> m",
+            (Symbol(PLUS), GuardApplied(0), Variable(1)),
+            0,
+            Some(Code::E32),
+        ),
+        (
+            "plus ((x => x) m) n --> m",
+            (Symbol(PLUS), AbstractionApplied(0), Variable(1)),
             0,
             Some(Code::E32),
         ),
@@ -189,11 +250,7 @@ fn names_the_first_code_of_the_first_rule(rt: HostRuntime) -> Result<(), Fail> {
     let signature = signature(alloc)?;
     let good = (Part::Symbol(PLUS), Part::Variable(0), Part::Variable(1));
     let no_head = (Part::Wildcard, Part::Variable(0), Part::Variable(1));
-    let repeated = (
-        Part::Symbol(SUCCESSOR),
-        Part::Variable(0),
-        Part::Variable(0),
-    );
+    let no_pattern = (Part::Symbol(SUCCESSOR), Part::Applied(0), Part::Variable(0));
     let undefinable = (Part::Symbol(SUCCESSOR), Part::Variable(0), Part::Wildcard);
     for (row, first, second, right, code) in [
         ("good, good", good, good, 0, None),
@@ -213,8 +270,8 @@ fn names_the_first_code_of_the_first_rule(rt: HostRuntime) -> Result<(), Fail> {
             Some(Code::E33),
         ),
         (
-            "repeated, undefinable and uncovered, no head",
-            repeated,
+            "no pattern, undefinable and uncovered, no head",
+            no_pattern,
             no_head,
             1,
             Some(Code::E32),
@@ -226,6 +283,57 @@ fn names_the_first_code_of_the_first_rule(rt: HostRuntime) -> Result<(), Fail> {
         let found = code_of(shape_all(alloc, &signature, &rules))?;
         assert_eq!(rt; found, code, "at {row}");
     }
+    Ok(())
+}
+
+/// `plus (x => y => m y x) {zero}`.
+fn under_binders(alloc: Global) -> Result<Left, NoMemory> {
+    let first = applied(alloc, Left::Rvar(0), Left::Var(0))?;
+    let second = applied(alloc, first, Left::Var(1))?;
+    let inner = Left::Abs(Box::new(alloc, second)?);
+    let outer = Left::Abs(Box::new(alloc, inner)?);
+    let function = applied(alloc, Left::Sym(PLUS), outer)?;
+    applied(alloc, function, Left::Guard(Term::Sym(ZERO)))
+}
+
+/// Whether this is `x => y => m y x`.
+fn is_swapped(pattern: &Pat) -> bool {
+    match pattern {
+        Pat::Abs(inner) => match inner.as_ref() {
+            Pat::Abs(body) => match body.as_ref() {
+                Pat::Rvar(variable, arguments) => match arguments.as_slice() {
+                    [first, second] => *variable == 0 && *first == 0 && *second == 1,
+                    _ => false,
+                },
+                _ => false,
+            },
+            _ => false,
+        },
+        _ => false,
+    }
+}
+
+#[test]
+fn gives_patterns_under_binders(rt: HostRuntime) -> Result<(), Fail> {
+    let alloc = rt.alloc();
+    let mut notes = Listed::new(alloc);
+    notes.push(None)?;
+    let scoped = ScopedRule {
+        vars: 1,
+        notes,
+        left: under_binders(alloc)?,
+        right: Term::Rvar(0),
+    };
+    let given = match shape(alloc, &scoped) {
+        Ok(rule) => match rule.pats.as_slice() {
+            [swapped, Pat::Guard(term)] => {
+                is_swapped(swapped) && term.equal(&Term::Sym(ZERO)) && rule.head == PLUS
+            }
+            _ => false,
+        },
+        Err(_) => false,
+    };
+    assert!(rt; given);
     Ok(())
 }
 

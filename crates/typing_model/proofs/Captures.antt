@@ -6,7 +6,7 @@ use Rattle.dk_model.specs.Trees.{Tree, variable, apply, bare}
 use Rattle.dk_model.specs.Signatures.{PlainSignature}
 use Rattle.dk_model.specs.Substitution.{shift, substitute}
 use Rattle.dk_model.specs.Spines.{applied}
-use Rattle.dk_model.specs.Selection.{strays, renamed, abstracted, captured}
+use Rattle.dk_model.specs.Captures.{mentions_others, renamed, abstracted, captured}
 use Rattle.typing_model.specs.Steps.{Step, Steps, beta, in_function, no_step, one_step}
 use Rattle.typing_model.proofs.Rebound.{opened, opened_none, opened_all, put_argument}
 
@@ -27,10 +27,10 @@ module _ (S : PlainSignature) (h : ℕ) where
 
   module _ (d : ℕ) (t : Tree) where
     -- the variables before are put in already, the rest is left
-    given : (before rest : List ℕ) → strays 0 d (before ++ rest) t ≡ false
+    given : (before rest : List ℕ) → mentions_others 0 d (before ++ rest) t ≡ false
         → Steps S h (applied (abstracted rest (opened 0 d before rest t)) (map variable rest)) t
     given before [] s =
-        let q : opened 0 d before [] t ≡ t = opened_all 0 d before t (along (λ xs. strays 0 d xs t ≡ false) (append-nil before) s) in
+        let q : opened 0 d before [] t ≡ t = opened_all 0 d before t (along (λ xs. mentions_others 0 d xs t ≡ false) (append-nil before) s) in
         along (λ u. Steps S h u t) (flip q) no_step
     given before (x ∷ rest) s =
         let put : substitute 0 (variable x) (abstracted rest (opened 0 d before (x ∷ rest) t)) ≡ abstracted rest (opened 0 d (before ++ (x ∷ [])) rest t) =
@@ -38,9 +38,9 @@ module _ (S : PlainSignature) (h : ℕ) where
         ∙ ap (abstracted rest) (put_argument 0 d before rest x (0 + length rest) t refl s) in
         one_step (step_applied (map variable rest) (apply (bare (abstracted rest (opened 0 d before (x ∷ rest) t))) (variable x)) (substitute 0 (variable x) (abstracted rest (opened 0 d before (x ∷ rest) t))) beta)
         (along (λ u. Steps S h (applied u (map variable rest)) t) (flip put)
-        (given (before ++ (x ∷ [])) rest (along (λ xs. strays 0 d xs t ≡ false) (flip (append_assoc before (x ∷ []) rest)) s)))
+        (given (before ++ (x ∷ [])) rest (along (λ xs. mentions_others 0 d xs t ≡ false) (flip (append_assoc before (x ∷ []) rest)) s)))
 
-    pub capture_gives_part : (xs : List ℕ) → strays 0 d xs t ≡ false → Steps S h (applied (shift 0 d (captured d xs t)) (map variable xs)) t
+    pub capture_gives_part : (xs : List ℕ) → mentions_others 0 d xs t ≡ false → Steps S h (applied (shift 0 d (captured d xs t)) (map variable xs)) t
     capture_gives_part xs s =
         let below : shift 0 d (captured d xs t) ≡ abstracted xs (opened 0 d [] xs t) =
         shift_abstracted xs 0 d (renamed 0 d xs t) ∙ ap (abstracted xs) (opened_none 0 d (0 + length xs) xs t refl s) in

@@ -3,7 +3,7 @@ use Rattle.std.specs.Prelude.{ℕ, ◌≡◌, false, List, [], map}
 use Rattle.dk_model.specs.Trees.{Tree, variable}
 use Rattle.dk_model.specs.Substitution.{shift}
 use Rattle.dk_model.specs.Spines.{applied}
-use Rattle.dk_model.specs.Selection.{strays, captured}
+use Rattle.dk_model.specs.Captures.{mentions_others, captured}
 use Rattle.typing_model.specs.Steps.{Steps}
 
 -- t reduces to u by beta alone: no signature has a rule
@@ -12,4 +12,4 @@ ReducesByBeta t u = Steps [] 0 t u
 
 -- a capture, shifted below the `depth` variables that the pattern binds and applied to the variables xs, gives the part
 abbrev pub CaptureGivesPart : Type 0
-CaptureGivesPart = (depth : ℕ) (xs : List ℕ) (t : Tree) → strays 0 depth xs t ≡ false → ReducesByBeta (applied (shift 0 depth (captured depth xs t)) (map variable xs)) t
+CaptureGivesPart = (depth : ℕ) (xs : List ℕ) (t : Tree) → mentions_others 0 depth xs t ≡ false → ReducesByBeta (applied (shift 0 depth (captured depth xs t)) (map variable xs)) t

@@ -1,6 +1,6 @@
 use Rattle.std.proofs.Common.{◌≡◌, drop}
 use Rattle.dk_model.specs.Shapes.{patterns_variables}
-use Rattle.pattern_compile.specs.Admitted.{plain_patterns}
+use Rattle.pattern_compile.specs.Patterns.{plain_patterns}
 use Rattle.pattern_compile.specs.Marks.{marked}
 use Rattle.pattern_compile.proofs.mark.+marking.Given as goal
 
