@@ -6,7 +6,7 @@ use crate::{Code, NoMemory};
 pub enum Stop {
     /// It needs more units than were left.
     Ended,
-    /// A growth was refused, or too many selections would have to wait. It says nothing of the term.
+    /// A growth was refused. It says nothing of the term.
     NoMemory,
 }
 

@@ -110,7 +110,7 @@ fn take_turn<'a>(
         Term::Var(k) => Ok(Turn::Stands(Term::Var(k))),
         Term::Rvar(k) => Ok(Turn::Stands(Term::Rvar(k))),
         Term::Prod(domain, codomain) => Ok(Turn::Stands(Term::Prod(domain, codomain))),
-        Term::App(..) => Err(Stop::NoMemory),
+        Term::App(..) => unreachable!(),
     }
 }
 

@@ -8,7 +8,7 @@ use dk_model::NoMemory;
 pub enum Stop {
     /// It needs more units than were left.
     Ended,
-    /// A growth was refused, or too many selections would have to wait. It says nothing of the term.
+    /// A growth was refused. It says nothing of the term.
     NoMemory,
 }
 

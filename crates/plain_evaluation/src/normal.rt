@@ -111,6 +111,6 @@ fn normal_head<'a>(
         Term::Sym(k) => Ok(Term::Sym(k)),
         Term::Var(k) => Ok(Term::Var(k)),
         Term::Rvar(k) => Ok(Term::Rvar(k)),
-        Term::App(..) => Err(Stop::NoMemory),
+        Term::App(..) => unreachable!(),
     }
 }

@@ -1,5 +1,5 @@
 //! What waits for the value of a column, and how it goes on once the value is there.
-ghost use Rattle.std.specs.Prelude.{◌≡◌, ◌≤◌, ◌∷◌, ◌++◌, [], OnOk, vec_len};
+ghost use Rattle.std.specs.Prelude.{◌≡◌, ◌≤◌, ◌∷◌, ◌++◌, [], OnOk};
 ghost use Rattle.plain_evaluation.specs.Rules.{AreRules};
 ghost use Rattle.plain_evaluation.specs.Clauses.{Resumes};
 
@@ -9,10 +9,6 @@ use crate::gap::{Gap, closed};
 use crate::machine::{unwind, wind};
 use dk_model::{NoMemory, Rule, Signature, Term};
 use std::alloc::Global;
-
-/// How many selections of one evaluation may wait at once. A theory can nest them as deep as its units last, and each
-/// takes several hundred bytes: so many take a few gigabytes.
-const MOST_PAUSES: usize = 4_194_304;
 
 /// A selection that waits for the value of a column.
 #[derive(Drop)]
@@ -35,9 +31,6 @@ pub enum Next {
 pub fn push_pause<'a>(pauses: &mut Vec<Pause<'a>>, pause: Pause<'a>) -> Result<(), NoMemory>
     ensures { OnOk result (pauses.new.items ≡ pauses.old.items ++ pause.entry ∷ []) }
 {
-    if pauses.len() >= MOST_PAUSES {
-        return Err(NoMemory);
-    }
     pauses.push(pause)?;
     Ok(())
 }
