@@ -5,7 +5,9 @@ use Rattle.dk_model.specs.Signatures.{Pattern, Patterns, no_patterns, more_patte
 use Rattle.dk_model.specs.Scoping.{PlainScopedRule, PlainCommand, declare}
 use Rattle.dk_model.specs.Shapes.{shape_of}
 use Rattle.dk_model.specs.RuleTyping.{rule_checked}
-use Rattle.dk_model.specs.Evaluation.{whnf_of, comparison_of, normal_of}
+use Rattle.dk_model.specs.Spines.{head_symbol}
+use Rattle.dk_model.specs.Selection.{Selected}
+use Rattle.dk_model.specs.Evaluation.{whnf_of, comparison_of, normal_of, selection_of, columns, rows, rewritten}
 use Rattle.dk_model.specs.Typing.{answer, inferred, checked}
 use Rattle.dk_model.specs.Verdicts.{verdict_of, inferred_type, entry_of}
 use Rattle.dk_model.specs.declared.code.Verdict.TheVariants.{Accepted}
@@ -69,6 +71,12 @@ WhnfReduces S = (n m : ℕ) (t u : Tree) → whnf_of S n t ≡ Some (u, m) → R
 -- a term reduces to its normal form
 abbrev pub NormalReduces : PlainSignature → Type 0
 NormalReduces S = (n m : ℕ) (t u : Tree) → normal_of S n t ≡ Some (u, m) → ReducesTo S t u
+
+-- where a selection takes a rule of the head symbol, the term reduces to the rule's right side under the captures, applied to
+-- the arguments that its patterns left over
+abbrev pub SelectionReduces : PlainSignature → Type 0
+SelectionReduces S = (n m k : ℕ) (t : Tree) (taken : Selected) → head_symbol t ≡ Some k
+    → selection_of S n (columns S k t) (rows S k t) ≡ Some (Some taken, m) → ReducesTo S t (rewritten t taken)
 
 -- terms that the comparison finds alike are joinable
 abbrev pub ComparisonJoins : PlainSignature → Type 0

@@ -16,17 +16,21 @@ ghost use Rattle.typing_model.specs.Laws.{
   InferredHasType,
   IsNumbered,
   NormalReduces,
+  SelectionReduces,
   TypedRuleHasDerivation,
   WhnfReduces,
 };
 
 /// A term reduces to what evaluation answers, and terms that the comparison finds alike are joinable.
 ///
-/// Rules need not be confluent nor terminate: where the units suffice, the answer is a reduct.
+/// Where a selection takes a rule, the term reduces to its right side under the captures. The rules are of any form, with
+/// conditions of repeated rule variables and guards. They need not be confluent nor terminate: where the units suffice,
+/// the answer is a reduct.
 pub fn evaluation_reduces()
     ensures weak_head_form { (S : _) → IsNumbered S → WhnfReduces S }
     ensures normal_form { (S : _) → IsNumbered S → NormalReduces S }
     ensures comparison { (S : _) → IsNumbered S → ComparisonJoins S }
+    ensures selection { (S : _) → IsNumbered S → SelectionReduces S }
 {
     // Proved for each signature, number of units and term.
 }
