@@ -1,5 +1,5 @@
 //! The list that public types hold: a `Vec` that contracts see as the list of its elements.
-ghost use Rattle.std.specs.Prelude.{◌≡◌, [], ◌∷◌, ◌++◌, ◌<◌, length, slice_get, ◌↔◌, IsTrue, IfOk, OnOk, OnErr, OnSome};
+ghost use Rattle.std.specs.Prelude.{◌≡◌, [], ◌∷◌, ◌++◌, ◌<◌, length, slice_get, ◌↔◌, IsTrue, IfOk, OnOk, OnErr, IfSome, OnSome};
 ghost use Rattle.std.specs.Option.{option_copied};
 
 use crate::NoMemory;
@@ -89,6 +89,14 @@ impl<T: Drop> Listed<T> {
     {
         self.items.push(item)?;
         Ok(())
+    }
+
+    /// Takes the last element out.
+    pub fn pop(&mut self) -> Option<T>
+        ensures some { IfSome result (λ item. self.old ≡ self.new ++ item ∷ []) }
+        ensures none { result ≡ None → self.old ≡ [] }
+    {
+        self.items.pop()
     }
 }
 

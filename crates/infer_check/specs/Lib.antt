@@ -1,0 +1,4 @@
+pub mod Contexts
+pub mod Given
+pub mod Spine
+pub mod Clauses

@@ -1,0 +1,114 @@
+//! What typing asks of a type: that its weak head form is a product or a sort, or that it is convertible with another.
+ghost use Rattle.std.specs.Prelude.{◌≡◌, ℕ};
+ghost use Rattle.dk_model.specs.Signatures.{PlainSignature};
+ghost use Rattle.dk_model.specs.Typing.{as_product, as_sort, as_star, as_same, not_kind};
+ghost use Rattle.signature_log.specs.Versions.{entries_of};
+ghost use Rattle.signature_log.specs.Reducers.{Keeps};
+ghost use Rattle.infer_check.specs.Given.{GivesProduct, GivesType, GivesFit};
+
+use crate::product::Product;
+use dk_model::{Code, NodeOf, TypeFault};
+use signature_log::{Reducer, Version};
+
+/// The parts of a type that must be a product; else this code.
+#[tactic(auto)]
+pub fn as_product<R: Reducer>(
+    r: &mut R,
+    v: &Version,
+    code: Code,
+    typ: &R::T,
+    left: &mut u64,
+) -> Result<Product<R::T>, TypeFault>
+    requires own { R.owns r.old typ.now }
+    requires serves { R.serves (entries_of v.now) r.old }
+    ensures gives { GivesProduct R.owns R.denotes
+        (as_product (entries_of v.now) code (R.denotes r.old typ.now) left.old) r.new result left.new }
+    ensures keeps { Keeps R.owns R.denotes r.old r.new }
+    ensures serves { R.serves (entries_of v.now) r.new }
+{
+    let found = r.whnf(v, typ, left)?;
+    match r.open(found)? {
+        NodeOf::Prod(domain, codomain) => Ok(Product { domain, codomain }),
+        _ => Err(TypeFault::Refused(code)),
+    }
+}
+
+/// The type of a type, which must be a sort.
+pub fn as_sort<R: Reducer>(
+    r: &mut R,
+    v: &Version,
+    typ: &R::T,
+    left: &mut u64,
+) -> Result<R::T, TypeFault>
+    requires own { R.owns r.old typ.now }
+    requires serves { R.serves (entries_of v.now) r.old }
+    ensures gives { GivesType R.owns R.denotes
+        (as_sort (entries_of v.now) (R.denotes r.old typ.now) left.old) r.new result left.new }
+    ensures keeps { Keeps R.owns R.denotes r.old r.new }
+    ensures serves { R.serves (entries_of v.now) r.new }
+{
+    let found = r.whnf(v, typ, left)?;
+    match r.open(found)? {
+        NodeOf::Star => Ok(r.build(NodeOf::Star)?),
+        NodeOf::Kind => Ok(r.build(NodeOf::Kind)?),
+        _ => Err(TypeFault::Refused(Code::E22)),
+    }
+}
+
+/// The type of a domain, which must be `Type`.
+pub fn as_star<R: Reducer>(
+    r: &mut R,
+    v: &Version,
+    typ: &R::T,
+    left: &mut u64,
+) -> Result<(), TypeFault>
+    requires own { R.owns r.old typ.now }
+    requires serves { R.serves (entries_of v.now) r.old }
+    ensures gives { GivesFit
+        (as_star (entries_of v.now) (R.denotes r.old typ.now) left.old) result left.new }
+    ensures keeps { Keeps R.owns R.denotes r.old r.new }
+    ensures serves { R.serves (entries_of v.now) r.new }
+{
+    let found = r.whnf(v, typ, left)?;
+    match r.open(found)? {
+        NodeOf::Star => Ok(()),
+        _ => Err(TypeFault::Refused(Code::E22)),
+    }
+}
+
+/// A type that must be convertible with another.
+pub fn as_same<R: Reducer>(
+    r: &mut R,
+    v: &Version,
+    found: &R::T,
+    expected: &R::T,
+    left: &mut u64,
+) -> Result<(), TypeFault>
+    requires own { R.owns r.old found.now }
+    requires other { R.owns r.old expected.now }
+    requires serves { R.serves (entries_of v.now) r.old }
+    ensures gives { GivesFit (as_same (entries_of v.now)
+        (R.denotes r.old found.now) (R.denotes r.old expected.now) left.old) result left.new }
+    ensures keeps { Keeps R.owns R.denotes r.old r.new }
+    ensures serves { R.serves (entries_of v.now) r.new }
+{
+    if r.same(v, found, expected, left)? {
+        Ok(())
+    } else {
+        Err(TypeFault::Refused(Code::E21))
+    }
+}
+
+/// The type of a body, which must not be `Kind`. Takes no unit.
+pub fn not_kind<R: Reducer>(r: &mut R, typ: R::T) -> Result<R::T, TypeFault>
+    requires { R.owns r.old typ }
+    ensures gives { (left : ℕ) → GivesType R.owns R.denotes
+        (not_kind (R.denotes r.old typ) left) r.new result left }
+    ensures keeps { Keeps R.owns R.denotes r.old r.new }
+    ensures serves { (S : PlainSignature) → R.serves S r.old → R.serves S r.new }
+{
+    match r.open(typ)? {
+        NodeOf::Kind => Err(TypeFault::Refused(Code::E25)),
+        other => Ok(r.build(other)?),
+    }
+}

@@ -1,0 +1,16 @@
+//! Inference and checking, once, over whatever stands for terms.
+//!
+//! The meanings are `inferred` and `checked` of dk_model (docs/typing.md). Begin at `infer` and `check`.
+#![tactic(auto)]
+
+mod checking;
+mod context;
+mod expect;
+mod inference;
+mod product;
+mod spine;
+mod variables;
+
+pub use checking::check;
+pub use context::Context;
+pub use inference::{infer, sort_of};
