@@ -1,15 +1,14 @@
 -- How the reader stands after a byte, and how a file ends.
 use Rattle.std.proofs.Common.{◌≡◌, ◌≢◌, inl, inr, ℕ, ◌+◌, List, [], ◌∷◌, ◌++◌, length, refl, sym, ap, subst, ◌∙◌}
 use Rattle.std.proofs.lemmas.List.{append_assoc, append-nil}
-use Rattle.std.specs.Prelude.{Option, Some, None, unwrap_or}
+use Rattle.std.specs.Prelude.{Option, Some, None}
 use Rattle.dk_model.specs.declared.code.Code.{Code}
 use Rattle.dk_model.specs.declared.code.Code.TheVariants.{E03}
-use Rattle.dk_model.specs.declared.code.Verdict.{Verdict}
 use Rattle.dk_model.specs.declared.code.Verdict.TheVariants as verdict
 use Rattle.dk_model.specs.declared.limits.Limits.{Limits}
 use Rattle.dk_lexer.specs.declared.token.Token.{Token}
 use Rattle.dk_lexer.specs.declared.lexer.Lexer.{Lexer}
-use Rattle.dk_lexer.specs.Tokens.{Ending, Lexed, broken, tokens, whole}
+use Rattle.dk_lexer.specs.Tokens.{Lexed, broken, tokens, whole}
 use Rattle.dk_lexer.specs.Steps.{lexer_after}
 use Rattle.dk_lexer.specs.Given.{IsFrontOf, Stays, begun_line}
 use Rattle.dk_parser.specs.Reading.{TokenReading, read, read_tokens, reading_of, tail_by_bytes, tail_by_ending, tail_by_tokens}
@@ -17,23 +16,23 @@ use Rattle.dk_parser.specs.Reading as reading
 use Rattle.verdict_book.specs.declared.outcome.Outcome.{Outcome}
 use Rattle.verdict_book.specs.declared.outcome.Outcome.TheVariants.{Accepted, Stopped, Unread}
 use Rattle.dk_check_run.specs.declared.reader.Reader.{Reader}
-use Rattle.dk_check_run.specs.Outcomes.{FileReport, no_theory, report_from, report_of_bytes, report_of_reading, tail_outcome, with_names}
-use Rattle.dk_check_run.specs.Theories.{Checked, checked_of}
-use Rattle.dk_check_run.specs.Progress.{BytesSettle, EndsWith, GoesOnAfter, GoesOnBehind, GoesOnBehindAll, LeadsTo, LexedSettles, MemoryAt, MemoryIn, StandsAt, StandsAtLexed, StopsAtBytes, StopsAtLexed, due_line, ended_outcome, stands_at, stands_at_lexed}
+use Rattle.dk_check_run.specs.Outcomes.{FileReport, no_theory, report_from, report_of_bytes, tail_outcome, with_names}
+use Rattle.dk_check_run.specs.Theories.{checked_of}
+use Rattle.dk_check_run.specs.Progress.{BytesSettle, EndsWith, GoesOnAfter, GoesOnBehind, GoesOnBehindAll, LexedSettles, MemoryAt, MemoryIn, StandsAt, StandsAtLexed, StopsAtBytes, StopsAtLexed, due_line, ended_outcome, stands_at, stands_at_lexed}
 use Rattle.dk_lexer.proofs.Agree.{tokens_front}
 use Rattle.dk_check_run.proofs.Steps.{leads_end}
 
 bytes_settle : (limits : Limits) (budget : ℕ) (given : List ℕ) (report : FileReport) → LexedSettles limits budget (tokens limits given broken) report → BytesSettle limits budget given report
 bytes_settle limits budget given report settles more ending = settles (tokens limits (given ++ more) ending) ending (tokens_front limits given more ending)
 
-memory_here : (limits : Limits) (budget : ℕ) (bytes : List ℕ) (ending : Ending) (names : List (List ℕ)) (number line : ℕ) → MemoryAt limits budget bytes ending names number line → MemoryIn limits budget bytes names number line
-memory_here limits budget bytes ending names number line memory = record { given = bytes; rest = []; bytes_are = sym (append-nil bytes); ending = ending; memory = memory }
+memory_here : (limits : Limits) (budget : ℕ) (bytes : List ℕ) (names : List (List ℕ)) (number line : ℕ) → MemoryAt limits budget bytes broken names number line → MemoryIn limits budget bytes names number line
+memory_here limits budget bytes names number line memory = record { given = bytes; rest = []; bytes_are = sym (append-nil bytes); memory = memory }
 
 stops_at_bytes : (limits : Limits) (budget : ℕ) (given : List ℕ) (names : List (List ℕ)) (o : Outcome) → StopsAtLexed limits budget given broken names o → StopsAtBytes limits budget given names o
 stops_at_bytes limits budget given names (Accepted n) stops = stops
 stops_at_bytes limits budget given names (Unread n) stops = stops
 stops_at_bytes limits budget given names (Stopped n line verdict.Accepted) stops = stops
-stops_at_bytes limits budget given names (Stopped n line verdict.Memory) stops = memory_here limits budget given broken names n line stops
+stops_at_bytes limits budget given names (Stopped n line verdict.Memory) stops = memory_here limits budget given names n line stops
 stops_at_bytes limits budget given names (Stopped n line (verdict.Refused code)) stops = bytes_settle limits budget given _ stops
 stops_at_bytes limits budget given names (Stopped n line verdict.Ended) stops = bytes_settle limits budget given _ stops
 
@@ -53,7 +52,6 @@ memory_more limits budget bytes b names number line m = record {
   given = m.given;
   rest = m.rest ++ b ∷ [];
   bytes_are = ap (λ bs. bs ++ b ∷ []) m.bytes_are ∙ append_assoc m.given m.rest (b ∷ []);
-  ending = m.ending;
   memory = m.memory;
 }
 
@@ -89,46 +87,42 @@ behind_lexer l goes = record {
 
 -- memory ended in the lexer
 pub memory_stands : (limits : Limits) (budget : ℕ) (given : List ℕ) (b line : ℕ) (old new : Reader) → GoesOnAfter limits budget given old
-    → line ≡ due_line limits (tokens limits given broken).tokens [] (begun_line limits given)
+    → line ≡ due_line limits (tokens limits given broken).tokens (begun_line limits given)
     → new.theory ≡ old.theory → new.stop ≡ Some (Stopped (length (checked_of old.theory).shown + 1) line verdict.Memory) → StandsAt limits budget (given ++ b ∷ []) new
 memory_stands limits budget given b line old new goes line_is theory stop =
     subst (λ (o : Option Outcome). stands_at limits budget (given ++ b ∷ []) new o) (sym stop) (record {
       given = given;
       rest = b ∷ [];
       bytes_are = refl;
-      ending = broken;
       memory = record {
-        taken = (tokens limits given broken).tokens;
-        coming = [];
-        tokens_are = sym (append-nil (tokens limits given broken).tokens);
         done = (read_tokens limits (tokens limits given broken).tokens).commands;
+        later = [];
+        commands_are = sym (append-nil (read_tokens limits (tokens limits given broken).tokens).commands);
         theory = checked_of old.theory;
         leads = goes.behind.leads;
         names_are = ap (λ t. (checked_of t).shown) theory;
         number_is = ap (λ t. length (checked_of t).shown + 1) (sym theory);
-        line_is = inr (refl, line_is);
+        line_is = line_is;
       };
     })
 
 -- memory ends at the next byte
 pub memory_behind : (limits : Limits) (budget : ℕ) (given rest : List ℕ) (line number : ℕ) (r : Reader) → GoesOnAfter limits budget given r
-    → line ≡ due_line limits (tokens limits given broken).tokens [] (begun_line limits given)
+    → line ≡ due_line limits (tokens limits given broken).tokens (begun_line limits given)
     → number ≡ length (checked_of r.theory).shown + 1 → MemoryIn limits budget (given ++ rest) (checked_of r.theory).shown number line
 memory_behind limits budget given rest line number r goes line_is number_is = record {
   given = given;
   rest = rest;
   bytes_are = refl;
-  ending = broken;
   memory = record {
-    taken = (tokens limits given broken).tokens;
-    coming = [];
-    tokens_are = sym (append-nil (tokens limits given broken).tokens);
     done = (read_tokens limits (tokens limits given broken).tokens).commands;
+    later = [];
+    commands_are = sym (append-nil (read_tokens limits (tokens limits given broken).tokens).commands);
     theory = checked_of r.theory;
     leads = goes.behind.leads;
     names_are = refl;
     number_is = number_is;
-    line_is = inr (refl, line_is);
+    line_is = line_is;
   };
 }
 
@@ -138,7 +132,7 @@ stops_end : (limits : Limits) (budget : ℕ) (bytes : List ℕ) (names : List (L
 stops_end limits budget bytes names (Accepted n) stops = absurd stops
 stops_end limits budget bytes names (Unread n) stops = stops
 stops_end limits budget bytes names (Stopped n line verdict.Accepted) stops = stops
-stops_end limits budget bytes names (Stopped n line verdict.Memory) stops = stops
+stops_end limits budget bytes names (Stopped n line verdict.Memory) stops = inl stops
 stops_end limits budget bytes names (Stopped n line (verdict.Refused code)) stops = ap (λ bs. report_of_bytes limits budget bs whole) (sym (append-nil bytes)) ∙ stops [] whole
 stops_end limits budget bytes names (Stopped n line verdict.Ended) stops = ap (λ bs. report_of_bytes limits budget bs whole) (sym (append-nil bytes)) ∙ stops [] whole
 
@@ -157,7 +151,7 @@ lexed_end : (limits : Limits) (budget : ℕ) (bytes : List ℕ) (names : List (L
 lexed_end limits budget bytes names (Accepted n) stops = absurd stops
 lexed_end limits budget bytes names (Unread n) stops = stops
 lexed_end limits budget bytes names (Stopped n line verdict.Accepted) stops = stops
-lexed_end limits budget bytes names (Stopped n line verdict.Memory) stops = memory_here limits budget bytes whole names n line stops
+lexed_end limits budget bytes names (Stopped n line verdict.Memory) stops = inr stops
 lexed_end limits budget bytes names (Stopped n line (verdict.Refused code)) stops = stops (tokens limits bytes whole) whole (front_of_itself (tokens limits bytes whole))
 lexed_end limits budget bytes names (Stopped n line verdict.Ended) stops = stops (tokens limits bytes whole) whole (front_of_itself (tokens limits bytes whole))
 

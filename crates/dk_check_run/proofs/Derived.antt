@@ -1,17 +1,17 @@
 -- Where a file is accepted, each command has a derivation over the commands before it.
-use Rattle.std.proofs.Common.{◌≡◌, ◌≢◌, ℕ, ◌+◌, Bool, true, false, List, [], ◌∷◌, ◌++◌, refl, sym, ap, subst, ◌∙◌, arith}
-use Rattle.std.specs.Prelude.{Option, Some, None, if◌then◌else◌, nat_le}
+use Rattle.std.proofs.Common.{◌≡◌, ℕ, ◌+◌, Bool, true, false, List, [], ◌∷◌, ◌++◌, refl, sym, ap, subst, ◌∙◌, arith}
+use Rattle.std.specs.Prelude.{Option, Some, if◌then◌else◌, nat_le}
 use Rattle.dk_model.specs.Limits.{standard}
 use Rattle.dk_model.specs.Scoping.{PlainCommand, declare, rule_command}
 use Rattle.dk_model.specs.Signatures.{PlainEntry, PlainSignature}
-use Rattle.dk_model.specs.Verdicts.{entry_of, inferred_type, verdict_of}
+use Rattle.dk_model.specs.Verdicts.{entry_of, inferred_type}
 use Rattle.dk_model.specs.declared.code.Code.TheVariants.{E08}
 use Rattle.dk_model.specs.declared.code.Verdict.{Verdict}
 use Rattle.dk_model.specs.declared.code.Verdict.TheVariants as verdict
 use Rattle.dk_model.specs.declared.limits.Limits.{Limits}
 use Rattle.dk_lexer.specs.Tokens.{whole}
 use Rattle.dk_parser.specs.Reading.{Tail, read}
-use Rattle.dk_parser.specs.Written.{WrittenCommand, WrittenForm}
+use Rattle.dk_parser.specs.Written.{WrittenCommand}
 use Rattle.scope_terms.specs.Scopes.{Scoping, scoped, refused, scope_of}
 use Rattle.typing_model.specs.Derivations.{HasDerivation}
 use Rattle.typing_model.proofs.Commands.{accepted_derives}
@@ -19,7 +19,8 @@ use Rattle.typing_model.proofs.Rules.{comparison_joins, whnf_reduces}
 use Rattle.command_line.specs.Requests.{Request}
 use Rattle.verdict_book.specs.Report.{status_of}
 use Rattle.dk_check_run.specs.Outcomes.{FileReport, Theory, by_verdict, no_theory, report_from, scoped_entry, scoped_verdict, theory_after, verdict_after, verdict_at}
-use Rattle.dk_check_run.specs.Run.{AllDerived, Answers, AsksFor, IsDerived, ShelfState, SinkState}
+use Rattle.dk_check_run.specs.Answers.{Answers}
+use Rattle.dk_check_run.specs.Run.{AllDerived, AsksFor, IsDerived, ShelfState, SinkState}
 use Rattle.dk_check_run.proofs.Clauses.{own}
 use Rattle.typing_model.specs.Laws.{IsNumbered}
 use Rattle.typing_model.proofs.Shapes.{entry_numbered, numbered_more}
@@ -59,7 +60,7 @@ all_derived limits budget T n (c ∷ cs) tail numbered e =
     )
 
 pub derived : (request : Option Request) (old new : ShelfState) (before after : SinkState) (result : ℕ) → Answers request old new before after result
-    → (q : Request) (bytes : List ℕ) → AsksFor request old.books q bytes → result ≡ 0 → AllDerived q.budget no_theory (read standard bytes whole).commands
+    → (q : Request) (bytes : List ℕ) → AsksFor request old.books q (Some bytes) → result ≡ 0 → AllDerived q.budget no_theory (read standard bytes whole).commands
 derived request old new before after result answers q bytes asks zero =
     let report = own request old new before after result answers q bytes asks (inl zero) in
     all_derived standard q.budget no_theory 0 (read standard bytes whole).commands (read standard bytes whole).tail tt (sym report.status ∙ zero)

@@ -3,12 +3,11 @@ use Rattle.std.proofs.Common.{◌≡◌, ◌≢◌, ℕ, ◌+◌, List, [], ◌�
 use Rattle.std.proofs.lemmas.List.{append_assoc, append-nil}
 use Rattle.std.specs.Prelude.{Option, Some, None, unwrap_or}
 use Rattle.dk_model.specs.declared.code.Code.{Code}
-use Rattle.dk_model.specs.declared.code.Verdict.{Verdict}
 use Rattle.dk_model.specs.declared.code.Verdict.TheVariants as verdict
 use Rattle.dk_model.specs.declared.limits.Limits.{Limits}
 use Rattle.dk_lexer.specs.declared.token.Token.{Token}
 use Rattle.dk_lexer.specs.Tokens.{Ending, Lexed, tokens}
-use Rattle.dk_lexer.specs.Given.{IsFrontOf, Stays, with_token}
+use Rattle.dk_lexer.specs.Given.{Stays, with_token}
 use Rattle.dk_parser.specs.Reading.{TokenReading, read_tokens, reading_of, tail_by_tokens, tail_by_bytes}
 use Rattle.dk_parser.specs.Reading as reading
 use Rattle.verdict_book.specs.declared.outcome.Outcome.{Outcome}
@@ -16,7 +15,7 @@ use Rattle.verdict_book.specs.declared.outcome.Outcome.TheVariants.{Accepted, St
 use Rattle.dk_check_run.specs.declared.reader.Reader.{Reader}
 use Rattle.dk_check_run.specs.Outcomes.{FileReport, no_theory, report_from, report_of_reading}
 use Rattle.dk_check_run.specs.Theories.{Checked, checked_of}
-use Rattle.dk_check_run.specs.Progress.{GoesOnBehind, GoesOnBehindAll, LexedSettles, MemoryAt, StandsAtLexed, StandsAtTokens, StopsAtLexed, StopsAtTokens, StopsBy, TokensSettle, stands_at_lexed, stands_at_tokens}
+use Rattle.dk_check_run.specs.Progress.{GoesOnBehind, LexedSettles, StandsAtLexed, StandsAtTokens, StopsAtLexed, StopsAtTokens, TokensSettle, stands_at_lexed, stands_at_tokens}
 use Rattle.dk_check_run.proofs.Steps.{leads_fault}
 
 pub with_then : (ts us : List Token) (t : Option Token) → ts ++ with_token t us ≡ (ts ++ with_token t []) ++ us

@@ -3,6 +3,8 @@ pub mod Clauses
 pub mod Derived
 pub mod Ends
 pub mod Lexes
+pub mod Lines
+pub mod Memory
 pub mod Pieces
 pub mod Sound
 pub mod Stands

@@ -1,9 +1,8 @@
 -- A book that is read in pieces.
-use Rattle.std.proofs.Common.{◌≡◌, ◌≢◌, ℕ, ◌+◌, List, [], ◌∷◌, ◌++◌, length, take, drop, refl, sym, ap, subst, ◌∙◌}
+use Rattle.std.proofs.Common.{◌≡◌, inl, ℕ, ◌+◌, List, [], ◌++◌, length, take, drop, refl, sym, ap, subst, ◌∙◌}
 use Rattle.std.proofs.lemmas.List.{append_assoc, append-nil, take-append-drop}
 use Rattle.std.specs.Prelude.{Option, Some, None}
 use Rattle.dk_io.specs.Bytes.{TakesFront}
-use Rattle.dk_model.specs.declared.code.Verdict.{Verdict}
 use Rattle.dk_model.specs.declared.code.Verdict.TheVariants as verdict
 use Rattle.dk_model.specs.declared.limits.Limits.{Limits}
 use Rattle.dk_lexer.specs.Tokens.{broken, tokens}
@@ -54,7 +53,6 @@ memory_wider limits budget given rest names number line m = record {
   given = m.given;
   rest = m.rest ++ rest;
   bytes_are = ap (λ l. l ++ rest) m.bytes_are ∙ append_assoc m.given m.rest rest;
-  ending = m.ending;
   memory = m.memory;
 }
 
@@ -62,7 +60,7 @@ stops_wider : (limits : Limits) (budget : ℕ) (given rest : List ℕ) (left : O
 stops_wider limits budget given rest left names (Accepted n) stops = absurd stops
 stops_wider limits budget given rest left names (Unread n) stops = absurd stops
 stops_wider limits budget given rest left names (Stopped n line verdict.Accepted) stops = stops
-stops_wider limits budget given rest left names (Stopped n line verdict.Memory) stops = memory_wider limits budget given rest names n line stops
+stops_wider limits budget given rest left names (Stopped n line verdict.Memory) stops = inl (memory_wider limits budget given rest names n line stops)
 stops_wider limits budget given rest left names (Stopped n line (verdict.Refused code)) stops = stops rest _
 stops_wider limits budget given rest left names (Stopped n line verdict.Ended) stops = stops rest _
 

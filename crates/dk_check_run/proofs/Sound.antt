@@ -1,10 +1,8 @@
 -- A theory stays sound when an accepted command is added.
 use Rattle.std.proofs.Common.{◌≡◌, ℕ, ◌+◌, List, [], ◌∷◌, ◌++◌, refl, sym, ap, subst, ◌∙◌, length-append}
-use Rattle.std.specs.Prelude.{Option}
 use Rattle.dk_model.specs.Signatures.{PlainEntry, PlainSignature}
-use Rattle.dk_model.specs.Scoping.{PlainCommand, declare, rule_command}
-use Rattle.dk_model.specs.Trees.{Tree}
-use Rattle.dk_model.specs.Verdicts.{entry_of, inferred_type}
+use Rattle.dk_model.specs.Scoping.{PlainCommand}
+use Rattle.dk_model.specs.Verdicts.{inferred_type}
 use Rattle.dk_parser.specs.Written.{WrittenForm, written_declare, written_rules}
 use Rattle.scope_terms.specs.Scopes.{Numbered, Scoping, scoped, refused, names_after}
 use Rattle.typing_model.specs.Laws.{IsNumberedEntry}

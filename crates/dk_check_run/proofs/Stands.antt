@@ -1,5 +1,6 @@
 -- How the reader stands behind a token.
-use Rattle.std.proofs.Common.{◌≡◌, ◌≢◌, inl, inr, ℕ, ◌+◌, List, [], ◌∷◌, ◌++◌, length, refl, sym, ap, subst, ◌∙◌}
+use Rattle.std.proofs.Common.{◌≡◌, ◌≢◌, ℕ, ◌+◌, List, [], ◌∷◌, ◌++◌, length, refl, sym, ap, subst, ◌∙◌}
+use Rattle.std.proofs.lemmas.List.{append_assoc}
 use Rattle.std.specs.Prelude.{Option, Some, None, unwrap_or}
 use Rattle.dk_model.specs.declared.code.Code.{Code}
 use Rattle.dk_model.specs.declared.code.Verdict.{Verdict}
@@ -8,16 +9,18 @@ use Rattle.dk_model.specs.declared.limits.Limits.{Limits}
 use Rattle.dk_lexer.specs.declared.token.Token.{Token}
 use Rattle.dk_lexer.specs.Tokens.{Ending, tokens}
 use Rattle.dk_lexer.specs.Given.{begun_line}
-use Rattle.dk_parser.specs.Parsing.{parsing_after}
+use Rattle.dk_parser.specs.Parsing.{commands_from, parsing_after}
 use Rattle.dk_parser.specs.Reading.{AddsCommand, AddsFault, read_tokens}
 use Rattle.dk_parser.specs.Views.{parsing}
-use Rattle.dk_parser.specs.Written.{WrittenCommand, WrittenForm}
+use Rattle.dk_parser.specs.Written.{WrittenCommand}
 use Rattle.verdict_book.specs.declared.outcome.Outcome.{Outcome}
 use Rattle.verdict_book.specs.declared.outcome.Outcome.TheVariants.{Stopped}
 use Rattle.dk_check_run.specs.declared.reader.Reader.{Reader}
-use Rattle.dk_check_run.specs.Outcomes.{FileReport, verdict_at}
+use Rattle.dk_check_run.specs.Outcomes.{verdict_at}
 use Rattle.dk_check_run.specs.Theories.{Checked, Judges, checked_after, checked_of}
-use Rattle.dk_check_run.specs.Progress.{GoesOnBehind, JudgesWhole, LeadsTo, MemoryAt, StandsAtTokens, StopsAtTokens, TokensSettle, due_line, stands_at_tokens, stop_by}
+use Rattle.dk_check_run.specs.Progress.{GoesOnBehind, JudgesWhole, LeadsTo, StandsAtTokens, StopsAtTokens, TokensSettle, stands_at_tokens, stop_by}
+use Rattle.dk_check_run.specs.Run.{next_line}
+use Rattle.dk_check_run.proofs.Lines.{commands_more, due_stays}
 use Rattle.dk_check_run.proofs.Steps.{command_settles, fault_settles, leads_more}
 
 module _ (limits : Limits) (budget : ℕ) (bytes : List ℕ) (ending : Ending) where
@@ -75,20 +78,41 @@ module _ (limits : Limits) (budget : ℕ) (bytes : List ℕ) (ending : Ending) w
       by_verdict (verdict.Refused code) judged stop = stands_stopped _ new _ stop (settles (verdict.Refused code) judged.0 (λ e. cc) judged.1)
       by_verdict verdict.Ended judged stop = stands_stopped _ new _ stop (settles verdict.Ended judged.0 (λ e. cc) judged.1)
       by_verdict verdict.Memory judged stop = stands_stopped _ new _ stop (record {
-        taken = taken ++ t ∷ [];
-        coming = coming;
-        tokens_are = all ∙ sym (append_one taken coming t);
         done = (read_tokens limits taken).commands;
+        later = w ∷ commands_from (parsing_after limits (taken ++ t ∷ [])) coming;
+        commands_are =
+            ap (λ ts. (read_tokens limits ts).commands) (all ∙ sym (append_assoc taken (t ∷ []) coming))
+            ∙ commands_more limits (taken ++ t ∷ []) coming
+            ∙ ap (λ cs. cs ++ commands_from (parsing_after limits (taken ++ t ∷ [])) coming) adds.commands
+            ∙ append_assoc (read_tokens limits taken).commands (w ∷ []) (commands_from (parsing_after limits (taken ++ t ∷ [])) coming);
         theory = before;
         leads = leads;
         names_are = judged;
         number_is = ap (λ (ns : List (List ℕ)). length ns + 1) (sym judged);
-        line_is = inl (w, adds.commands, refl);
+        line_is = refl;
       })
-        where
-          append_one : (xs ys : List Token) (x : Token) → (xs ++ x ∷ []) ++ ys ≡ xs ++ x ∷ ys
-          append_one [] ys x = refl
-          append_one (y ∷ xs) ys x = ap (λ l. y ∷ l) (append_one xs ys x)
+
+  -- memory ended at a token
+  pub memory_stands : (taken coming : List Token) (t : Token) (old new : Reader) (line : ℕ)
+      → (tokens limits bytes ending).tokens ≡ taken ++ t ∷ coming
+      → GoesOnBehind limits budget taken old
+      → line ≡ unwrap_or (read_tokens limits taken).begun t.line
+      → new.theory ≡ old.theory
+      → new.stop ≡ Some (Stopped (length (checked_of old.theory).shown + 1) line verdict.Memory)
+      → StandsAtTokens limits budget bytes ending (taken ++ t ∷ []) new
+  memory_stands taken coming t old new line all goes line_is same stop =
+      stands_stopped _ new _ stop (record {
+        done = (read_tokens limits taken).commands;
+        later = commands_from (parsing_after limits taken) (t ∷ coming);
+        commands_are = ap (λ ts. (read_tokens limits ts).commands) all ∙ commands_more limits taken (t ∷ coming);
+        theory = checked_of old.theory;
+        leads = goes.leads;
+        names_are = ap (λ r. (checked_of r).shown) same;
+        number_is = ap (λ r. length (checked_of r).shown + 1) (sym same);
+        line_is = line_is
+            ∙ sym (due_stays limits taken coming t (begun_line limits bytes) goes.no_fault)
+            ∙ ap (λ ts. next_line (commands_from (parsing_after limits taken) (t ∷ coming)) (read_tokens limits ts).begun (begun_line limits bytes)) (sym all);
+      })
 
   -- the token is at fault
   pub fault_stands : (taken coming : List Token) (t : Token) (old new : Reader) (code : Code) (line : ℕ)

@@ -1,32 +1,28 @@
 -- What a token, or a whole command, makes of the reading.
-use Rattle.std.proofs.Common.{◌≡◌, ◌≢◌, ◌⊎◌, inl, inr, ℕ, ◌+◌, List, [], ◌∷◌, ◌++◌, length, refl, sym, ap, ap₂, subst, ◌∙◌, arith, length-append}
+use Rattle.std.proofs.Common.{◌≡◌, ◌≢◌, ℕ, ◌+◌, List, [], ◌∷◌, ◌++◌, length, refl, sym, ap, subst, ◌∙◌, length-append}
 use Rattle.std.proofs.lemmas.List.{append_assoc, append-nil}
-use Rattle.std.specs.Prelude.{Option, Some, None, IsSome, Result, Ok, Err, unwrap_or}
+use Rattle.std.specs.Prelude.{Option, Some, None, IsSome}
 use Rattle.dk_model.specs.declared.code.Code.{Code}
 use Rattle.dk_model.specs.declared.code.Verdict.{Verdict}
 use Rattle.dk_model.specs.declared.code.Verdict.TheVariants as verdict
 use Rattle.dk_model.specs.declared.limits.Limits.{Limits}
 use Rattle.dk_lexer.specs.declared.token.Token.{Token}
-use Rattle.dk_lexer.specs.Tokens.{Ending, Lexed, broken, whole, tokens}
-use Rattle.dk_lexer.specs.Given.{begun_line}
-use Rattle.dk_parser.specs.Parsing.{parsing_after}
+use Rattle.dk_lexer.specs.Tokens.{Ending, Lexed}
 use Rattle.dk_parser.specs.Reading.{AddsCommand, AddsFault, Extends, Tail, TokenReading, read_tokens, reading_of, tail_by_tokens}
 use Rattle.dk_parser.specs.Reading as reading
-use Rattle.dk_parser.specs.Views.{parsing}
-use Rattle.dk_parser.specs.Written.{WrittenCommand, WrittenForm}
+use Rattle.dk_parser.specs.Written.{WrittenCommand}
 use Rattle.dk_parser.proofs.Exact.{read_extends}
 use Rattle.verdict_book.specs.declared.outcome.Outcome.{Outcome}
 use Rattle.verdict_book.specs.declared.outcome.Outcome.TheVariants.{Stopped}
-use Rattle.dk_check_run.specs.declared.reader.Reader.{Reader}
-use Rattle.dk_check_run.specs.Outcomes.{FileReport, Theory, by_verdict, no_theory, report_from, report_of_reading, shown_name, theory_after, verdict_at, with_names}
-use Rattle.dk_check_run.specs.Theories.{Checked, Judges, IsSound, checked_after, checked_of}
-use Rattle.dk_check_run.specs.Progress.{GoesOnBehind, JudgesWhole, LeadsTo, MemoryAt, StandsAtTokens, StopsAtTokens, StopsBy, TokensSettle, due_line, next_line, stop_by}
+use Rattle.dk_check_run.specs.Outcomes.{FileReport, by_verdict, no_theory, report_from, report_of_reading, shown_name, theory_after, verdict_at, with_names}
+use Rattle.dk_check_run.specs.Theories.{Checked, checked_after}
+use Rattle.dk_check_run.specs.Progress.{LeadsTo, TokensSettle}
 
 -- ---- the report behind accepted commands
 
 -- no command leads nowhere
 pub leads_start : (limits : Limits) (budget : ℕ) (c : Checked) → c ≡ (let n : Checked = record { theory = no_theory; shown = [] } in n) → LeadsTo limits budget [] c
-leads_start limits budget c is = subst (LeadsTo limits budget []) (sym is) (record { report = λ cs tail. refl })
+leads_start limits budget c is = subst (LeadsTo limits budget []) (sym is) (record { report = λ cs tail. refl; counted = refl })
 
 with_names_more : (xs : List (List ℕ)) (x : List ℕ) (r : FileReport) → with_names xs (with_names (x ∷ []) r) ≡ with_names (xs ++ x ∷ []) r
 with_names_more xs x r = ap (λ ns. let f : FileReport = record { names = ns; outcome = r.outcome } in f) (sym (append_assoc xs (x ∷ []) r.names))
@@ -41,6 +37,7 @@ leads_more {limits = limits} {budget = budget} {done = done} {c = c} w leads acc
       ∙ ap (λ v. with_names c.shown (by_verdict v (length c.shown) w (rest (length c.shown + 1)))) accepted
       ∙ with_names_more c.shown (shown_name w.form) (rest (length c.shown + 1))
       ∙ ap (λ n. with_names (c.shown ++ shown_name w.form ∷ []) (rest n)) (sym (length-append c.shown (shown_name w.form ∷ [])));
+  counted = length-append c.shown (shown_name w.form ∷ []) ∙ ap (λ n. n + 1) leads.counted ∙ sym (length-append done (w ∷ []));
 }
 
 pub stopped_names : (xs : List (List ℕ)) (o : Outcome) → with_names xs (let r : FileReport = record { names = []; outcome = o } in r) ≡ (let r : FileReport = record { names = xs; outcome = o } in r)

@@ -2,7 +2,7 @@
 use Rattle.std.specs.Prelude.{◌≡◌, ◌≤◌, ℕ, List}
 use Rattle.dk_io.specs.Causes.{Rose}
 use Rattle.verdict_book.specs.declared.outcome.Outcome.{Outcome}
-use Rattle.verdict_book.specs.declared.outcome.Outcome.TheVariants.{Accepted, Stopped, Unread}
+use Rattle.verdict_book.specs.declared.outcome.Outcome.TheVariants.{Unread}
 
 -- the count of failed reads rose where a read failed, and stands where none did
 abbrev pub RoseAtUnread : ℕ → ℕ → Outcome → Type 0

@@ -1,5 +1,5 @@
--- How far the reading of a file has come, and what it has settled.
-use Rattle.std.specs.Prelude.{◌≡◌, ◌≢◌, ◌⊎◌, ◌<◌, ◌≤◌, ℕ, ◌+◌, List, [], ◌∷◌, ◌++◌, length, Option, Some, None, unwrap_or}
+-- For proofs: how far the reading of a file has come, and what it has settled.
+use Rattle.std.specs.Prelude.{◌≡◌, ◌⊎◌, ◌<◌, ◌≤◌, ℕ, ◌+◌, List, ◌++◌, length, Option, Some, None, unwrap_or}
 use Rattle.dk_model.specs.declared.code.Code.TheVariants.{E03}
 use Rattle.dk_model.specs.declared.code.Verdict.{Verdict}
 use Rattle.dk_model.specs.declared.code.Verdict.TheVariants as verdict
@@ -10,13 +10,14 @@ use Rattle.dk_lexer.specs.Given.{IsFrontOf, begun_line}
 use Rattle.dk_lexer.specs.Steps.{lexer_after}
 use Rattle.dk_parser.specs.Parsing.{parsing_after}
 use Rattle.dk_parser.specs.Views.{parsing}
-use Rattle.dk_parser.specs.Reading.{Tail, read, read_tokens, reading_of}
+use Rattle.dk_parser.specs.Reading.{Tail, read_tokens, reading_of}
 use Rattle.dk_parser.specs.Written.{WrittenCommand}
 use Rattle.verdict_book.specs.Report.{IsFault}
 use Rattle.verdict_book.specs.declared.outcome.Outcome.{Outcome}
 use Rattle.verdict_book.specs.declared.outcome.Outcome.TheVariants.{Accepted, Stopped, Unread}
 use Rattle.dk_check_run.specs.declared.reader.Reader.{Reader}
 use Rattle.dk_check_run.specs.Outcomes.{FileReport, no_theory, report_from, report_of_bytes, report_of_reading, with_names}
+use Rattle.dk_check_run.specs.Run.{next_line}
 use Rattle.dk_check_run.specs.Theories.{Checked, IsKept, Judges, checked_of}
 
 -- these commands, the first of a file, are accepted and lead to this theory: whatever follows, the report begins with
@@ -24,30 +25,23 @@ use Rattle.dk_check_run.specs.Theories.{Checked, IsKept, Judges, checked_of}
 pub record LeadsTo (limits : Limits) (budget : ℕ) (done : List WrittenCommand) (c : Checked) : Type 0 where
   pub report : (cs : List WrittenCommand) (tail : Tail) → report_from limits budget no_theory 0 (done ++ cs) tail
       ≡ with_names c.shown (report_from limits budget c.theory (length c.shown) cs tail)
-
--- the line of the next token, else this one
-abbrev pub next_line : List Token → ℕ → ℕ
-next_line [] place = place
-next_line (t ∷ ts) place = t.line
-
--- the line at which the command begins that is due behind these tokens: that of its first token, where one was taken;
--- else that of the token that comes next; else that of what is begun, or of the next byte
-abbrev pub due_line : Limits → List Token → List Token → ℕ → ℕ
-due_line limits taken coming place = unwrap_or (read_tokens limits taken).begun (next_line coming place)
+  pub counted : length c.shown ≡ length done
 
 -- where memory ended: so many commands before are accepted, and the next one, at this line, was due; it is whole, or has begun, or begins
 pub record MemoryAt (limits : Limits) (budget : ℕ) (given : List ℕ) (ending : Ending) (names : List (List ℕ)) (number line : ℕ) : Type 0 where
-  -- the tokens of the bytes given that were taken, and those that weren't
-  pub taken : List Token
-  pub coming : List Token
-  pub tokens_are : (tokens limits given ending).tokens ≡ taken ++ coming
+  -- the commands of the bytes given: those that were accepted, and later ones
   pub done : List WrittenCommand
+  pub later : List WrittenCommand
+  pub commands_are : (read_tokens limits (tokens limits given ending).tokens).commands ≡ done ++ later
   pub theory : Checked
   pub leads : LeadsTo limits budget done theory
   pub names_are : names ≡ theory.shown
   pub number_is : number ≡ length names + 1
-  pub line_is : ((c : WrittenCommand) × ((read_tokens limits taken).commands ≡ done ++ c ∷ []) × (line ≡ c.line))
-      ⊎ (((read_tokens limits taken).commands ≡ done) × (line ≡ due_line limits taken coming (begun_line limits given)))
+  pub line_is : line ≡ next_line later (read_tokens limits (tokens limits given ending).tokens).begun (begun_line limits given)
+
+-- the line of the command that is due behind these tokens: of its first token, else this one
+abbrev pub due_line : Limits → List Token → ℕ → ℕ
+due_line limits taken place = unwrap_or (read_tokens limits taken).begun place
 
 -- the reader, stopped at this command and line by this verdict
 abbrev pub stopped : Reader → ℕ → ℕ → Verdict → Reader
@@ -87,13 +81,12 @@ StopsAtLexed limits budget given ending names =
     StopsBy (MemoryAt limits budget given ending names)
     (λ outcome. LexedSettles limits budget (tokens limits given ending) (record { names = names; outcome = outcome }))
 
--- memory ended somewhere in these bytes
+-- memory ended behind some of these bytes
 pub record MemoryIn (limits : Limits) (budget : ℕ) (bytes : List ℕ) (names : List (List ℕ)) (number line : ℕ) : Type 0 where
   pub given : List ℕ
   pub rest : List ℕ
   pub bytes_are : bytes ≡ given ++ rest
-  pub ending : Ending
-  pub memory : MemoryAt limits budget given ending names number line
+  pub memory : MemoryAt limits budget given broken names number line
 
 -- how the reader stopped at a byte
 abbrev pub StopsAtBytes : Limits → ℕ → List ℕ → List (List ℕ) → Outcome → Type 0
@@ -184,7 +177,8 @@ ended_outcome count None = Accepted count
 abbrev pub EndsWith : Limits → ℕ → List ℕ → List (List ℕ) → Outcome → Type 0
 EndsWith limits budget bytes names (Unread number) = ⊥
 EndsWith limits budget bytes names (Stopped number line verdict.Accepted) = ⊥
-EndsWith limits budget bytes names (Stopped number line verdict.Memory) = MemoryIn limits budget bytes names number line
+EndsWith limits budget bytes names (Stopped number line verdict.Memory) =
+    MemoryIn limits budget bytes names number line ⊎ MemoryAt limits budget bytes whole names number line
 EndsWith limits budget bytes names outcome = report_of_bytes limits budget bytes whole ≡ record { names = names; outcome = outcome }
 
 -- how a file ends that the shelf gives: a read failed behind some of its bytes, and their report under a broken ending is this one; or as above

@@ -1,23 +1,20 @@
--- What the program answers: the text and the status that are due (docs/report.md).
-use Rattle.std.specs.Prelude.{◌≡◌, ◌≢◌, ◌⊎◌, ◌≤◌, ℕ, Bool, List, [], ◌∷◌, ◌++◌, Option, Some, None, codes}
-use Rattle.dk_io.specs.Bytes.{AddsSome, Books, Opens, added, book_of}
+-- Trusted: what the program answers, the text and the status that are due (docs/report.md).
+use Rattle.std.specs.Prelude.{◌≡◌, ◌≢◌, ◌⊎◌, ◌≤◌, ℕ, ◌+◌, List, [], ◌∷◌, ◌++◌, length, take, drop, Option, Some, unwrap_or, codes}
+use Rattle.dk_io.specs.Bytes.{AddsSome, Books, added, book_of}
 use Rattle.dk_io.specs.Causes.{Rose}
 use Rattle.dk_model.specs.Limits.{standard}
 use Rattle.dk_model.specs.declared.code.Verdict.TheVariants as verdict
-use Rattle.dk_lexer.specs.Tokens.{broken, whole}
-use Rattle.dk_parser.specs.Reading.{read}
+use Rattle.dk_lexer.specs.Tokens.{Ending, broken, tokens, whole}
+use Rattle.dk_lexer.specs.Given.{begun_line}
+use Rattle.dk_parser.specs.Reading.{TokenReading, read, read_tokens}
 use Rattle.dk_parser.specs.Written.{WrittenCommand}
 use Rattle.scope_terms.specs.Scopes.{Scoping, scoped, refused, scope_of}
 use Rattle.dk_model.specs.Scoping.{PlainCommand, declare, rule_command}
 use Rattle.typing_model.specs.Derivations.{HasDerivation}
 use Rattle.command_line.specs.Requests.{Request}
-use Rattle.command_line.specs.Usage.{usage_text}
 use Rattle.verdict_book.specs.Report.{concat, report_of, status_of, stop_line}
-use Rattle.verdict_book.specs.declared.outcome.Outcome.{Outcome}
-use Rattle.verdict_book.specs.declared.outcome.Outcome.TheVariants.{Accepted, Stopped, Unread}
-use Rattle.dk_check_run.specs.Counts.{MayRiseAtUnread, RoseAtUnread}
+use Rattle.verdict_book.specs.declared.outcome.Outcome.TheVariants.{Stopped, Unread}
 use Rattle.dk_check_run.specs.Outcomes.{FileReport, Theory, no_theory, report_of_bytes, theory_after}
-use Rattle.dk_check_run.specs.Progress.{EndsOn, MemoryIn}
 
 -- ---- texts
 
@@ -57,6 +54,33 @@ AllDerived budget T (c ∷ cs) = IsDerived T (scope_of T.names c.form) × AllDer
 abbrev pub IsFileDerived : Request → List ℕ → Type 0
 IsFileDerived q bytes = AllDerived q.budget no_theory (read standard bytes whole).commands
 
+-- ---- where memory ended
+
+-- the line of the next command: its own where it is whole; else that of its first token where one was read; else this one
+abbrev pub next_line : List WrittenCommand → Option ℕ → ℕ → ℕ
+next_line (c ∷ cs) begun place = c.line
+next_line [] begun place = unwrap_or begun place
+
+-- how the commands of these bytes are read
+abbrev pub reading_at : List ℕ → Ending → TokenReading
+reading_at given ending = read_tokens standard (tokens standard given ending).tokens
+
+-- memory ended at the command behind so many accepted ones, seen from a front of the file's bytes: the line is where that command
+-- stands, or begins, or would begin (that of an open comment, or of the next byte)
+pub record IsMemoryAt (q : Request) (bytes : List ℕ) (accepted line : ℕ) : Type 0 where
+  pub accepted_are : accepted ≤ length (report_for q bytes).names
+  pub given : List ℕ
+  pub rest : List ℕ
+  pub bytes_are : bytes ≡ given ++ rest
+  pub ending : Ending
+  pub last : ending ≡ whole → rest ≡ []
+  pub read_are : accepted ≤ length (reading_at given ending).commands
+  pub line_is : line ≡ next_line (drop accepted (reading_at given ending).commands) (reading_at given ending).begun (begun_line standard given)
+
+-- the first `ok` lines of the file's own report, and the line that says where memory ended
+abbrev pub memory_text : Request → List ℕ → ℕ → ℕ → List ℕ
+memory_text q bytes accepted line = report_of (take accepted (report_for q bytes).names) (Stopped (accepted + 1) line verdict.Memory) q.budget q.quiet
+
 -- ---- answers
 
 -- a shelf, as its meanings tell it
@@ -71,13 +95,38 @@ pub record SinkState : Type 0 where
   pub taken : Option (List ℕ)
   pub faults : ℕ
 
--- the shelf is as it was, but for the book that is open
-pub record SameCounts (old new : ShelfState) : Type 0 where
-  pub books : new.books ≡ old.books
+-- the shelf's meanings, and the sink's, together
+abbrev pub shelf_state : {S : Type 0} → (S → Option Books) → (S → Option (List ℕ)) → (S → ℕ) → (S → List ℕ → ℕ) → S → ShelfState
+shelf_state books left faults missed shelf = record { books = books shelf; left = left shelf; faults = faults shelf; missed = missed shelf }
+
+abbrev pub sink_state : {S : Type 0} → (S → Option (List ℕ)) → (S → ℕ) → S → SinkState
+sink_state taken faults sink = record { taken = taken sink; faults = faults sink }
+
+-- the words ask to check a book, and the shelf tells what it has under that name: these bytes, or none
+pub record AsksFor (request : Option Request) (books : Option Books) (q : Request) (book : Option (List ℕ)) : Type 0 where
+  pub asked : request ≡ Some q
+  pub shelf : Books
+  pub told : books ≡ Some shelf
+  pub has : book_of shelf q.file ≡ book
+
+-- no call of the shelf failed
+pub record HasHeld (old new : ShelfState) : Type 0 where
   pub faults : new.faults ≡ old.faults
   pub missed : (name : List ℕ) → new.missed name ≡ old.missed name
 
--- the text was written, with this status; or the sink failed, took a front of it, and the status is 5
+-- The status and the text that are due, a row for each answer (docs/report.md): the file's own report; the report of the bytes that
+-- were given before a read failed; that the opening failed; where memory ended; and that it ended before the first command.
+pub data IsDue (q : Request) (book : Option (List ℕ)) (old new : ShelfState) : ℕ → List ℕ → Type 0 where
+  of_the_file : (bytes : List ℕ) → book ≡ Some bytes → HasHeld old new
+      → IsDue q book old new (status_of (report_for q bytes).outcome) (text_of q (report_for q bytes))
+  of_a_failed_read : (given rest : List ℕ) → book ≡ Some (given ++ rest) → new.left ≡ Some rest → Rose old.faults new.faults
+      → (number : ℕ) → (report_given q given).outcome ≡ Unread number → IsDue q book old new 3 (text_of q (report_given q given))
+  of_a_failed_opening : new.left ≡ old.left → Rose (old.missed q.file) (new.missed q.file) → IsDue q book old new 3 (unopened q.file)
+  of_memory : (bytes : List ℕ) → book ≡ Some bytes → HasHeld old new
+      → (accepted line : ℕ) → IsMemoryAt q bytes accepted line → IsDue q book old new 4 (memory_text q bytes accepted line)
+  of_no_memory : HasHeld old new → IsDue q book old new 4 memory_at_once
+
+-- the text was written, and this is the status; or the sink failed and took a front of it, and the status is 5
 pub record Writes (old new : SinkState) (text : List ℕ) (status result : ℕ) : Type 0 where
   pub known : (result ≡ status) ⊎ (result ≡ 5)
   pub whole : result ≢ 5 → new.taken ≡ added old.taken text
@@ -85,57 +134,17 @@ pub record Writes (old new : SinkState) (text : List ℕ) (status result : ℕ) 
   pub failed : result ≡ 5 → Rose old.faults new.faults
   pub front : result ≡ 5 → AddsSome old.taken new.taken text
 
--- the open book was read and its report written, or memory ended before its first command
-pub record ChecksBook (budget : ℕ) (quiet : Bool) (old new : ShelfState) (before after : SinkState) (result : ℕ) : Type 0 where
-  pub names : List (List ℕ)
-  pub outcome : Outcome
-  pub ends : (bytes : List ℕ) → old.left ≡ Some bytes
-      → EndsOn standard budget bytes new.left names outcome ⊎ ((names ≡ []) × (outcome ≡ Stopped 0 0 verdict.Memory))
-  pub books : new.books ≡ old.books
-  pub faults : RoseAtUnread old.faults new.faults outcome
-  pub missed : MayRiseAtUnread old.missed new.missed outcome
-  pub writes : Writes before after (report_of names outcome budget quiet) (status_of outcome) result
-
--- what the program did, by what the words ask
-pub data Answers (request : Option Request) (old new : ShelfState) (before after : SinkState) (result : ℕ) : Type 0 where
-  asks_nothing : request ≡ None → new ≡ old → Writes before after usage_text 2 result → Answers request old new before after result
-  memory_ended : new ≡ old → Writes before after memory_at_once 4 result → Answers request old new before after result
-  not_opened : (q : Request) → request ≡ Some q → Rose (old.missed q.file) (new.missed q.file) → Writes before after (unopened q.file) 3 result → Answers request old new before after result
-  checked : (q : Request) (opened : ShelfState) → request ≡ Some q → Opens old.books q.file opened.left → SameCounts old opened
-      → ChecksBook q.budget q.quiet opened new before after result → Answers request old new before after result
-
--- ---- what the clauses say
-
--- the words ask to check a book, and the shelf tells that it has these bytes
-pub record AsksFor (request : Option Request) (books : Option Books) (q : Request) (bytes : List ℕ) : Type 0 where
-  pub asked : request ≡ Some q
-  pub shelf : Books
-  pub told : books ≡ Some shelf
-  pub has : book_of shelf q.file ≡ Some bytes
+-- what was due was written
+pub record WritesDue (q : Request) (book : Option (List ℕ)) (old new : ShelfState) (before after : SinkState) (result : ℕ) : Type 0 where
+  pub status : ℕ
+  pub text : List ℕ
+  pub due : IsDue q book old new status text
+  pub writes : Writes before after text status result
 
 -- the status is that of the file's report, and the sink took its text
 pub record ReportsFile (q : Request) (bytes : List ℕ) (before after : Option (List ℕ)) (result : ℕ) : Type 0 where
   pub status : result ≡ status_of (report_for q bytes).outcome
   pub text : after ≡ added before (text_of q (report_for q bytes))
-
--- memory ended: the text is that of some command of the file at which it did, or that of none
-abbrev pub MemoryText : Request → List ℕ → List ℕ → Type 0
-MemoryText q bytes text =
-    (text ≡ memory_at_once)
-    ⊎ ((names : List (List ℕ)) × (number : ℕ) × (line : ℕ) × MemoryIn standard q.budget bytes names number line
-    × (text ≡ report_of names (Stopped number line verdict.Memory) q.budget q.quiet))
-
--- a read failed: the text is that of the bytes that were given before
-abbrev pub UnreadText : Request → List ℕ → Option (List ℕ) → List ℕ → Type 0
-UnreadText q bytes left text =
-    (given : List ℕ) × (rest : List ℕ) × (number : ℕ) × (bytes ≡ given ++ rest) × (left ≡ Some rest)
-    × ((report_given q given).outcome ≡ Unread number) × (text ≡ text_of q (report_given q given))
-
--- the texts that may be due for a book of these bytes: that of its report, that where a read failed, that where memory
--- ended, and that where the opening failed
-abbrev pub IsDueText : Request → List ℕ → Option (List ℕ) → Type 0 → List ℕ → Type 0
-IsDueText q bytes left failed text =
-    (text ≡ text_of q (report_for q bytes)) ⊎ (UnreadText q bytes left text ⊎ (MemoryText q bytes text ⊎ (failed × (text ≡ unopened q.file))))
 
 -- the outcome is the file's own
 abbrev pub IsDecided : ℕ → Type 0

@@ -1,13 +1,12 @@
 -- The theory that the program keeps, and a step of it.
 use Rattle.std.specs.Prelude.{◌≡◌, ◌≢◌, ℕ, List, [], ◌∷◌, ◌++◌, length}
-use Rattle.dk_model.specs.Verdicts.{IsVerdictOrMemory, entry_of, inferred_type, verdict_of}
+use Rattle.dk_model.specs.Verdicts.{IsVerdictOrMemory}
 use Rattle.dk_model.specs.declared.code.Verdict.{Verdict}
 use Rattle.dk_model.specs.declared.code.Verdict.TheVariants as verdict
 use Rattle.dk_model.specs.declared.limits.Limits.{Limits}
 use Rattle.dk_parser.specs.Written.{WrittenForm}
 use Rattle.scope_terms.specs.Scopes.{names_after, scope_of}
-use Rattle.dk_model.specs.Signatures.{PlainEntry, PlainSignature, plain_signature}
-use Rattle.dk_model.specs.Scoping.{PlainCommand}
+use Rattle.dk_model.specs.Signatures.{PlainEntry, plain_signature}
 use Rattle.typing_model.specs.Laws.{IsNumbered}
 use Rattle.plain_evaluation.specs.Rules.{AreRuled}
 use Rattle.dk_check_run.specs.declared.theory.Theory.{Theory as Kept}

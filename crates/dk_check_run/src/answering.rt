@@ -4,7 +4,8 @@ ghost use Rattle.std.specs.String.{string_bytes};
 ghost use Rattle.command_line.specs.Requests.{request_of};
 ghost use Rattle.command_line.specs.Usage.{usage_text};
 ghost use Rattle.verdict_book.specs.Report.{StopsAtFault, report_of, status_of};
-ghost use Rattle.dk_check_run.specs.Run.{Answers, ChecksBook, Writes, memory_at_once, unopened};
+ghost use Rattle.dk_check_run.specs.Answers.{Answers, ChecksBook};
+ghost use Rattle.dk_check_run.specs.Run.{Writes, memory_at_once, shelf_state, sink_state, unopened};
 
 use crate::reader::Reader;
 use crate::shelf_read::read_book;
@@ -18,8 +19,8 @@ use verdict_book::{Outcome, write_outcome};
 const SINK_FAILED: u8 = 5;
 
 fn put_usage<K: Sink>(sink: &mut K) -> u8
-    ensures { Writes (record { taken = K.taken sink.old; faults = K.faults sink.old })
-        (record { taken = K.taken sink.new; faults = K.faults sink.new }) usage_text 2 result }
+    ensures { Writes (sink_state K.taken K.faults sink.old)
+        (sink_state K.taken K.faults sink.new) usage_text 2 result }
 {
     match put(sink, usage_text()) {
         Ok(()) => 2,
@@ -28,8 +29,8 @@ fn put_usage<K: Sink>(sink: &mut K) -> u8
 }
 
 fn put_memory<K: Sink>(sink: &mut K) -> u8
-    ensures { Writes (record { taken = K.taken sink.old; faults = K.faults sink.old })
-        (record { taken = K.taken sink.new; faults = K.faults sink.new }) memory_at_once 4 result }
+    ensures { Writes (sink_state K.taken K.faults sink.old)
+        (sink_state K.taken K.faults sink.new) memory_at_once 4 result }
 {
     let outcome = Outcome::Stopped(0, 0, Verdict::Memory);
     match write_outcome(&outcome, &[], 0, true, sink) {
@@ -39,8 +40,8 @@ fn put_memory<K: Sink>(sink: &mut K) -> u8
 }
 
 fn put_unopened<K: Sink>(sink: &mut K, file: &str) -> u8
-    ensures { Writes (record { taken = K.taken sink.old; faults = K.faults sink.old })
-        (record { taken = K.taken sink.new; faults = K.faults sink.new })
+    ensures { Writes (sink_state K.taken K.faults sink.old)
+        (sink_state K.taken K.faults sink.new)
         (unopened file.now) 3 result }
 {
     let pieces = [b"unopened ".as_slice(), file.as_bytes(), b"\n".as_slice()];
@@ -59,20 +60,10 @@ fn check_book<H: Shelf, K: Sink>(
     quiet: bool,
 ) -> u8
     ensures { ChecksBook budget quiet
-        (record {
-          books = H.books shelf.old;
-          left = H.left shelf.old;
-          faults = H.faults shelf.old;
-          missed = H.missed shelf.old;
-        })
-        (record {
-          books = H.books shelf.new;
-          left = H.left shelf.new;
-          faults = H.faults shelf.new;
-          missed = H.missed shelf.new;
-        })
-        (record { taken = K.taken sink.old; faults = K.faults sink.old })
-        (record { taken = K.taken sink.new; faults = K.faults sink.new }) result }
+        (shelf_state H.books H.left H.faults H.missed shelf.old)
+        (shelf_state H.books H.left H.faults H.missed shelf.new)
+        (sink_state K.taken K.faults sink.old)
+        (sink_state K.taken K.faults sink.new) result }
 {
     let mut reader = match Reader::new(alloc, Limits::standard(), budget) {
         Ok(reader) => reader,
@@ -94,8 +85,8 @@ fn put_outcome<K: Sink>(
 ) -> u8
     requires few { length names.now < 2 ^ 63 }
     requires fault { StopsAtFault outcome.now }
-    ensures { Writes (record { taken = K.taken sink.old; faults = K.faults sink.old })
-        (record { taken = K.taken sink.new; faults = K.faults sink.new })
+    ensures { Writes (sink_state K.taken K.faults sink.old)
+        (sink_state K.taken K.faults sink.new)
         (report_of names.now outcome.now budget quiet) (status_of outcome.now) result }
 {
     match write_outcome(outcome, names, budget, quiet, sink) {
@@ -107,20 +98,10 @@ fn put_outcome<K: Sink>(
 /// All that the program does.
 pub fn answer<H: Shelf, K: Sink>(alloc: Global, words: &[String], shelf: &mut H, sink: &mut K) -> u8
     ensures { Answers (request_of (map string_bytes words.now))
-        (record {
-          books = H.books shelf.old;
-          left = H.left shelf.old;
-          faults = H.faults shelf.old;
-          missed = H.missed shelf.old;
-        })
-        (record {
-          books = H.books shelf.new;
-          left = H.left shelf.new;
-          faults = H.faults shelf.new;
-          missed = H.missed shelf.new;
-        })
-        (record { taken = K.taken sink.old; faults = K.faults sink.old })
-        (record { taken = K.taken sink.new; faults = K.faults sink.new }) result }
+        (shelf_state H.books H.left H.faults H.missed shelf.old)
+        (shelf_state H.books H.left H.faults H.missed shelf.new)
+        (sink_state K.taken K.faults sink.old)
+        (sink_state K.taken K.faults sink.new) result }
 {
     let request = match read_request(alloc, words) {
         Ok(Some(request)) => request,

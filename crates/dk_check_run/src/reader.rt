@@ -191,7 +191,7 @@ impl Reader {
         ensures { (limits : Limits) (bytes : List ℕ) (ts : List Token) →
             self.now.lexer ≡ lexer_after limits bytes →
             parsing self.now.parser ≡ parsing_after limits ts →
-            result ≡ due_line limits ts [] (begun_line limits bytes) }
+            result ≡ due_line limits ts (begun_line limits bytes) }
     {
         self.parser.begun().unwrap_or(self.lexer.line())
     }

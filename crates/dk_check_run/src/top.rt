@@ -1,11 +1,23 @@
 //! The call that the program makes.
-ghost use Rattle.std.specs.Prelude.{◌≡◌, ◌≢◌, ◌⊎◌, ◌<◌, ℕ, List, None, Some, map};
+ghost use Rattle.std.specs.Prelude.{◌≡◌, ◌≢◌, ◌⊎◌, ◌<◌, ℕ, List, Option, None, Some, map};
 ghost use Rattle.std.specs.String.{string_bytes};
 ghost use Rattle.command_line.specs.Requests.{Request, request_of};
 ghost use Rattle.command_line.specs.Usage.{usage_text};
-ghost use Rattle.dk_io.specs.Bytes.{AddsSome, added};
+ghost use Rattle.dk_io.specs.Bytes.{added};
 ghost use Rattle.dk_io.specs.Causes.{Rose};
-ghost use Rattle.dk_check_run.specs.Run.{AsksFor, IsDecided, IsDueText, IsFileDerived, MemoryText, ReportsFile, UnreadText, memory_at_once, unopened};
+ghost use Rattle.dk_check_run.specs.Run.{
+  AsksFor,
+  HasHeld,
+  IsDecided,
+  IsFileDerived,
+  ReportsFile,
+  Writes,
+  WritesDue,
+  memory_at_once,
+  shelf_state,
+  sink_state,
+  unopened,
+};
 
 use crate::answering::answer;
 use dk_io::{Shelf, Sink};
@@ -18,7 +30,7 @@ use std::alloc::Global;
 pub fn run<H: Shelf, K: Sink>(alloc: Global, words: &[String], shelf: &mut H, sink: &mut K) -> u8
     // The headline: where nothing failed, the report and the status are those of the plain check of the file.
     ensures checks { (q : Request) (bytes : List ℕ) →
-        AsksFor (request_of (map string_bytes words.now)) (H.books shelf.old) q bytes →
+        AsksFor (request_of (map string_bytes words.now)) (H.books shelf.old) q (Some bytes) →
         ¬ (Rose (H.missed shelf.old q.file) (H.missed shelf.new q.file)) →
         ¬ (Rose (H.faults shelf.old) (H.faults shelf.new)) →
         ¬ (Rose (K.faults sink.old) (K.faults sink.new)) → result ≢ 4 →
@@ -26,55 +38,46 @@ pub fn run<H: Shelf, K: Sink>(alloc: Global, words: &[String], shelf: &mut H, si
 
     // Where the file is accepted, each declared type and body has a derivation over the commands before it.
     ensures derived { (q : Request) (bytes : List ℕ) →
-        AsksFor (request_of (map string_bytes words.now)) (H.books shelf.old) q bytes →
+        AsksFor (request_of (map string_bytes words.now)) (H.books shelf.old) q (Some bytes) →
         result ≡ 0 → IsFileDerived q bytes }
 
     // 0, 1 and 6 are the file's own, whatever failed, and nothing of the shelf did.
     ensures decided { (q : Request) (bytes : List ℕ) →
-        AsksFor (request_of (map string_bytes words.now)) (H.books shelf.old) q bytes →
+        AsksFor (request_of (map string_bytes words.now)) (H.books shelf.old) q (Some bytes) →
         IsDecided result → ReportsFile q bytes (K.taken sink.old) (K.taken sink.new) result }
-    ensures shelf_held { IsDecided result → (name : List ℕ) →
-        (H.faults shelf.new ≡ H.faults shelf.old)
-        × (H.missed shelf.new name ≡ H.missed shelf.old name) }
+    ensures shelf_held { IsDecided result →
+        HasHeld (shelf_state H.books H.left H.faults H.missed shelf.old)
+        (shelf_state H.books H.left H.faults H.missed shelf.new) }
 
-    // 2 is for words that ask nothing, and for no others; the shelf isn't touched.
-    ensures usage { request_of (map string_bytes words.now) ≡ None → result ≢ 4 → result ≢ 5 →
-        result ≡ 2 }
-    ensures usage_only { result ≡ 2 → (request_of (map string_bytes words.now) ≡ None)
-        × (K.taken sink.new ≡ added (K.taken sink.old) usage_text) }
-    ensures untouched { request_of (map string_bytes words.now) ≡ None → (name : List ℕ) →
-        (H.left shelf.new ≡ H.left shelf.old) × (H.faults shelf.new ≡ H.faults shelf.old)
-        × (H.missed shelf.new name ≡ H.missed shelf.old name) }
+    // Each text is that of a row of the table of answers; it was written, or cut where the sink failed.
+    ensures due { (q : Request) (book : Option (List ℕ)) →
+        AsksFor (request_of (map string_bytes words.now)) (H.books shelf.old) q book →
+        WritesDue q book (shelf_state H.books H.left H.faults H.missed shelf.old)
+        (shelf_state H.books H.left H.faults H.missed shelf.new)
+        (sink_state K.taken K.faults sink.old) (sink_state K.taken K.faults sink.new) result }
 
-    // 3 is for a fault of the shelf: an opening of that name, or a read.
+    // Words that ask nothing are answered by the usage text and 2, if memory lasts; the shelf isn't touched.
+    ensures usage { request_of (map string_bytes words.now) ≡ None →
+        Writes (sink_state K.taken K.faults sink.old) (sink_state K.taken K.faults sink.new)
+        usage_text 2 result
+        ⊎ Writes (sink_state K.taken K.faults sink.old) (sink_state K.taken K.faults sink.new)
+        memory_at_once 4 result }
+    ensures usage_only { result ≡ 2 → request_of (map string_bytes words.now) ≡ None }
+    ensures untouched { request_of (map string_bytes words.now) ≡ None →
+        shelf_state H.books H.left H.faults H.missed shelf.new
+        ≡ shelf_state H.books H.left H.faults H.missed shelf.old }
+
+    // 3 is for a fault of the shelf, also of one that tells no bytes: an opening of that name, or a read.
     ensures shelf_failed { result ≡ 3 → (q : Request)
         × (request_of (map string_bytes words.now) ≡ Some q)
-        × ((Rose (H.missed shelf.old q.file) (H.missed shelf.new q.file)
+        × (((H.left shelf.new ≡ H.left shelf.old)
+        × Rose (H.missed shelf.old q.file) (H.missed shelf.new q.file)
         × (K.taken sink.new ≡ added (K.taken sink.old) (unopened q.file)))
-        ⊎ (Rose (H.faults shelf.old) (H.faults shelf.new) × ((bytes : List ℕ) →
-        AsksFor (request_of (map string_bytes words.now)) (H.books shelf.old) q bytes →
-        (text : List ℕ) × UnreadText q bytes (H.left shelf.new) text
-        × (K.taken sink.new ≡ added (K.taken sink.old) text)))) }
+        ⊎ Rose (H.faults shelf.old) (H.faults shelf.new)) }
 
-    // 4 is for want of memory: the commands before are accepted, and the next one was due.
-    ensures memory { (q : Request) (bytes : List ℕ) →
-        AsksFor (request_of (map string_bytes words.now)) (H.books shelf.old) q bytes → result ≡ 4 →
-        (text : List ℕ) × MemoryText q bytes text
-        × (K.taken sink.new ≡ added (K.taken sink.old) text) }
-    ensures memory_at_once { request_of (map string_bytes words.now) ≡ None → result ≡ 4 →
-        K.taken sink.new ≡ added (K.taken sink.old) memory_at_once }
-
-    // 5 is for a fault of the sink, which then took a front of the text that was due.
+    // 5 is for a fault of the sink, and there is none elsewhere.
     ensures sink_failed { result ≡ 5 → Rose (K.faults sink.old) (K.faults sink.new) }
     ensures sink_held { result ≢ 5 → K.faults sink.new ≡ K.faults sink.old }
-    ensures cut { (q : Request) (bytes : List ℕ) →
-        AsksFor (request_of (map string_bytes words.now)) (H.books shelf.old) q bytes → result ≡ 5 →
-        (text : List ℕ) × AddsSome (K.taken sink.old) (K.taken sink.new) text
-        × IsDueText q bytes (H.left shelf.new)
-        (Rose (H.missed shelf.old q.file) (H.missed shelf.new q.file)) text }
-    ensures usage_cut { request_of (map string_bytes words.now) ≡ None → result ≡ 5 →
-        AddsSome (K.taken sink.old) (K.taken sink.new) usage_text
-        ⊎ AddsSome (K.taken sink.old) (K.taken sink.new) memory_at_once }
 
     // There is no other status.
     ensures statuses { result < 7 }

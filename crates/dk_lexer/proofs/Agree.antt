@@ -1,7 +1,7 @@
 -- The lexer over a list of bytes gives its tokens, and what one more byte and the end add.
-use Rattle.std.proofs.Common.{◌≡◌, ℕ, List, [], ◌∷◌, ◌++◌, length, refl, sym, ap, ◌∙◌, subst, arith}
+use Rattle.std.proofs.Common.{◌≡◌, inl, inr, ℕ, List, [], ◌∷◌, ◌++◌, length, refl, sym, ap, ◌∙◌, subst, arith, Bool, true, false, IfOk, OnErr, OnOk, IsTrue}
 use Rattle.std.proofs.lemmas.List.{append-nil}
-use Rattle.std.specs.Prelude.{Option, Some, None}
+use Rattle.std.specs.Prelude.{Option, Some, None, Result, Ok, Err}
 use Rattle.dk_model.specs.declared.code.Code.{Code}
 use Rattle.dk_model.specs.declared.limits.Limits.{Limits}
 use Rattle.dk_lexer.specs.declared.token.Token.{Token}
@@ -12,7 +12,9 @@ use Rattle.dk_lexer.specs.declared.lexer.Lexer.{Lexer}
 use Rattle.dk_lexer.specs.Classes.{class_of}
 use Rattle.dk_lexer.specs.Tokens.{Ending, whole, broken, Lexed, tokens, fault_at}
 use Rattle.dk_lexer.specs.Given.{with_token, given, AddsTokens, IsFrontOf, Stays, begun_line}
-use Rattle.dk_lexer.specs.Steps.{step, part_step, start, lexer_from, lexer_after, lexer_ended, ends, line_of, fed_fault}
+use Rattle.dk_model.specs.declared.memory.NoMemory.{NoMemory}
+use Rattle.dk_lexer.specs.Parts.{in_text}
+use Rattle.dk_lexer.specs.Steps.{HasFailed, after_end, closed_part, ends, fed_fault, is_text, lexer_after, lexer_ended, lexer_from, line_of, part_ends, part_step, start, step}
 use Rattle.dk_lexer.specs.Pieces.{piece_tokens, pieces_from, tokens_of_pieces, joined}
 use Rattle.dk_lexer.proofs.Runs.{run, fault_of, with_part}
 use Rattle.dk_lexer.proofs.Gives.{run_failed}
@@ -148,10 +150,42 @@ step_failed : (l : Lexer) (b : ℕ) (code : Code) → l.part ≡ part.Failed cod
 unfolding step
 step_failed l b code is = ap (λ (p : Part). (part_step (record l { part = part.Nothing }) p (class_of b) b).fed) is
 
-pub fed_faulty : (limits : Limits) (bytes : List ℕ) (b : ℕ) (code : Code) → (tokens limits bytes broken).fault ≡ Some code → (step (lexer_after limits bytes) b).fed ≡ fed_fault code
-unfolding lexer_after
-fed_faulty limits bytes b code is =
-    step_failed (lexer_from (start limits) bytes) b code (fault_part (start limits) bytes code (ap (λ (x : Lexed). x.fault) (run_tokens limits bytes broken) ∙ is))
+-- a lexer that gave a fault keeps it
+pub has_failed : (l : Lexer) (limits : Limits) (bytes : List ℕ) (code : Code) → HasFailed l limits bytes code → l.part ≡ part.Failed code
+unfolding lexer_after lexer_ended
+has_failed l limits bytes code (inl (is, fault)) =
+    ap (λ (x : Lexer). x.part) is ∙ fault_part (start limits) bytes code (ap (λ (x : Lexed). x.fault) (run_tokens limits bytes broken) ∙ fault)
+has_failed l limits bytes code (inr (is, fault)) = ap (λ (x : Lexer). x.part) is ∙ ap closed_part (sym (adds_end limits bytes).fault ∙ fault)
+
+step_same : (l : Lexer) (b : ℕ) (code : Code) → l.part ≡ part.Failed code → (step l b).lexer ≡ l
+unfolding step
+step_same l b code is =
+    ap (λ (p : Part). (part_step (record l { part = part.Nothing }) p (class_of b) b).lexer) is ∙ ap (λ (p : Part). let x : Lexer = record l { part = p } in x) (sym is)
+
+not_text : (l : Lexer) (b : ℕ) (code : Code) → l.part ≡ part.Failed code → is_text l b ≡ false
+not_text l b code is = ap (λ (p : Part). in_text p (class_of b)) is
+
+no_truth : (t : Bool) → t ≡ false → IsTrue t → ⊥
+no_truth true is h = cc
+no_truth false is h = cc
+
+-- a byte after a fault
+pub feed_failed : (r : Result Fed NoMemory) (old new : Lexer) (b : ℕ) → IfOk r (λ fed. fed ≡ (step old b).fed) → OnOk r (new ≡ (step old b).lexer) → OnErr r (IsTrue (is_text old b))
+    → (limits : Limits) (bytes : List ℕ) (code : Code) → HasFailed old limits bytes code → (r ≡ Ok (fed_fault code)) × (new ≡ old)
+feed_failed (Ok fed) old new b fed_is new_is memory limits bytes code failed =
+    let is = has_failed old limits bytes code failed in
+    (ap Ok (fed_is ∙ step_failed old b code is), new_is ∙ step_same old b code is)
+feed_failed (Err error) old new b fed_is new_is memory limits bytes code failed =
+    absurd (no_truth (is_text old b) (not_text old b code (has_failed old limits bytes code failed)) memory)
+
+-- the end after a fault
+pub end_failed : (fed : Fed) (old new : Lexer) → fed ≡ ends old → new ≡ after_end old → (limits : Limits) (bytes : List ℕ) (code : Code) → HasFailed old limits bytes code → (fed ≡ fed_fault code) × (new ≡ old)
+end_failed fed old new fed_is new_is limits bytes code failed =
+    let is = has_failed old limits bytes code failed in
+    let given : ends old ≡ fed_fault code = ap (λ (p : Part). part_ends old p) is in (
+      fed_is ∙ given,
+      new_is ∙ ap (λ (f : Fed). let x : Lexer = record old { part = closed_part f.fault } in x) given ∙ ap (λ (p : Part). let x : Lexer = record old { part = p } in x) (sym is),
+    )
 
 -- the line behind the end
 pub line_ended : (limits : Limits) (bytes : List ℕ) → line_of (lexer_ended limits bytes) ≡ (tokens limits bytes whole).line

@@ -1,15 +1,14 @@
 -- The answers of the public calls.
 use Rattle.std.proofs.Common.{◌≡◌, ℕ, List, [], ◌∷◌, ◌++◌, IfOk, OnOk, sym, ap, ◌∙◌, subst}
-use Rattle.std.specs.Prelude.{Some, Result, Ok, Err}
-use Rattle.dk_model.specs.declared.code.Code.{Code}
+use Rattle.std.specs.Prelude.{Result, Ok, Err}
 use Rattle.dk_model.specs.declared.memory.NoMemory.{NoMemory}
 use Rattle.dk_model.specs.declared.limits.Limits.{Limits}
 use Rattle.dk_lexer.specs.declared.fed.Fed.{Fed}
 use Rattle.dk_lexer.specs.declared.lexer.Lexer.{Lexer}
 use Rattle.dk_lexer.specs.Tokens.{broken, whole, tokens}
 use Rattle.dk_lexer.specs.Given.{AddsTokens, begun_line}
-use Rattle.dk_lexer.specs.Steps.{step, lexer_after, lexer_ended, ends, after_end, line_of, fed_fault}
-use Rattle.dk_lexer.proofs.Agree.{after_more, adds_more, adds_end, line_after, line_ended, fed_faulty}
+use Rattle.dk_lexer.specs.Steps.{step, lexer_after, lexer_ended, ends, after_end, line_of}
+use Rattle.dk_lexer.proofs.Agree.{after_more, adds_more, adds_end, line_after, line_ended}
 
 pub feed_after : (r : Result Fed NoMemory) (old new : Lexer) (b : ℕ) → OnOk r (new ≡ (step old b).lexer) → (limits : Limits) (bytes : List ℕ) → old ≡ lexer_after limits bytes → OnOk r (new ≡ lexer_after limits (bytes ++ b ∷ []))
 feed_after (Ok fed) old new b h limits bytes is = h ∙ ap (λ (l : Lexer). (step l b).lexer) is ∙ sym (after_more limits bytes b)
@@ -19,10 +18,6 @@ pub feed_fed : (r : Result Fed NoMemory) (old : Lexer) (b : ℕ) → IfOk r (λ 
 feed_fed (Ok fed) old b h limits bytes is =
     subst (λ (f : Fed). AddsTokens (tokens limits bytes broken) f (tokens limits (bytes ++ b ∷ []) broken)) (sym (h ∙ ap (λ (l : Lexer). (step l b).fed) is)) (adds_more limits bytes b)
 feed_fed (Err error) old b h limits bytes is = h
-
-pub feed_faulty : (r : Result Fed NoMemory) (old : Lexer) (b : ℕ) → IfOk r (λ fed. fed ≡ (step old b).fed) → (limits : Limits) (bytes : List ℕ) (code : Code) → old ≡ lexer_after limits bytes → (tokens limits bytes broken).fault ≡ Some code → IfOk r (λ fed. fed ≡ fed_fault code)
-feed_faulty (Ok fed) old b h limits bytes code is fault = h ∙ ap (λ (l : Lexer). (step l b).fed) is ∙ fed_faulty limits bytes b code fault
-feed_faulty (Err error) old b h limits bytes code is fault = h
 
 pub finish_fed : (fed : Fed) (old : Lexer) → fed ≡ ends old → (limits : Limits) (bytes : List ℕ) → old ≡ lexer_after limits bytes → AddsTokens (tokens limits bytes broken) fed (tokens limits bytes whole)
 finish_fed fed old h limits bytes is = subst (λ (f : Fed). AddsTokens (tokens limits bytes broken) f (tokens limits bytes whole)) (sym (h ∙ ap ends is)) (adds_end limits bytes)

@@ -1,5 +1,5 @@
--- What the lexer does with one byte, over its own state. The laws on it tie it to the tokens of the bytes so far.
-use Rattle.std.specs.Prelude.{ℕ, zero, suc, ◌+◌, ◌-◌, min, Bool, true, false, List, [], ◌∷◌, ◌++◌, length, codes, Option, Some, None, if◌then◌else◌, ◌==◌, nat_le, nat_lt, ◌||◌}
+-- For proofs: what the lexer does with one byte, over its own state. The laws on it tie it to the tokens of the bytes so far.
+use Rattle.std.specs.Prelude.{ℕ, zero, suc, ◌+◌, ◌-◌, min, Bool, true, false, List, [], ◌∷◌, ◌++◌, length, codes, Option, Some, None, if◌then◌else◌, ◌==◌, nat_le, nat_lt, ◌⊎◌, ◌≡◌}
 use Rattle.dk_model.specs.declared.code.Code.{Code}
 use Rattle.dk_model.specs.declared.code.Code.TheVariants.{E01, E03, E05}
 use Rattle.dk_model.specs.declared.limits.Limits.{Limits}
@@ -16,10 +16,10 @@ use Rattle.dk_lexer.specs.declared.part.Part.TheVariants as part
 use Rattle.dk_lexer.specs.declared.fed.Fed.{Fed}
 use Rattle.dk_lexer.specs.declared.fed.Begun.{Begun}
 use Rattle.dk_lexer.specs.declared.lexer.Lexer.{Lexer}
-use Rattle.dk_lexer.specs.Classes.{class_of, in_name}
+use Rattle.dk_lexer.specs.Classes.{class_of}
 use Rattle.dk_lexer.specs.Spelling.{kind_of, is_wildcard, Pair, opens, closes, apart, pair}
-use Rattle.dk_lexer.specs.Parts.{in_quoted}
-use Rattle.dk_lexer.specs.Tokens.{Bound, bound, behind, begin_of, command_after, token_at}
+use Rattle.dk_lexer.specs.Parts.{in_text}
+use Rattle.dk_lexer.specs.Tokens.{Bound, bound, behind, begin_of, broken, command_after, token_at, tokens, whole}
 
 -- what a byte gives by itself, and the lexer behind it
 pub record Move : Type 0 where
@@ -335,6 +335,12 @@ after_end l = record l { part = closed_part (ends l).fault }
 unfoldable pub lexer_ended : Limits → List ℕ → Lexer
 lexer_ended limits bytes = after_end (lexer_after limits bytes)
 
--- a byte of a name, a quoted name or a word
+-- the next byte belongs to a name, a quoted name or a word
 abbrev pub is_text : Lexer → ℕ → Bool
-is_text l b = in_name (class_of b) || in_quoted l.part (class_of b)
+is_text l b = in_text l.part (class_of b)
+
+-- the lexer gave this fault, for one of these bytes or for their end
+abbrev pub HasFailed : Lexer → Limits → List ℕ → Code → Type 0
+HasFailed l limits bytes code =
+    ((l ≡ lexer_after limits bytes) × ((tokens limits bytes broken).fault ≡ Some code))
+    ⊎ ((l ≡ lexer_ended limits bytes) × ((tokens limits bytes whole).fault ≡ Some code))

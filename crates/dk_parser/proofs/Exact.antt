@@ -378,11 +378,11 @@ only (reads_command {limits} {ts} {us} {c} {r} s w h) =
 
 -- More tokens
 
-parsing_append : (s : Parsing) (ts us : List Token) → parsing_from s (ts ++ us) ≡ parsing_from (parsing_from s ts) us
+pub parsing_append : (s : Parsing) (ts us : List Token) → parsing_from s (ts ++ us) ≡ parsing_from (parsing_from s ts) us
 parsing_append s [] us = refl
 parsing_append s (t ∷ ts) us = parsing_append (turn s t).state ts us
 
-commands_append : (s : Parsing) (ts us : List Token) → commands_from s (ts ++ us) ≡ commands_from s ts ++ commands_from (parsing_from s ts) us
+pub commands_append : (s : Parsing) (ts us : List Token) → commands_from s (ts ++ us) ≡ commands_from s ts ++ commands_from (parsing_from s ts) us
 commands_append s [] us = refl
 commands_append s (t ∷ ts) us =
     ap (λ cs. answered (turn s t).answer ++ cs) (commands_append (turn s t).state ts us)

@@ -1,9 +1,9 @@
 //! The public calls of the lexer.
-ghost use Rattle.std.specs.Prelude.{◌≡◌, ◌++◌, ◌∷◌, [], ℕ, List, Some, IfOk, OnOk, OnErr, IsTrue};
+ghost use Rattle.std.specs.Prelude.{◌≡◌, ◌++◌, ◌∷◌, [], ℕ, List, Ok, Some, IfOk, OnOk, OnErr, IsTrue};
 ghost use Rattle.dk_model.specs.declared.limits.Limits.{Limits};
 ghost use Rattle.dk_model.specs.declared.code.Code.{Code};
 ghost use Rattle.dk_lexer.specs.Tokens.{broken, whole, tokens};
-ghost use Rattle.dk_lexer.specs.Steps.{lexer_after, lexer_ended, is_text, fed_fault};
+ghost use Rattle.dk_lexer.specs.Steps.{HasFailed, lexer_after, lexer_ended, is_text, fed_fault};
 ghost use Rattle.dk_lexer.specs.Given.{AddsTokens, begun_line};
 
 use super::Lexer;
@@ -27,16 +27,18 @@ impl Lexer {
         }
     }
 
-    /// Takes the next byte: the tokens that it completes, and a fault if one stands there. After a fault every later
-    /// call answers no token and the same fault. Only a byte of a name, a quoted name or a word takes memory. After
-    /// `NoMemory` the lexer is of no use any more.
+    /// Takes the next byte: the tokens that it completes, and a fault if one stands there. After a fault, also one
+    /// that `finish` gave, every later call answers no token and the same fault. Only a byte of a name, a quoted name
+    /// or a word takes memory. After `NoMemory` the lexer is of no use any more.
     pub fn feed(&mut self, alloc: Global, byte: u8) -> Result<Fed, NoMemory>
         ensures after { (limits : Limits) (bytes : List ℕ) → self.old ≡ lexer_after limits bytes →
             OnOk result (self.new ≡ lexer_after limits (bytes ++ byte ∷ [])) }
         ensures fed { (limits : Limits) (bytes : List ℕ) → self.old ≡ lexer_after limits bytes →
-            IfOk result (λ fed. AddsTokens (tokens limits bytes broken) fed (tokens limits (bytes ++ byte ∷ []) broken)) }
-        ensures faulty { (limits : Limits) (bytes : List ℕ) (code : Code) → self.old ≡ lexer_after limits bytes →
-            (tokens limits bytes broken).fault ≡ Some code → IfOk result (λ fed. fed ≡ fed_fault code) }
+            IfOk result (λ fed. AddsTokens (tokens limits bytes broken) fed
+            (tokens limits (bytes ++ byte ∷ []) broken)) }
+        ensures faulty { (limits : Limits) (bytes : List ℕ) (code : Code) →
+            HasFailed self.old limits bytes code →
+            (result ≡ Ok (fed_fault code)) × (self.new ≡ self.old) }
         ensures memory { OnErr result (IsTrue (is_text self.old byte)) }
     {
         self.step(alloc, byte)
@@ -46,7 +48,11 @@ impl Lexer {
     pub fn finish(&mut self, alloc: Global) -> Fed
         ensures fed { (limits : Limits) (bytes : List ℕ) → self.old ≡ lexer_after limits bytes →
             AddsTokens (tokens limits bytes broken) result (tokens limits bytes whole) }
-        ensures after { (limits : Limits) (bytes : List ℕ) → self.old ≡ lexer_after limits bytes → self.new ≡ lexer_ended limits bytes }
+        ensures after { (limits : Limits) (bytes : List ℕ) → self.old ≡ lexer_after limits bytes →
+            self.new ≡ lexer_ended limits bytes }
+        ensures faulty { (limits : Limits) (bytes : List ℕ) (code : Code) →
+            HasFailed self.old limits bytes code →
+            (result ≡ fed_fault code) × (self.new ≡ self.old) }
     {
         self.ends(alloc)
     }
@@ -54,8 +60,10 @@ impl Lexer {
     /// The line of the fault, if one stands; else of the first byte of the token or the comment that has begun; else of
     /// the next byte. From 1.
     pub fn line(&self) -> u32
-        ensures begun { (limits : Limits) (bytes : List ℕ) → self.now ≡ lexer_after limits bytes → result ≡ begun_line limits bytes }
-        ensures ended { (limits : Limits) (bytes : List ℕ) → self.now ≡ lexer_ended limits bytes → result ≡ (tokens limits bytes whole).line }
+        ensures begun { (limits : Limits) (bytes : List ℕ) → self.now ≡ lexer_after limits bytes →
+            result ≡ begun_line limits bytes }
+        ensures ended { (limits : Limits) (bytes : List ℕ) → self.now ≡ lexer_ended limits bytes →
+            result ≡ (tokens limits bytes whole).line }
     {
         self.begun_line()
     }

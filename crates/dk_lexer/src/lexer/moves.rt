@@ -1,6 +1,6 @@
 //! What a byte does that begins, continues or ends a part.
 ghost use Rattle.std.specs.Prelude.{◌≡◌, ◌≤◌, ◌<◌, ◌+◌, [], ◌∷◌, false, None, Some, OnOk, IfOk, OnErr, IsTrue, ℕ};
-ghost use Rattle.dk_lexer.specs.Classes.{begins_name, in_name};
+ghost use Rattle.dk_lexer.specs.Classes.{begins_name};
 ghost use Rattle.dk_lexer.specs.Tokens.{behind, token_at};
 ghost use Rattle.dk_lexer.specs.Steps.{past, own, fails, takes, goes_on, completes, ended, begin_name, begin_by, begin};
 
@@ -142,7 +142,7 @@ impl Lexer {
     pub(super) fn begin(&mut self, alloc: Global, class: Class, byte: u8) -> Result<Begun, NoMemory>
         ensures begun { IfOk result (λ begun. begun ≡ (begin self.old class byte).begun) }
         ensures after { OnOk result (self.new ≡ (begin self.old class byte).lexer) }
-        ensures err { OnErr result (IsTrue (in_name class)) }
+        ensures err { OnErr result (IsTrue (begins_name class)) }
     {
         let here = self.here;
         self.first = here;

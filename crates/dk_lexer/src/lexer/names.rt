@@ -1,7 +1,6 @@
 //! Runs and qualified names.
 ghost use Rattle.std.specs.Prelude.{◌≡◌, ◌+◌, [], ◌∷◌, ◌++◌, codes, true, None, Some, OnOk, IfOk, OnErr, IsTrue, ◌⊎◌};
-ghost use Rattle.dk_lexer.specs.Classes.{in_name};
-ghost use Rattle.dk_lexer.specs.Parts.{in_quoted};
+ghost use Rattle.dk_lexer.specs.Classes.{begins_name, in_name};
 ghost use Rattle.dk_lexer.specs.Steps.{run_name, run_step, second_begins, dot_step, dot_ends, second_opens, brace_step, second_name, second_step, settles, sign_at};
 
 use super::Lexer;
@@ -25,7 +24,7 @@ impl Lexer {
     ) -> Result<Fed, NoMemory>
         ensures fed { IfOk result (λ fed. fed ≡ (settles self.old kind text class byte).fed) }
         ensures after { OnOk result (self.new ≡ (settles self.old kind text class byte).lexer) }
-        ensures err { OnErr result (IsTrue (in_name class)) }
+        ensures err { OnErr result (IsTrue (begins_name class)) }
     {
         let token = self.end(kind, text);
         let begun = self.begin(alloc, class, byte)?;
@@ -98,7 +97,7 @@ impl Lexer {
     ) -> Result<Fed, NoMemory>
         ensures fed { IfOk result (λ fed. fed ≡ (dot_step self.old text dot class byte).fed) }
         ensures after { OnOk result (self.new ≡ (dot_step self.old text dot class byte).lexer) }
-        ensures err { OnErr result (IsTrue (in_name class)) }
+        ensures err { OnErr result (IsTrue (begins_name class)) }
     {
         match class {
             Class::Letter | Class::Digit | Class::Underscore => self.second_begins(text, byte),
@@ -124,7 +123,7 @@ impl Lexer {
     ) -> Result<Fed, NoMemory>
         ensures fed { IfOk result (λ fed. fed ≡ (dot_ends self.old text dot class byte).fed) }
         ensures after { OnOk result (self.new ≡ (dot_ends self.old text dot class byte).lexer) }
-        ensures err { OnErr result (IsTrue (in_name class)) }
+        ensures err { OnErr result (IsTrue (begins_name class)) }
     {
         let kind = kind_of(text.as_slice());
         let run = self.token(kind, text);
@@ -165,7 +164,7 @@ impl Lexer {
     ) -> Result<Fed, NoMemory>
         ensures fed { IfOk result (λ fed. fed ≡ (brace_step self.old text dot brace class byte).fed) }
         ensures after { OnOk result (self.new ≡ (brace_step self.old text dot brace class byte).lexer) }
-        ensures err { OnErr result (IsTrue (in_name class) ⊎ (class ≡ Class.Bar)) }
+        ensures err { OnErr result (IsTrue (begins_name class) ⊎ (class ≡ Class.Bar)) }
     {
         match class {
             Class::Bar => self.second_opens(text, byte),

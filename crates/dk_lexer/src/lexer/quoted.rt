@@ -1,6 +1,6 @@
 //! Quoted names and words.
 ghost use Rattle.std.specs.Prelude.{◌≡◌, ◌+◌, [], ◌∷◌, ◌++◌, codes, true, None, Some, OnOk, IfOk, OnErr, IsTrue, ◌≢◌, ◌⊎◌};
-ghost use Rattle.dk_lexer.specs.Classes.{in_name};
+ghost use Rattle.dk_lexer.specs.Classes.{begins_name, is_letter_class};
 ghost use Rattle.dk_lexer.specs.Steps.{quoted_step, bar_more, bar_step, word_step, hash_step, open_step, goes_on};
 
 use super::Lexer;
@@ -111,7 +111,7 @@ impl Lexer {
     ) -> Result<Fed, NoMemory>
         ensures fed { IfOk result (λ fed. fed ≡ (open_step self.old class byte).fed) }
         ensures after { OnOk result (self.new ≡ (open_step self.old class byte).lexer) }
-        ensures err { OnErr result (IsTrue (in_name class) ⊎ (class ≡ Class.Bar)) }
+        ensures err { OnErr result (IsTrue (begins_name class) ⊎ (class ≡ Class.Bar)) }
     {
         match class {
             Class::Bar => self.quoted_opens(alloc, byte),
@@ -149,7 +149,7 @@ impl Lexer {
     ) -> Result<Fed, NoMemory>
         ensures fed { IfOk result (λ fed. fed ≡ (hash_step self.old class byte).fed) }
         ensures after { OnOk result (self.new ≡ (hash_step self.old class byte).lexer) }
-        ensures err { OnErr result (IsTrue (in_name class)) }
+        ensures err { OnErr result (IsTrue (is_letter_class class)) }
     {
         match class {
             Class::Letter => {
@@ -177,7 +177,7 @@ impl Lexer {
     ) -> Result<Fed, NoMemory>
         ensures fed { IfOk result (λ fed. fed ≡ (word_step self.old text class byte).fed) }
         ensures after { OnOk result (self.new ≡ (word_step self.old text class byte).lexer) }
-        ensures err { OnErr result (IsTrue (in_name class)) }
+        ensures err { OnErr result (IsTrue (begins_name class)) }
     {
         match class {
             Class::Letter => {

@@ -1,7 +1,7 @@
 //! What a byte does, by the part that is begun.
-ghost use Rattle.std.specs.Prelude.{◌≡◌, [], None, Some, OnOk, IfOk, OnErr, IsTrue, ◌||◌};
-ghost use Rattle.dk_lexer.specs.Classes.{in_name};
-ghost use Rattle.dk_lexer.specs.Parts.{in_quoted};
+ghost use Rattle.std.specs.Prelude.{◌≡◌, [], None, Some, OnOk, IfOk, OnErr, IsTrue};
+ghost use Rattle.dk_lexer.specs.Classes.{begins_name};
+ghost use Rattle.dk_lexer.specs.Parts.{in_text};
 ghost use Rattle.dk_lexer.specs.Spelling.{Pair, opens, closes, apart, pair};
 ghost use Rattle.dk_lexer.specs.Steps.{step, part_step, comment_pair, bracket_step, colon_step, equals_step, minus_step, two_minus_step, is_text};
 
@@ -37,7 +37,7 @@ impl Lexer {
     ) -> Result<Fed, NoMemory>
         ensures fed { IfOk result (λ fed. fed ≡ (part_step self.old part class byte).fed) }
         ensures after { OnOk result (self.new ≡ (part_step self.old part class byte).lexer) }
-        ensures err { OnErr result (IsTrue (in_name class || in_quoted part class)) }
+        ensures err { OnErr result (IsTrue (in_text part class)) }
     {
         match part {
             Part::Nothing => {
@@ -105,7 +105,7 @@ impl Lexer {
     fn bracket_step(&mut self, alloc: Global, class: Class, byte: u8) -> Result<Fed, NoMemory>
         ensures fed { IfOk result (λ fed. fed ≡ (bracket_step self.old class byte).fed) }
         ensures after { OnOk result (self.new ≡ (bracket_step self.old class byte).lexer) }
-        ensures err { OnErr result (IsTrue (in_name class)) }
+        ensures err { OnErr result (IsTrue (begins_name class)) }
     {
         match class {
             Class::Semicolon => {
@@ -129,7 +129,7 @@ impl Lexer {
     fn colon_step(&mut self, alloc: Global, class: Class, byte: u8) -> Result<Fed, NoMemory>
         ensures fed { IfOk result (λ fed. fed ≡ (colon_step self.old class byte).fed) }
         ensures after { OnOk result (self.new ≡ (colon_step self.old class byte).lexer) }
-        ensures err { OnErr result (IsTrue (in_name class)) }
+        ensures err { OnErr result (IsTrue (begins_name class)) }
     {
         match class {
             Class::Equals => Ok(self.sign(alloc, Sign::Defined, byte).one()),

@@ -1,8 +1,6 @@
-use Rattle.std.proofs.Common.{◌≡◌, inl, inr, [], refl, ap, sym, subst, ◌∙◌, List, ℕ}
+use Rattle.std.proofs.Common.{inl, inr, [], refl, subst}
 use Rattle.dk_model.specs.Limits.{standard}
-use Rattle.dk_model.specs.declared.limits.Limits.{Limits}
-use Rattle.dk_check_run.specs.Progress.{EndsOn, StandsAt}
-use Rattle.dk_check_run.specs.Run.{SinkState, Writes}
+use Rattle.dk_check_run.specs.Progress.{StandsAt}
 use Rattle.dk_check_run.specs.Theories.{checked_of}
 use Rattle.dk_check_run.proofs.answering.check_book.Goals as goal
 

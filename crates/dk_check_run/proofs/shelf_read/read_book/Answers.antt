@@ -1,8 +1,7 @@
-use Rattle.std.proofs.Common.{◌≡◌, ◌++◌, ◌∙◌, ap, refl, sym, subst, Option, Some, None}
-use Rattle.verdict_book.specs.declared.outcome.Outcome.{Outcome}
-use Rattle.dk_check_run.specs.Progress.{EndsByItself, IsStop, StandsAt}
+use Rattle.std.proofs.Common.{◌++◌, ◌∙◌, subst}
+use Rattle.dk_check_run.specs.Progress.{StandsAt}
 use Rattle.dk_check_run.proofs.Ends.{faults_held, itself_fault, missed_held, stop_itself}
-use Rattle.dk_check_run.proofs.Pieces.{given_all, given_ended, given_memory, given_more, given_none, given_stopped, given_unread}
+use Rattle.dk_check_run.proofs.Pieces.{given_all, given_ended, given_memory, given_more, given_stopped, given_unread}
 use Rattle.dk_check_run.proofs.shelf_read.read_book.Goals as goal
 
 pub returns-in-Err-clause-ends : goal.returns-in-Err-clause-ends

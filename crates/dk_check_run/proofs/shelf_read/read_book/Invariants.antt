@@ -1,4 +1,4 @@
-use Rattle.std.proofs.Common.{◌≡◌, ◌++◌, ℕ, List, [], Some, None, length}
+use Rattle.std.proofs.Common.{◌≡◌, ℕ, List, [], Some, None, length}
 use Rattle.dk_model.specs.declared.limits.Limits.{Limits}
 use Rattle.dk_check_run.specs.Progress.{IsReady, StandsAt}
 use Rattle.dk_check_run.proofs.Pieces.{Given}

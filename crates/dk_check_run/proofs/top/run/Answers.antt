@@ -11,6 +11,9 @@ returns-clause-decided g c = clause.own _ _ _ _ _ _ c.answer.ensures
 pub returns-clause-shelf_held : goal.returns-clause-shelf_held
 returns-clause-shelf_held g c = clause.shelf_held _ _ _ _ _ _ c.answer.ensures
 
+pub returns-clause-due : goal.returns-clause-due
+returns-clause-due g c = clause.due _ _ _ _ _ _ c.answer.ensures
+
 pub returns-clause-usage : goal.returns-clause-usage
 returns-clause-usage g c = clause.usage _ _ _ _ _ _ c.answer.ensures
 
@@ -23,23 +26,11 @@ returns-clause-untouched g c = clause.untouched _ _ _ _ _ _ c.answer.ensures
 pub returns-clause-shelf_failed : goal.returns-clause-shelf_failed
 returns-clause-shelf_failed g c = clause.shelf_failed _ _ _ _ _ _ c.answer.ensures
 
-pub returns-clause-memory : goal.returns-clause-memory
-returns-clause-memory g c = clause.memory _ _ _ _ _ _ c.answer.ensures
-
-pub returns-clause-memory_at_once : goal.returns-clause-memory_at_once
-returns-clause-memory_at_once g c = clause.memory_nothing _ _ _ _ _ _ c.answer.ensures
-
 pub returns-clause-sink_failed : goal.returns-clause-sink_failed
 returns-clause-sink_failed g c = clause.sink_failed _ _ _ _ _ _ c.answer.ensures
 
 pub returns-clause-sink_held : goal.returns-clause-sink_held
 returns-clause-sink_held g c = clause.sink_held _ _ _ _ _ _ c.answer.ensures
-
-pub returns-clause-cut : goal.returns-clause-cut
-returns-clause-cut g c = clause.cut _ _ _ _ _ _ c.answer.ensures
-
-pub returns-clause-usage_cut : goal.returns-clause-usage_cut
-returns-clause-usage_cut g c = clause.usage_cut _ _ _ _ _ _ c.answer.ensures
 
 pub returns-clause-statuses : goal.returns-clause-statuses
 returns-clause-statuses g c = clause.statuses _ _ _ _ _ _ c.answer.ensures

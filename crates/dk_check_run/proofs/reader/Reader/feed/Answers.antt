@@ -1,4 +1,4 @@
-use Rattle.std.proofs.Common.{◌≡◌, ◌≢◌, ◌++◌, ◌∷◌, [], ap, refl, subst, sym, ◌∙◌, Bool, true, false, Option, Some, None}
+use Rattle.std.proofs.Common.{◌≡◌, ◌≢◌, ◌++◌, ◌∷◌, [], ap, refl, sym, ◌∙◌, true, false, Option, Some, None}
 use Rattle.std.specs.Prelude.{is_some}
 use Rattle.dk_lexer.specs.Tokens.{broken, tokens}
 use Rattle.verdict_book.specs.declared.outcome.Outcome.{Outcome}

@@ -1,6 +1,4 @@
-use Rattle.std.proofs.Common.{◌≡◌, ap, sym, ◌∙◌}
 use Rattle.dk_lexer.specs.Tokens.{broken, tokens, whole}
-use Rattle.dk_check_run.specs.declared.reader.Reader.{Reader}
 use Rattle.dk_check_run.proofs.Bytes.{behind_lexer, going_ends, going_on, lexed_ends, stopped_ends}
 use Rattle.dk_check_run.proofs.reader.Reader.finish.Goals as goal
 

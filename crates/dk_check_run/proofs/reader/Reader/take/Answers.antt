@@ -1,4 +1,4 @@
-use Rattle.std.proofs.Common.{◌≡◌, ◌≢◌, ap, refl, subst, sym, ◌∙◌, Bool, true, false, Option, Some, None, ℕ}
+use Rattle.std.proofs.Common.{◌≡◌, ◌≢◌, ap, refl, subst, sym, ◌∙◌, true, false, Option, Some, None}
 use Rattle.std.specs.Prelude.{is_some, unwrap_or}
 use Rattle.dk_model.specs.declared.code.Code.{Code}
 use Rattle.dk_lexer.specs.Tokens.{tokens}

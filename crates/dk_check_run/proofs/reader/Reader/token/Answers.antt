@@ -4,7 +4,7 @@ use Rattle.dk_model.specs.declared.code.Verdict.TheVariants as verdict
 use Rattle.verdict_book.specs.declared.outcome.Outcome.TheVariants.{Stopped}
 use Rattle.dk_check_run.specs.Theories.{checked_of}
 use Rattle.dk_check_run.specs.declared.reader.Reader.{Reader}
-use Rattle.dk_check_run.proofs.Stands.{command_stands, fault_stands}
+use Rattle.dk_check_run.proofs.Stands.{command_stands, fault_stands, memory_stands}
 use Rattle.dk_check_run.proofs.reader.Reader.token.Goals as goal
 
 begun_is : (b : Option ℕ) (l d line : ℕ) → b ≡ Some l → line ≡ unwrap_or b d → Some line ≡ b
@@ -27,3 +27,10 @@ returns-in-Err-Refused-clause-stands c = λ limits budget bytes ending taken com
     (ap (λ (r : Reader). r.theory) c.stop_at.ensures)
     (ap (λ (r : Reader). r.stop) c.stop_at.ensures
     ∙ ap (λ code. Some (Stopped (length (checked_of c.args.self.now.theory).shown + 1) c.unwrap_or-line-in-Err-Refused.result (verdict.Refused code))) c.in-Err-Refused.code-is)
+
+pub returns-in-Err-NoMemory-clause-stands : goal.returns-in-Err-NoMemory-clause-stands
+returns-in-Err-NoMemory-clause-stands c = λ limits budget bytes ending taken coming all goes.
+    memory_stands limits budget bytes ending taken coming c.args.token c.args.self.now c.stop_at-in-Err-NoMemory.new.self c.unwrap_or-line.result all goes
+    (c.unwrap_or-line.ensures ∙ ap (λ o. unwrap_or o c.args.token.line) (c.begun.ensures limits taken goes.parser))
+    (ap (λ (r : Reader). r.theory) c.stop_at-in-Err-NoMemory.ensures)
+    (ap (λ (r : Reader). r.stop) c.stop_at-in-Err-NoMemory.ensures)

@@ -1,6 +1,4 @@
-use Rattle.std.proofs.Common.{◌≡◌, ◌++◌, [], List, ◌∙◌, sym, subst}
-use Rattle.dk_lexer.specs.Given.{with_token}
-use Rattle.dk_lexer.specs.Tokens.{tokens}
+use Rattle.std.proofs.Common.{List, ◌∙◌, sym, subst}
 use Rattle.dk_lexer.specs.declared.token.Token.{Token}
 use Rattle.dk_check_run.specs.Progress.{StandsAtTokens}
 use Rattle.dk_check_run.proofs.Lexes.{with_then}
