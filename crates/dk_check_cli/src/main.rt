@@ -1,21 +1,22 @@
-//! The program: the real shelf, sink and words, on a stack that is large enough; what it does is `dk_check_run::run`.
+//! The program: the real shelf, sink and words, on a stack that is large enough; what it does is `call::answer_call`.
 #![tactic(auto)]
 
-ghost use Rattle.std.specs.Prelude.{◌<◌};
+ghost use Rattle.std.specs.Prelude.{◌≡◌, ◌<◌};
+ghost use Rattle.std.specs.Process.{exit_status};
 
+mod call;
+
+use crate::call::answer_call;
 use dk_io::{OsShelf, OsSink};
 use std::env::Env;
 use std::fs::Files;
-use std::io::Print;
+use std::io::{ErrorKind, Print};
 use std::process::ExitCode;
 use std::thread::{self, Builder};
 use std::{env, io};
 
-// Where memory ends before the words are there.
-const NO_MEMORY: u8 = 4;
-
-// Where a word isn't UTF-8.
-const BAD_WORDS: u8 = 2;
+#[cfg(test)]
+mod tests;
 
 // Sizes of a stack in bytes, of which the first is taken that the system grants. Copying and comparing a term nest as deep as
 // the term, and evaluation makes terms as deep as memory lasts. A page of a stack takes memory only once it is used.
@@ -27,34 +28,39 @@ fn main(rt: HostRuntime) -> ExitCode {
         for size in STACKS {
             if let Ok(handle) = Builder::new()
                 .stack_size(size)
-                .spawn_scoped(scope, || status(&rt))
+                .spawn_scoped(scope, || status_of_call(&rt))
             {
                 return handle.join(&rt);
             }
         }
-        status(&rt)
+        status_of_call(&rt)
     });
+    exit_with(status)
+}
+
+fn exit_with(status: u8) -> ExitCode
+    ensures { exit_status result ≡ status }
+{
     ExitCode::from(status)
 }
 
-// Asks `run` for the words of this call, and answers its status (docs/report.md).
-fn status<R: Env + Files + Print + AllocGlobal>(rt: &R) -> u8
+// The words of this call, the program's name first.
+fn words_of_call<R: Env + AllocGlobal>(rt: &R) -> Result<Vec<String>, ErrorKind> {
+    match env::args(rt) {
+        Ok(words) => match words.collect(rt.alloc()) {
+            Ok(words) => Ok(words),
+            Err(_) => Err(ErrorKind::OutOfMemory),
+        },
+        Err(error) => Err(error.kind()),
+    }
+}
+
+// Answers this call, with the files of the system and standard output (docs/report.md).
+fn status_of_call<R: Env + Files + Print + AllocGlobal>(rt: &R) -> u8
     ensures statuses { result < 7 }
 {
-    let alloc = rt.alloc();
-    let words: Vec<String> = match env::args(rt) {
-        Ok(words) => match words.collect(alloc) {
-            Ok(words) => words,
-            Err(_) => return NO_MEMORY,
-        },
-        Err(error) => {
-            return match error.kind() {
-                io::ErrorKind::OutOfMemory => NO_MEMORY,
-                _ => BAD_WORDS,
-            };
-        }
-    };
+    let words = words_of_call(rt);
     let mut shelf = OsShelf::new(rt);
     let mut sink = OsSink::new(io::writer(rt));
-    dk_check_run::run(alloc, words.as_slice(), &mut shelf, &mut sink)
+    answer_call(rt.alloc(), &words, &mut shelf, &mut sink)
 }

@@ -14,7 +14,7 @@ use Rattle.dk_check_run.specs.Answers.{Answers, SameCounts, asks_nothing, memory
 use Rattle.dk_check_run.specs.Counts.{MayRiseAtUnread, RoseAtUnread}
 use Rattle.dk_check_run.specs.Outcomes.{FileReport}
 use Rattle.dk_check_run.specs.Progress.{EndsOn}
-use Rattle.dk_check_run.specs.Run.{AsksFor, HasHeld, IsDecided, IsDue, ReportsFile, ShelfState, SinkState, Writes, WritesDue, memory_at_once, of_a_failed_opening, of_a_failed_read, of_memory, of_no_memory, of_the_file, report_for, text_of, unopened}
+use Rattle.dk_check_run.specs.Run.{AsksFor, HasHeld, HasShelfFault, IsDecided, IsDue, ReportsFile, ShelfState, SinkState, Writes, WritesDue, memory_at_once, of_a_failed_opening, of_a_failed_read, of_memory, of_no_memory, of_the_file, report_for, text_of, unopened}
 use Rattle.dk_check_run.proofs.Memory.{told}
 
 same_request : {request : Option Request} {q r : Request} → request ≡ Some q → request ≡ Some r → q ≡ r
@@ -223,7 +223,7 @@ unread_of (Stopped n line verdict.Ended) e before now rose = absurd (omega (arit
 unread_of (Stopped n line verdict.Memory) e before now rose = absurd (omega (arith, e))
 
 pub shelf_failed : (request : Option Request) (old new : ShelfState) (before after : SinkState) (result : ℕ) → Answers request old new before after result
-    → result ≡ 3 → (q : Request) × (request ≡ Some q) × (((new.left ≡ old.left) × Rose (old.missed q.file) (new.missed q.file) × (after.taken ≡ added before.taken (unopened q.file))) ⊎ Rose old.faults new.faults)
+    → result ≡ 3 → (q : Request) × (request ≡ Some q) × HasShelfFault q old new before after
 shelf_failed request old new before after result (asks_nothing none same writes) is = let f : result ≡ 2 = is_status writes (three_five is) in absurd (omega (arith, is, f))
 shelf_failed request old new before after result (memory_ended same writes) is = let f : result ≡ 4 = is_status writes (three_five is) in absurd (omega (arith, is, f))
 shelf_failed request old new before after result (not_opened q e left rose writes) is = (q, e, inl (left, rose, writes.whole (three_five is)))

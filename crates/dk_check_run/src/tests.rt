@@ -221,8 +221,8 @@ fn reports_each_file(rt: HostRuntime) -> Result<(), Fail> {
         let mut shelf = shelf_of(alloc, text, 4096, &[])?;
         let mut sink = MemSink::new(alloc, 1000, 4096, Vec::new(alloc))?;
         let got = run(alloc, words.as_slice(), &mut shelf, &mut sink);
-        assert_eq!(rt; sink.bytes(), report.as_bytes());
-        assert_eq!(rt; got, *status);
+        assert_eq!(rt; sink.bytes(), report.as_bytes(), "at {text}");
+        assert_eq!(rt; got, *status, "at {text}");
     }
     Ok(())
 }
@@ -284,8 +284,8 @@ fn counts_units(rt: HostRuntime) -> Result<(), Fail> {
         let mut shelf = shelf_of(alloc, text, 4096, &[])?;
         let mut sink = MemSink::new(alloc, 1000, 4096, Vec::new(alloc))?;
         let got = run(alloc, words.as_slice(), &mut shelf, &mut sink);
-        assert_eq!(rt; sink.bytes(), report.as_bytes());
-        assert_eq!(rt; got, *status);
+        assert_eq!(rt; sink.bytes(), report.as_bytes(), "at {budget} of {text}");
+        assert_eq!(rt; got, *status, "at {budget} of {text}");
     }
     Ok(())
 }
@@ -471,8 +471,11 @@ fn answers_each_failure(rt: HostRuntime) -> Result<(), Fail> {
         failing.push(row.sink_call)?;
         let mut sink = MemSink::new(alloc, 1000, row.sink_piece, failing)?;
         let status = run(alloc, words.as_slice(), &mut shelf, &mut sink);
-        assert_eq!(rt; sink.bytes(), row.taken.as_bytes());
-        assert_eq!(rt; status, row.status);
+        let (shelf_call, sink_call) = (row.shelf_call, row.sink_call);
+        assert_eq!(rt; sink.bytes(), row.taken.as_bytes(),
+            "calls {shelf_call} and {sink_call} fail at {}", row.text);
+        assert_eq!(rt; status, row.status,
+            "calls {shelf_call} and {sink_call} fail at {}", row.text);
     }
     Ok(())
 }

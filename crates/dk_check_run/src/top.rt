@@ -3,11 +3,11 @@ ghost use Rattle.std.specs.Prelude.{◌≡◌, ◌≢◌, ◌⊎◌, ◌<◌, �
 ghost use Rattle.std.specs.String.{string_bytes};
 ghost use Rattle.command_line.specs.Requests.{Request, request_of};
 ghost use Rattle.command_line.specs.Usage.{usage_text};
-ghost use Rattle.dk_io.specs.Bytes.{added};
 ghost use Rattle.dk_io.specs.Causes.{Rose};
 ghost use Rattle.dk_check_run.specs.Run.{
   AsksFor,
   HasHeld,
+  HasShelfFault,
   IsDecided,
   IsFileDerived,
   ReportsFile,
@@ -16,7 +16,6 @@ ghost use Rattle.dk_check_run.specs.Run.{
   memory_at_once,
   shelf_state,
   sink_state,
-  unopened,
 };
 
 use crate::answering::answer;
@@ -70,10 +69,9 @@ pub fn run<H: Shelf, K: Sink>(alloc: Global, words: &[String], shelf: &mut H, si
     // 3 is for a fault of the shelf, also of one that tells no bytes: an opening of that name, or a read.
     ensures shelf_failed { result ≡ 3 → (q : Request)
         × (request_of (map string_bytes words.now) ≡ Some q)
-        × (((H.left shelf.new ≡ H.left shelf.old)
-        × Rose (H.missed shelf.old q.file) (H.missed shelf.new q.file)
-        × (K.taken sink.new ≡ added (K.taken sink.old) (unopened q.file)))
-        ⊎ Rose (H.faults shelf.old) (H.faults shelf.new)) }
+        × HasShelfFault q (shelf_state H.books H.left H.faults H.missed shelf.old)
+        (shelf_state H.books H.left H.faults H.missed shelf.new)
+        (sink_state K.taken K.faults sink.old) (sink_state K.taken K.faults sink.new) }
 
     // 5 is for a fault of the sink, and there is none elsewhere.
     ensures sink_failed { result ≡ 5 → Rose (K.faults sink.old) (K.faults sink.new) }

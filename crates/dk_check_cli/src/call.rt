@@ -1,0 +1,39 @@
+//! What a call of the program does, over any shelf and sink.
+ghost use Rattle.std.specs.Prelude.{◌≡◌, ◌<◌, IfErr, IfOk, map};
+ghost use Rattle.std.specs.String.{string_bytes};
+ghost use Rattle.command_line.specs.Requests.{request_of};
+ghost use Rattle.dk_check_run.specs.Run.{Runs, shelf_state, sink_state};
+ghost use Rattle.dk_check_cli.specs.Calls.{status_without_words};
+
+use dk_io::{Shelf, Sink};
+use std::alloc::Global;
+use std::io::ErrorKind;
+
+// Where memory ends before the words are there.
+const NO_MEMORY: u8 = 4;
+
+// Where a word isn't UTF-8.
+const BAD_WORDS: u8 = 2;
+
+/// Asks `run` for these words and answers its status. Where the words couldn't be had, the kind of the error decides, and
+/// nothing is read or written.
+pub fn answer_call<H: Shelf, K: Sink>(
+    alloc: Global,
+    words: &Result<Vec<String>, ErrorKind>,
+    shelf: &mut H,
+    sink: &mut K,
+) -> u8
+    ensures given { IfOk words.now (λ w. Runs (request_of (map string_bytes w.items))
+        (shelf_state H.books H.left H.faults H.missed shelf.old)
+        (shelf_state H.books H.left H.faults H.missed shelf.new)
+        (sink_state K.taken K.faults sink.old) (sink_state K.taken K.faults sink.new) result) }
+    ensures missing { IfErr words.now (λ kind. (result ≡ status_without_words kind)
+        × (shelf.new ≡ shelf.old) × (sink.new ≡ sink.old)) }
+    ensures statuses { result < 7 }
+{
+    match words {
+        Ok(words) => dk_check_run::run(alloc, words.as_slice(), shelf, sink),
+        Err(ErrorKind::OutOfMemory) => NO_MEMORY,
+        Err(_) => BAD_WORDS,
+    }
+}
