@@ -1,5 +1,5 @@
 -- What inference and checking give, from what their parts gave.
-use Rattle.std.proofs.Common.{List, [], ◌∷◌, ◌≡◌, ℕ, false, refl, ap, ◌∙◌, sym as flip}
+use Rattle.std.proofs.Common.{List, ◌∷◌, ◌≡◌, ℕ, false, refl, ap, ◌∙◌, sym as flip}
 use Rattle.dk_model.specs.Trees.{Tree, bare, annotated, product}
 use Rattle.dk_model.specs.Substitution.{substitute}
 use Rattle.dk_model.specs.Erasure.{erased}

@@ -93,5 +93,5 @@ not_abstraction denotes r (Prod a b) h = refl
 pub last_smaller : {R T : Type 0} (denotes : R → T → Tree) (r : R) (ts us : List T) (t : T) (n : ℕ) → ts ≡ us ++ t ∷ [] → total_size (map (denotes r) ts) < n → size (denotes r t) < n
 last_smaller denotes r ts us t n e h =
     let q : total_size (map (denotes r) ts) ≡ total_size (map (denotes r) us) + size (denotes r t) =
-        ap (λ x. total_size (map (denotes r) x)) e ∙ ap total_size (map_pushed (denotes r) us t) ∙ total_pushed (map (denotes r) us) (denotes r t) in
+    ap (λ x. total_size (map (denotes r) x)) e ∙ ap total_size (map_pushed (denotes r) us t) ∙ total_pushed (map (denotes r) us) (denotes r t) in
     omega (arith, q, h)

@@ -16,7 +16,7 @@ module _ {R T : Type 0} (owns : R → T → Type 0) (denotes : R → T → Tree)
       let o : OwnsParts owns mid (App f a) = subst (OwnsParts owns mid) e p in
       let e1 : map (denotes new) left ≡ map (denotes new) items ++ denotes new a ∷ [] = ap (map (denotes new)) q ∙ map_pushed (denotes new) items a in
       let e2 : wound (built denotes new next) (map (denotes new) items ++ denotes new a ∷ []) ≡ wound (apply (built denotes new next) (denotes new a)) (map (denotes new) items) =
-          wound_pushed (built denotes new next) (denotes new a) (map (denotes new) items) in
+      wound_pushed (built denotes new next) (denotes new a) (map (denotes new) items) in
       let e3 : map (denotes new) items ≡ map (denotes mid) items = types_kept mid new items k h in
       let e4 : denotes new a ≡ denotes mid a = k.same a o.1 in
       let e5 : built denotes mid head ≡ apply (denotes mid f) (denotes mid a) = ap (built denotes mid) e in

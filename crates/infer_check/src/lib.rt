@@ -13,4 +13,7 @@ mod variables;
 
 pub use checking::check;
 pub use context::Context;
+pub use expect::{as_product, not_kind};
 pub use inference::{infer, sort_of};
+pub use product::Product;
+pub use variables::{symbol_type, variable_type};

@@ -1,5 +1,5 @@
 -- Each step, from the state of the reducer before it to that at the start.
-use Rattle.std.proofs.Common.{rules, ◌≡◌, ◌∙◌, ◌∷◌, sym as flip, ap, refl, subst, map}
+use Rattle.std.proofs.Common.{rules, ◌∙◌, ◌∷◌, sym as flip, ap, refl, subst, map}
 use Rattle.dk_model.specs.Trees.{product}
 use Rattle.dk_model.specs.Substitution.{substitute}
 use Rattle.dk_model.specs.Erasure.{erased}
@@ -31,10 +31,10 @@ checking::check_annotated-returns-in_err-infer_domain-clause-gives g t c =
     let S = entries_of c.args.v.now in
     let D = g.R.Reducer.denotes in
     let p = annotated_domain_fails S (rule_types D c.args.r.now c.args.context.now) (bound_types D c.args.r.now c.args.context.now) c.in_err-infer_domain.field-0.0
-        (D c.args.r.now c.args.annotation) (D c.args.r.now c.args.body) (D c.args.r.now c.args.expected.now) (D c.as_product.new.r c.in_ok-function.function.domain)
-        (D c.as_product.new.r c.in_ok-function.function.codomain) c.args.left.now c.as_product.new.left c.in_ok-function.ensures.gives.0
-        (fails_is c.in_err-infer_domain.field-0.0 _ _ (flip (domain_same S c.as_product.new.left (rule_types_moved c.args.r.now c.erase.new.self k c.args.context.now c.args.context.now c.requires.context refl)
-        (bound_types_moved c.args.r.now c.erase.new.self k c.args.context.now c.args.context.now c.requires.context refl) (k.same c.args.annotation c.requires.annotation))) c.in_err-infer_domain.ensures.gives) in
+    (D c.args.r.now c.args.annotation) (D c.args.r.now c.args.body) (D c.args.r.now c.args.expected.now) (D c.as_product.new.r c.in_ok-function.function.domain)
+    (D c.as_product.new.r c.in_ok-function.function.codomain) c.args.left.now c.as_product.new.left c.in_ok-function.ensures.gives.0
+    (fails_is c.in_err-infer_domain.field-0.0 _ _ (flip (domain_same S c.as_product.new.left (rule_types_moved c.args.r.now c.erase.new.self k c.args.context.now c.args.context.now c.requires.context refl)
+    (bound_types_moved c.args.r.now c.erase.new.self k c.args.context.now c.args.context.now c.requires.context refl) (k.same c.args.annotation c.requires.annotation))) c.in_err-infer_domain.ensures.gives) in
     search rules
 
 pub checking::check_annotated-returns-in_err-as_same-clause-gives : goal.checking::check_annotated-returns-in_err-as_same-clause-gives
@@ -53,11 +53,11 @@ checking::check_annotated-returns-in_err-as_same-clause-gives g t c =
     let i = c.infer_domain.new.r in
     let kqi = keeps_further q e i c.in_ok-erased.ensures.keeps c.in_ok-infer_domain.ensures.keeps in
     let fits = flip (domain_same S c.as_product.new.left (rule_types_moved r e ke x x c.requires.context refl) (bound_types_moved r e ke x x c.requires.context refl)
-        (ke.same c.args.annotation c.requires.annotation)) ∙ c.in_ok-infer_domain.ensures.gives in
+    (ke.same c.args.annotation c.requires.annotation)) ∙ c.in_ok-infer_domain.ensures.gives in
     let alike = same_same S c.infer_domain.new.left (flip (c.in_ok-infer_domain.ensures.keeps.same c.in_ok-erased.erased c.in_ok-erased.ensures.makes.1 ∙ c.in_ok-erased.ensures.makes.0
-        ∙ ap erased (kp.same c.args.annotation c.requires.annotation))) (flip (kqi.same fn.domain c.in_ok-function.ensures.gives.1)) in
+    ∙ ap erased (kp.same c.args.annotation c.requires.annotation))) (flip (kqi.same fn.domain c.in_ok-function.ensures.gives.1)) in
     let p = annotated_same_fails S V G c.in_err-as_same.field-0.0 (D r c.args.annotation) (D r c.args.body) (D r c.args.expected.now) (D q fn.domain) (D q fn.codomain)
-        c.args.left.now c.as_product.new.left c.infer_domain.new.left c.in_ok-function.ensures.gives.0 fits (fails_is c.in_err-as_same.field-0.0 _ _ alike c.in_err-as_same.ensures.gives) in
+    c.args.left.now c.as_product.new.left c.infer_domain.new.left c.in_ok-function.ensures.gives.0 fits (fails_is c.in_err-as_same.field-0.0 _ _ alike c.in_err-as_same.ensures.gives) in
     search rules
 
 pub checking::check_annotated-check_taken-fits-requires : goal.checking::check_annotated-check_taken-fits-requires
@@ -76,9 +76,9 @@ checking::check_annotated-check_taken-fits-requires g t c =
     let i = c.infer_domain.new.r in
     let kqi = keeps_further q e i c.in_ok-erased.ensures.keeps c.in_ok-infer_domain.ensures.keeps in
     let fits = flip (domain_same S c.as_product.new.left (rule_types_moved r e ke x x c.requires.context refl) (bound_types_moved r e ke x x c.requires.context refl)
-        (ke.same c.args.annotation c.requires.annotation)) ∙ c.in_ok-infer_domain.ensures.gives in
+    (ke.same c.args.annotation c.requires.annotation)) ∙ c.in_ok-infer_domain.ensures.gives in
     let alike = same_same S c.infer_domain.new.left (flip (c.in_ok-infer_domain.ensures.keeps.same c.in_ok-erased.erased c.in_ok-erased.ensures.makes.1 ∙ c.in_ok-erased.ensures.makes.0
-        ∙ ap erased (kp.same c.args.annotation c.requires.annotation))) (flip (kqi.same fn.domain c.in_ok-function.ensures.gives.1)) in
+    ∙ ap erased (kp.same c.args.annotation c.requires.annotation))) (flip (kqi.same fn.domain c.in_ok-function.ensures.gives.1)) in
     let a = c.as_same.new.r in
     let kqa = keeps_further q i a kqi c.in_ok-as_same.ensures.keeps in
     let ka = keeps_further r q a kp kqa in
@@ -106,21 +106,21 @@ checking::check_annotated-returns-clause-gives g t c =
     let i = c.infer_domain.new.r in
     let kqi = keeps_further q e i c.in_ok-erased.ensures.keeps c.in_ok-infer_domain.ensures.keeps in
     let fits = flip (domain_same S c.as_product.new.left (rule_types_moved r e ke x x c.requires.context refl) (bound_types_moved r e ke x x c.requires.context refl)
-        (ke.same c.args.annotation c.requires.annotation)) ∙ c.in_ok-infer_domain.ensures.gives in
+    (ke.same c.args.annotation c.requires.annotation)) ∙ c.in_ok-infer_domain.ensures.gives in
     let alike = same_same S c.infer_domain.new.left (flip (c.in_ok-infer_domain.ensures.keeps.same c.in_ok-erased.erased c.in_ok-erased.ensures.makes.1 ∙ c.in_ok-erased.ensures.makes.0
-        ∙ ap erased (kp.same c.args.annotation c.requires.annotation))) (flip (kqi.same fn.domain c.in_ok-function.ensures.gives.1)) in
+    ∙ ap erased (kp.same c.args.annotation c.requires.annotation))) (flip (kqi.same fn.domain c.in_ok-function.ensures.gives.1)) in
     let a = c.as_same.new.r in
     let kqa = keeps_further q i a kqi c.in_ok-as_same.ensures.keeps in
     let ka = keeps_further r q a kp kqa in
     let b = c.bind.new.self in
     let bound = c.in_ok-bind.ensures.ok ∙ ap (λ y. with_bound y fn.domain) c.in_ok-infer_domain.ensures.kept in
     fit_is c.check_taken-fits.result c.check_taken-fits.new.left
-        (annotated_body S V G (D r c.args.annotation) (D r c.args.body) (D r c.args.expected.now) (D q fn.domain) (D q fn.codomain)
-            c.args.left.now c.as_product.new.left c.infer_domain.new.left c.as_same.new.left c.in_ok-function.ensures.gives.0 fits (alike ∙ c.in_ok-as_same.ensures.gives)
-        ∙ flip (checked_same S c.as_same.new.left (rule_types_under r a ka x b c.requires.context fn.domain bound)
-            (bound_types_under r a ka x b c.requires.context fn.domain bound ∙ ap (λ y. y ∷ G) (kqa.same fn.domain c.in_ok-function.ensures.gives.1))
-            (ka.same c.args.body c.requires.body) (kqa.same fn.codomain c.in_ok-function.ensures.gives.2)))
-        c.check_taken-fits.ensures.gives
+    (annotated_body S V G (D r c.args.annotation) (D r c.args.body) (D r c.args.expected.now) (D q fn.domain) (D q fn.codomain)
+    c.args.left.now c.as_product.new.left c.infer_domain.new.left c.as_same.new.left c.in_ok-function.ensures.gives.0 fits (alike ∙ c.in_ok-as_same.ensures.gives)
+    ∙ flip (checked_same S c.as_same.new.left (rule_types_under r a ka x b c.requires.context fn.domain bound)
+    (bound_types_under r a ka x b c.requires.context fn.domain bound ∙ ap (λ y. y ∷ G) (kqa.same fn.domain c.in_ok-function.ensures.gives.1))
+    (ka.same c.args.body c.requires.body) (kqa.same fn.codomain c.in_ok-function.ensures.gives.2)))
+    c.check_taken-fits.ensures.gives
 
 pub checking::check_bare-check_taken-fits-requires : goal.checking::check_bare-check_taken-fits-requires
 checking::check_bare-check_taken-fits-requires g t c =
@@ -152,10 +152,10 @@ checking::check_bare-returns-clause-gives g t c =
     let k = c.in_ok-function.ensures.keeps in
     let b = c.bind.new.self in
     fit_is c.check_taken-fits.result c.check_taken-fits.new.left
-        (bare_body S V G (D r c.args.body) (D r c.args.expected.now) (D q fn.domain) (D q fn.codomain) c.args.left.now c.as_product.new.left c.in_ok-function.ensures.gives.0
-        ∙ flip (checked_same S c.as_product.new.left (rule_types_under r q k x b c.requires.context fn.domain c.in_ok-bind.ensures.ok)
-            (bound_types_under r q k x b c.requires.context fn.domain c.in_ok-bind.ensures.ok) (k.same c.args.body c.requires.body) refl))
-        c.check_taken-fits.ensures.gives
+    (bare_body S V G (D r c.args.body) (D r c.args.expected.now) (D q fn.domain) (D q fn.codomain) c.args.left.now c.as_product.new.left c.in_ok-function.ensures.gives.0
+    ∙ flip (checked_same S c.as_product.new.left (rule_types_under r q k x b c.requires.context fn.domain c.in_ok-bind.ensures.ok)
+    (bound_types_under r q k x b c.requires.context fn.domain c.in_ok-bind.ensures.ok) (k.same c.args.body c.requires.body) refl))
+    c.check_taken-fits.ensures.gives
 
 pub checking::check_taken-check_bare-requires : goal.checking::check_taken-check_bare-requires
 checking::check_taken-check_bare-requires g t c =
@@ -220,8 +220,8 @@ checking::check_taken-returns-in_err-found-in_default g t c =
     let err = c.in_err-found-in_default.ensures in
     let a = ap is_abstraction node.0 ∙ not_abstraction D o c.in_ok-other.other c.in_default.not-Abs in
     let p = check_infer_fails S V G c.in_err-found-in_default.field-0.0 (D r c.args.term) (D r c.args.expected.now) c.args.left.now a
-        (fails_is c.in_err-found-in_default.field-0.0 _ _ (flip (inferred_same S c.args.left.now (rule_types_moved r o k x x c.requires.context refl)
-            (bound_types_moved r o k x x c.requires.context refl) (flip node.0))) err.gives) in
+    (fails_is c.in_err-found-in_default.field-0.0 _ _ (flip (inferred_same S c.args.left.now (rule_types_moved r o k x x c.requires.context refl)
+    (bound_types_moved r o k x x c.requires.context refl) (flip node.0))) err.gives) in
     record { gives = search rules; keeps = keeps_further r o c.infer_node.new.r k err.keeps; serves = err.serves; kept = err.kept }
 
 pub checking::check_taken-returns-in-None-clause-gives : goal.checking::check_taken-returns-in-None-clause-gives
@@ -236,10 +236,10 @@ checking::check_taken-returns-in-None-clause-gives g t c =
     let k = c.in_ok-other.ensures.keeps in
     let node = c.in_ok-other.ensures.node in
     fit_is c.check_bare.result c.check_bare.new.left
-        (flip (checked_same S c.args.left.now (rule_types_moved r o k x x c.requires.context refl) (bound_types_moved r o k x x c.requires.context refl)
-            (flip (opened_bare g.R.Reducer.owns D o c.in_ok-other.other c.in-Abs.annotation c.in-Abs.b (D r c.args.term) c.in-Abs.is c.in-None.is node.0))
-            (k.same c.args.expected.now c.requires.expected)))
-        c.check_bare.ensures.gives
+    (flip (checked_same S c.args.left.now (rule_types_moved r o k x x c.requires.context refl) (bound_types_moved r o k x x c.requires.context refl)
+    (flip (opened_bare g.R.Reducer.owns D o c.in_ok-other.other c.in-Abs.annotation c.in-Abs.b (D r c.args.term) c.in-Abs.is c.in-None.is node.0))
+    (k.same c.args.expected.now c.requires.expected)))
+    c.check_bare.ensures.gives
 
 pub checking::check_taken-returns-in-Some-clause-gives : goal.checking::check_taken-returns-in-Some-clause-gives
 checking::check_taken-returns-in-Some-clause-gives g t c =
@@ -253,10 +253,10 @@ checking::check_taken-returns-in-Some-clause-gives g t c =
     let k = c.in_ok-other.ensures.keeps in
     let node = c.in_ok-other.ensures.node in
     fit_is c.check_annotated.result c.check_annotated.new.left
-        (flip (checked_same S c.args.left.now (rule_types_moved r o k x x c.requires.context refl) (bound_types_moved r o k x x c.requires.context refl)
-            (flip (opened_annotated g.R.Reducer.owns D o c.in_ok-other.other c.in-Abs.annotation c.in-Abs.b c.in-Some.d (D r c.args.term) c.in-Abs.is c.in-Some.is node.0))
-            (k.same c.args.expected.now c.requires.expected)))
-        c.check_annotated.ensures.gives
+    (flip (checked_same S c.args.left.now (rule_types_moved r o k x x c.requires.context refl) (bound_types_moved r o k x x c.requires.context refl)
+    (flip (opened_annotated g.R.Reducer.owns D o c.in_ok-other.other c.in-Abs.annotation c.in-Abs.b c.in-Some.d (D r c.args.term) c.in-Abs.is c.in-Some.is node.0))
+    (k.same c.args.expected.now c.requires.expected)))
+    c.check_annotated.ensures.gives
 
 pub inference::apply-check_taken-requires : goal.inference::apply-check_taken-requires
 inference::apply-check_taken-requires g t c =
@@ -293,9 +293,9 @@ inference::apply-returns-in_err-check_taken-clause-gives g t c =
     let kqp = c.in_ok-found.ensures.keeps in
     let k = keeps_further r q p kq kqp in
     let fits = flip (checked_same S c.as_product.new.left (rule_types_moved r p k x x c.requires.context refl) (bound_types_moved r p k x x c.requires.context refl)
-        (k.same c.args.argument c.requires.argument) (kqp.same fn.domain c.in_ok-function.ensures.gives.1)) in
+    (k.same c.args.argument c.requires.argument) (kqp.same fn.domain c.in_ok-function.ensures.gives.1)) in
     let h = argument_check_fails S V G c.in_err-check_taken.field-0.0 (D r c.args.argument) (D r c.args.typ) (D q fn.domain) (D q fn.codomain) c.args.left.now c.as_product.new.left
-        c.in_ok-function.ensures.gives.0 (fails_is c.in_err-check_taken.field-0.0 _ _ fits c.in_err-check_taken.ensures.gives) in
+    c.in_ok-function.ensures.gives.0 (fails_is c.in_err-check_taken.field-0.0 _ _ fits c.in_err-check_taken.ensures.gives) in
     search rules
 
 pub inference::apply-returns-clause-gives : goal.inference::apply-returns-clause-gives
@@ -313,14 +313,15 @@ inference::apply-returns-clause-gives g t c =
     let kqp = c.in_ok-found.ensures.keeps in
     let k = keeps_further r q p kq kqp in
     let fits = flip (checked_same S c.as_product.new.left (rule_types_moved r p k x x c.requires.context refl) (bound_types_moved r p k x x c.requires.context refl)
-        (k.same c.args.argument c.requires.argument) (kqp.same fn.domain c.in_ok-function.ensures.gives.1)) in
+    (k.same c.args.argument c.requires.argument) (kqp.same fn.domain c.in_ok-function.ensures.gives.1)) in
     let kf = c.in_ok-check_taken.ensures.keeps in
-    let found = c.in_ok-found.found in
-    (argument_given_type S V G (D r c.args.argument) (D r c.args.typ) (D q fn.domain) (D q fn.codomain) c.args.left.now c.as_product.new.left c.check_taken.new.left
-        c.in_ok-function.ensures.gives.0 (fits ∙ c.in_ok-check_taken.ensures.gives)
-    ∙ ap (λ y. answer y c.check_taken.new.left) (flip (kf.same found c.in_ok-found.ensures.makes.1 ∙ c.in_ok-found.ensures.makes.0
-        ∙ ap (λ y. substitute 0 (erased y) (D q fn.codomain)) (kq.same c.args.argument c.requires.argument))),
-    kf.own found c.in_ok-found.ensures.makes.1)
+    let found = c.in_ok-found.found in (
+      argument_given_type S V G (D r c.args.argument) (D r c.args.typ) (D q fn.domain) (D q fn.codomain) c.args.left.now c.as_product.new.left c.check_taken.new.left
+          c.in_ok-function.ensures.gives.0 (fits ∙ c.in_ok-check_taken.ensures.gives)
+          ∙ ap (λ y. answer y c.check_taken.new.left) (flip (kf.same found c.in_ok-found.ensures.makes.1 ∙ c.in_ok-found.ensures.makes.0
+          ∙ ap (λ y. substitute 0 (erased y) (D q fn.codomain)) (kq.same c.args.argument c.requires.argument))),
+      kf.own found c.in_ok-found.ensures.makes.1,
+    )
 
 pub inference::infer_abstraction-infer_domain-requires : goal.inference::infer_abstraction-infer_domain-requires
 inference::infer_abstraction-infer_domain-requires g t c =
@@ -375,12 +376,12 @@ inference::infer_abstraction-returns-in_err-found-clause-gives g t c =
     let b = c.bind.new.self in
     let bound = c.in_ok-bind.ensures.ok ∙ ap (λ y. with_bound y c.in_ok-erased.erased) c.in_ok-infer_domain.ensures.kept in
     let fits = flip (domain_same S c.args.left.now (rule_types_moved r e ke x x c.requires.context refl) (bound_types_moved r e ke x x c.requires.context refl)
-        (ke.same c.args.domain c.requires.domain)) ∙ c.in_ok-infer_domain.ensures.gives in
+    (ke.same c.args.domain c.requires.domain)) ∙ c.in_ok-infer_domain.ensures.gives in
     let typed = flip (inferred_same S c.infer_domain.new.left (rule_types_under r i k x b c.requires.context c.in_ok-erased.erased bound)
-        (bound_types_under r i k x b c.requires.context c.in_ok-erased.erased bound ∙ ap (λ y. y ∷ G) (kei.same c.in_ok-erased.erased made.1 ∙ made.0))
-        (k.same c.args.body c.requires.body)) in
+    (bound_types_under r i k x b c.requires.context c.in_ok-erased.erased bound ∙ ap (λ y. y ∷ G) (kei.same c.in_ok-erased.erased made.1 ∙ made.0))
+    (k.same c.args.body c.requires.body)) in
     let h = abstraction_body_fails S V G c.in_err-found.field-0.0 (D r c.args.domain) (D r c.args.body) c.args.left.now c.infer_domain.new.left fits
-        (fails_is c.in_err-found.field-0.0 _ _ typed c.in_err-found.ensures.gives) in
+    (fails_is c.in_err-found.field-0.0 _ _ typed c.in_err-found.ensures.gives) in
     search rules
 
 pub inference::infer_abstraction-returns-in_err-codomain-clause-gives : goal.inference::infer_abstraction-returns-in_err-codomain-clause-gives
@@ -400,12 +401,12 @@ inference::infer_abstraction-returns-in_err-codomain-clause-gives g t c =
     let b = c.bind.new.self in
     let bound = c.in_ok-bind.ensures.ok ∙ ap (λ y. with_bound y c.in_ok-erased.erased) c.in_ok-infer_domain.ensures.kept in
     let fits = flip (domain_same S c.args.left.now (rule_types_moved r e ke x x c.requires.context refl) (bound_types_moved r e ke x x c.requires.context refl)
-        (ke.same c.args.domain c.requires.domain)) ∙ c.in_ok-infer_domain.ensures.gives in
+    (ke.same c.args.domain c.requires.domain)) ∙ c.in_ok-infer_domain.ensures.gives in
     let typed = flip (inferred_same S c.infer_domain.new.left (rule_types_under r i k x b c.requires.context c.in_ok-erased.erased bound)
-        (bound_types_under r i k x b c.requires.context c.in_ok-erased.erased bound ∙ ap (λ y. y ∷ G) (kei.same c.in_ok-erased.erased made.1 ∙ made.0))
-        (k.same c.args.body c.requires.body)) in
+    (bound_types_under r i k x b c.requires.context c.in_ok-erased.erased bound ∙ ap (λ y. y ∷ G) (kei.same c.in_ok-erased.erased made.1 ∙ made.0))
+    (k.same c.args.body c.requires.body)) in
     let h = abstraction_kind_fails S V G c.in_err-codomain.field-0.0 (D r c.args.domain) (D r c.args.body) (D c.infer_taken-found.new.r c.in_ok-found.field-0) c.args.left.now
-        c.infer_domain.new.left c.infer_taken-found.new.left fits (typed ∙ c.in_ok-found.ensures.gives.0) (c.in_err-codomain.ensures.gives c.infer_taken-found.new.left) in
+    c.infer_domain.new.left c.infer_taken-found.new.left fits (typed ∙ c.in_ok-found.ensures.gives.0) (c.in_err-codomain.ensures.gives c.infer_taken-found.new.left) in
     search rules
 
 pub inference::infer_abstraction-build-requires : goal.inference::infer_abstraction-build-requires
@@ -447,19 +448,19 @@ inference::infer_abstraction-returns-clause-gives g t c =
     let b = c.bind.new.self in
     let bound = c.in_ok-bind.ensures.ok ∙ ap (λ y. with_bound y c.in_ok-erased.erased) c.in_ok-infer_domain.ensures.kept in
     let fits = flip (domain_same S c.args.left.now (rule_types_moved r e ke x x c.requires.context refl) (bound_types_moved r e ke x x c.requires.context refl)
-        (ke.same c.args.domain c.requires.domain)) ∙ c.in_ok-infer_domain.ensures.gives in
+    (ke.same c.args.domain c.requires.domain)) ∙ c.in_ok-infer_domain.ensures.gives in
     let typed = flip (inferred_same S c.infer_domain.new.left (rule_types_under r i k x b c.requires.context c.in_ok-erased.erased bound)
-        (bound_types_under r i k x b c.requires.context c.in_ok-erased.erased bound ∙ ap (λ y. y ∷ G) (kei.same c.in_ok-erased.erased made.1 ∙ made.0))
-        (k.same c.args.body c.requires.body)) in
+    (bound_types_under r i k x b c.requires.context c.in_ok-erased.erased bound ∙ ap (λ y. y ∷ G) (kei.same c.in_ok-erased.erased made.1 ∙ made.0))
+    (k.same c.args.body c.requires.body)) in
     let n = c.not_kind.new.r in
     let ken = keeps_further e c.infer_taken-found.new.r n (keeps_further e i c.infer_taken-found.new.r kei c.in_ok-found.ensures.keeps) c.in_ok-codomain.ensures.keeps in
-    let back = c.leave-domain.ensures x c.in_ok-erased.erased (c.infer_taken-found.ensures.kept ∙ bound) in
-    (abstraction_given S V G (D r c.args.domain) (D r c.args.body) (D c.infer_taken-found.new.r c.in_ok-found.field-0) (D n c.in_ok-codomain.codomain) c.args.left.now
-        c.infer_domain.new.left c.infer_taken-found.new.left fits (typed ∙ c.in_ok-found.ensures.gives.0) (c.in_ok-codomain.ensures.gives c.infer_taken-found.new.left).0
-    ∙ ap (λ y. answer y c.infer_taken-found.new.left) (flip (c.in_ok-build.ensures.makes.0 ∙ ap (λ y. product y (D n c.in_ok-codomain.codomain))
-        (ap (D n) back.1 ∙ ken.same c.in_ok-erased.erased made.1 ∙ made.0))),
-    c.in_ok-build.ensures.makes.1)
-
+    let back = c.leave-domain.ensures x c.in_ok-erased.erased (c.infer_taken-found.ensures.kept ∙ bound) in (
+      abstraction_given S V G (D r c.args.domain) (D r c.args.body) (D c.infer_taken-found.new.r c.in_ok-found.field-0) (D n c.in_ok-codomain.codomain) c.args.left.now
+          c.infer_domain.new.left c.infer_taken-found.new.left fits (typed ∙ c.in_ok-found.ensures.gives.0) (c.in_ok-codomain.ensures.gives c.infer_taken-found.new.left).0
+          ∙ ap (λ y. answer y c.infer_taken-found.new.left) (flip (c.in_ok-build.ensures.makes.0 ∙ ap (λ y. product y (D n c.in_ok-codomain.codomain))
+          (ap (D n) back.1 ∙ ken.same c.in_ok-erased.erased made.1 ∙ made.0))),
+      c.in_ok-build.ensures.makes.1,
+    )
 
 pub inference::infer_node-apply-requires : goal.inference::infer_node-apply-requires
 inference::infer_node-apply-requires g t c =
@@ -493,9 +494,9 @@ inference::infer_node-returns-in_err-typ-2-clause-gives g t c =
     let rest = map (D at) c.pop.new.self.items in
     let F = D at c.loop-argument.typ in
     let h = fails_is f _ _ (flip (argument_same S {a = D at a} {A = F} n (rule_types_moved r at l.keeps x c.loop-argument.context c.requires.context l.kept)
-        (bound_types_moved r at l.keeps x c.loop-argument.context c.requires.context l.kept) refl refl)) c.in_err-typ-2.ensures.gives in
+    (bound_types_moved r at l.keeps x c.loop-argument.context c.requires.context l.kept) refl refl)) c.in_err-typ-2.ensures.gives in
     let p = fails_is f _ _ (flip l.same ∙ ap (λ y. along S V G y F n) (ap (map (D at)) c.in-Some.ensures.items ∙ map_pushed (D at) c.pop.new.self.items a))
-        (argument_fails S V G f rest (D at a) F n h) in
+    (argument_fails S V G f rest (D at a) F n h) in
     search rules
 
 pub inference::infer_product-infer_domain-requires : goal.inference::infer_product-infer_domain-requires
@@ -551,12 +552,12 @@ inference::infer_product-returns-in_err-found-clause-gives g t c =
     let b = c.bind.new.self in
     let bound = c.in_ok-bind.ensures.ok ∙ ap (λ y. with_bound y c.in_ok-erased.erased) c.in_ok-infer_domain.ensures.kept in
     let fits = flip (domain_same S c.args.left.now (rule_types_moved r e ke x x c.requires.context refl) (bound_types_moved r e ke x x c.requires.context refl)
-        (ke.same c.args.domain c.requires.domain)) ∙ c.in_ok-infer_domain.ensures.gives in
+    (ke.same c.args.domain c.requires.domain)) ∙ c.in_ok-infer_domain.ensures.gives in
     let typed = flip (inferred_same S c.infer_domain.new.left (rule_types_under r i k x b c.requires.context c.in_ok-erased.erased bound)
-        (bound_types_under r i k x b c.requires.context c.in_ok-erased.erased bound ∙ ap (λ y. y ∷ G) (kei.same c.in_ok-erased.erased made.1 ∙ made.0))
-        (k.same c.args.codomain c.requires.codomain)) in
+    (bound_types_under r i k x b c.requires.context c.in_ok-erased.erased bound ∙ ap (λ y. y ∷ G) (kei.same c.in_ok-erased.erased made.1 ∙ made.0))
+    (k.same c.args.codomain c.requires.codomain)) in
     let h = product_codomain_fails S V G c.in_err-found.field-0.0 (D r c.args.domain) (D r c.args.codomain) c.args.left.now c.infer_domain.new.left fits
-        (fails_is c.in_err-found.field-0.0 _ _ typed c.in_err-found.ensures.gives) in
+    (fails_is c.in_err-found.field-0.0 _ _ typed c.in_err-found.ensures.gives) in
     search rules
 
 pub inference::infer_product-returns-clause-gives : goal.inference::infer_product-returns-clause-gives
@@ -576,14 +577,14 @@ inference::infer_product-returns-clause-gives g t c =
     let b = c.bind.new.self in
     let bound = c.in_ok-bind.ensures.ok ∙ ap (λ y. with_bound y c.in_ok-erased.erased) c.in_ok-infer_domain.ensures.kept in
     let fits = flip (domain_same S c.args.left.now (rule_types_moved r e ke x x c.requires.context refl) (bound_types_moved r e ke x x c.requires.context refl)
-        (ke.same c.args.domain c.requires.domain)) ∙ c.in_ok-infer_domain.ensures.gives in
+    (ke.same c.args.domain c.requires.domain)) ∙ c.in_ok-infer_domain.ensures.gives in
     let typed = flip (inferred_same S c.infer_domain.new.left (rule_types_under r i k x b c.requires.context c.in_ok-erased.erased bound)
-        (bound_types_under r i k x b c.requires.context c.in_ok-erased.erased bound ∙ ap (λ y. y ∷ G) (kei.same c.in_ok-erased.erased made.1 ∙ made.0))
-        (k.same c.args.codomain c.requires.codomain)) in
+    (bound_types_under r i k x b c.requires.context c.in_ok-erased.erased bound ∙ ap (λ y. y ∷ G) (kei.same c.in_ok-erased.erased made.1 ∙ made.0))
+    (k.same c.args.codomain c.requires.codomain)) in
     type_is g.R.Reducer.owns D c.as_sort.new.r c.as_sort.result c.as_sort.new.left
-        (product_sort S V G (D r c.args.domain) (D r c.args.codomain) (D c.infer_taken-found.new.r c.in_ok-found.field-0) c.args.left.now
-            c.infer_domain.new.left c.infer_taken-found.new.left fits (typed ∙ c.in_ok-found.ensures.gives.0))
-        c.as_sort.ensures.gives
+    (product_sort S V G (D r c.args.domain) (D r c.args.codomain) (D c.infer_taken-found.new.r c.in_ok-found.field-0) c.args.left.now
+    c.infer_domain.new.left c.infer_taken-found.new.left fits (typed ∙ c.in_ok-found.ensures.gives.0))
+    c.as_sort.ensures.gives
 
 pub inference::infer_taken-infer_node-requires : goal.inference::infer_taken-infer_node-requires
 inference::infer_taken-infer_node-requires g t c =
