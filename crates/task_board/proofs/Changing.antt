@@ -1,5 +1,5 @@
 -- What a call that adds an event owes to the slot, and what its pass shows afterwards.
-use Rattle.std.proofs.Common.{◌≡◌, ℕ, zero, suc, ◌-◌, Bool, true, false, List, [], ◌∷◌, ◌++◌, length, drop, sym, refl, ap, ◌∙◌, subst, arith, inl, inr, ⊎_elim, All}
+use Rattle.std.proofs.Common.{◌≡◌, ℕ, zero, suc, ◌-◌, Bool, true, false, List, [], ◌∷◌, ◌++◌, length, drop, sym, refl, ap, ◌∙◌, subst, inl, inr, ⊎_elim, All}
 use Rattle.std.specs.Prelude.{slice_get, Some}
 use Rattle.std.proofs.lemmas.List.Elements.{All-append}
 use Rattle.std.proofs.Math.Seq.{drop-append_seam}
@@ -13,15 +13,8 @@ use Rattle.ticket_slot.specs.Views.{StartsWith, AddsOne, at_turn, child, with_ti
 use Rattle.ticket_slot.specs.declared.view.View.{View}
 use Rattle.task_board.specs.Histories.{maker, tagged, log_of, IsLegalLog}
 use Rattle.task_board.specs.Passes.{Adds, IsNew, Sees, TakesTurn}
+use Rattle.task_board.proofs.Alls.{all_one}
 use Rattle.task_board.proofs.Logs.{events_log, log_snoc, mine_snoc, starts_then}
-
-pub all_one : {A : Type 0} (P : A → Type 0) (x : A) → P x → All P (x ∷ [])
-all_one P x p zero d h = p
-all_one P x p (suc k) d h = absurd (omega arith)
-
--- what holds of all and of one more
-pub all_put : {A : Type 0} (P : A → Type 0) (xs ys : List A) (x : A) → ys ≡ xs ++ x ∷ [] → All P xs → P x → All P ys
-all_put P xs ys x is all p = subst (All P) (sym is) (All-append P xs (x ∷ []) all (all_one P x p))
 
 get_longer : {A : Type 0} (xs ys : List A) (k : ℕ) (y : A) → slice_get xs k ≡ Some y → slice_get (xs ++ ys) k ≡ Some y
 get_longer [] ys k y e = cc

@@ -5,7 +5,7 @@ use native.Mathlib.Decide.{dec_le, ℕ_discrete}
 use Rattle.std.specs.List.{list_any, count_by, Any}
 use Rattle.std.proofs.lemmas.Bool.{eqb-true}
 use Rattle.std.proofs.lemmas.List.{nil_from_length, map-append}
-use Rattle.std.proofs.lemmas.List.Elements.{All-cons, All-map}
+use Rattle.std.proofs.lemmas.List.Elements.{All-map}
 use Rattle.std.proofs.lemmas.List.Sums.{sum_by-append}
 use Rattle.dk_model.specs.declared.code.Verdict.{Verdict}
 use Rattle.board_core.specs.declared.event.Event.{Event}
@@ -18,6 +18,7 @@ use Rattle.ticket_slot.specs.declared.view.Ended.{Ended}
 use Rattle.ticket_slot.specs.declared.view.View.{View}
 use Rattle.task_board.specs.Histories.{tagged, log_of, events_in, IsLegalLog}
 use Rattle.task_board.specs.Passes.{IsIdle, IsOver}
+use Rattle.task_board.proofs.Alls.{tail_all}
 use Rattle.task_board.proofs.Logs.{none_whole}
 use Rattle.task_board.proofs.Changing.{log_legal}
 use Rattle.task_board.proofs.Reading.{events_from, seal_whole}
@@ -40,9 +41,6 @@ own_end ((Seal e) ∷ es) = refl
 
 pub same_end : (n : ℕ) (es : List Event) (mine : List (ℕ × Event)) → n ≡ 0 → calls_by n (log_of es) ≡ mine → end_of es ≡ end_of (events_in mine)
 same_end n es mine first is = sym (own_end es) ∙ (ap (λ k. end_of (events_in (calls_by k (log_of es)))) (sym first) ∙ ap (λ l. end_of (events_in l)) is)
-
-tail_all : {A : Type 0} (P : A → Type 0) (y : A) (xs : List A) → All P (y ∷ xs) → All P xs
-tail_all P y xs all k d h = all (suc k) d (omega arith)
 
 -- where a test counts one, some element passes it
 pub counted : {A : Type 0} (p : A → Bool) (P : A → Type 0) (xs : List A) → All P xs → count_by p xs ≡ 1 → (x : A) × (p x ≡ true) × P x
@@ -87,14 +85,6 @@ module _ {J : Type 0} where
       → EndsIn (log_of es) jobs (ended_of x) → IsOver x → IsFinished (marks_of jobs) es
   closed due early es jobs v ended x legal first idle sealed reader all once others ends over = finished (marks_of jobs) es (seal_whole v.number es v.mine true first reader.2 sealed)
       (none_held es jobs v ended first idle reader all once others) (stays_over es jobs x legal.lawful legal.all_put ends.0 ends.1 over)
-
-split_all : {A : Type 0} (P : A → Type 0) (xs : List A) (x : A) → All P (xs ++ x ∷ []) → All P xs × P x
-split_all {A = A} P [] x all = ((λ k d h. absurd (omega arith)), all zero x (omega arith))
-split_all {A = A} P (y ∷ xs) x all = let t = split_all P xs x (tail_all P y (xs ++ x ∷ []) all) in (All-cons P y xs (all zero y (omega arith)) t.0, t.1)
-
--- what holds of all holds of the last and of those before it
-pub all_take : {A : Type 0} (P : A → Type 0) (xs ys : List A) (x : A) → ys ≡ xs ++ x ∷ [] → All P ys → All P xs × P x
-all_take P xs ys x is all = split_all P xs x (subst (All P) is all)
 
 all_of_map : {A B : Type 0} (P : B → Type 0) (g : A → B) (xs : List A) → All P (map g xs) → All (λ x. P (g x)) xs
 all_of_map P g [] all k d h = absurd (omega arith)

@@ -1,3 +1,4 @@
+pub mod Alls
 pub mod Logs
 pub mod Changing
 mod Claiming

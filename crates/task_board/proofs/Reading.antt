@@ -18,8 +18,9 @@ use Rattle.ticket_slot.specs.Views.{StartsWith, IsReader, calls_by}
 use Rattle.ticket_slot.specs.declared.view.View.{View}
 use Rattle.task_board.specs.Histories.{maker, tagged, log_of, events_in, IsLegalLog}
 use Rattle.task_board.specs.Passes.{Adds, IsIdle, PutRefusedTold, PutTold, TakesTurn, new_reader}
+use Rattle.task_board.proofs.Alls.{all_one}
 use Rattle.task_board.proofs.Logs.{events_log, own_any, starts_self}
-use Rattle.task_board.proofs.Changing.{all_one, changed, changed_adds, changed_turn, legal_more, log_legal, looked, looked_turn}
+use Rattle.task_board.proofs.Changing.{changed, changed_adds, changed_turn, legal_more, log_legal, looked, looked_turn}
 use Rattle.task_board.proofs.Claiming.{legal_then}
 
 pub seal_made : (e : Event) → is_seal e ≡ true → maker e ≡ 0

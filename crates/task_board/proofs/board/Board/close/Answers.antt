@@ -3,7 +3,8 @@ use lib.ListN.{length-map}
 use Rattle.std.proofs.lemmas.List.{nil_from_length}
 use Rattle.std.proofs.Common.{append-nil}
 use Rattle.ticket_slot.specs.Views.{ended_of}
-use Rattle.task_board.proofs.Closing.{all_take, join_kept, join_moves, join_ends, together}
+use Rattle.task_board.proofs.Alls.{all_take}
+use Rattle.task_board.proofs.Closing.{join_kept, join_moves, join_ends, together}
 use Rattle.task_board.proofs.board.Board.close.Goals as goal
 
 pub loop-pass-init : goal.loop-pass-init

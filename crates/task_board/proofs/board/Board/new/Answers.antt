@@ -2,7 +2,8 @@ use Rattle.std.proofs.Common.{rules, sym, subst, ap, ◌≡◌, ◌+◌, ◌∙�
 use Rattle.std.proofs.lemmas.List.Elements.{All-nil}
 use Rattle.task_board.specs.Passes.{IsNew, new_reader}
 use Rattle.ticket_slot.specs.Views.{parent}
-use Rattle.task_board.proofs.Changing.{all_put, new_pass}
+use Rattle.task_board.proofs.Alls.{all_put}
+use Rattle.task_board.proofs.Changing.{new_pass}
 use Rattle.task_board.proofs.Reading.{new_readers}
 use Rattle.task_board.proofs.board.Board.new.Goals as goal
 

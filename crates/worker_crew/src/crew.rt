@@ -1,0 +1,141 @@
+//! Several workers beside the reader.
+ghost use Rattle.std.specs.Prelude.{◌≡◌, ◌≤◌, [], All, OnOk, length, vec_capacity, vec_len};
+ghost use Rattle.task_board.specs.Passes.{IsIdle, IsOver};
+
+use crate::worker::work;
+use board_core::{Checker, Gate};
+use dk_model::{Listed, NoMemory};
+use std::alloc::Global;
+use std::snapshot::Snapshot;
+use std::sync::Wait;
+use std::thread;
+use std::thread::{Promise, Threads};
+use task_board::{Board, WorkerPass};
+
+/// What a worker's thread gives back for the pass that it was given.
+struct Returned<C: Checker> {
+    given: Snapshot<WorkerPass<C>>,
+}
+
+impl<C: Checker> Drop for Returned<C> {
+    fn drop(self) {
+        let Returned { given: _ } = self;
+    }
+}
+
+impl<C: Checker> Promise<WorkerPass<C>> for Returned<C> {
+    ghost use Rattle.std.specs.Prelude.{◌≡◌};
+    ghost use Rattle.task_board.specs.Passes.{IsIdle, IsOver};
+
+    ghost kept_by = { λ p r. (r.seat.table_id ≡ p.given.value.seat.table_id)
+        × IsIdle r.seat.me.0 × IsOver r.seat.me.0 };
+}
+
+/// Starts a worker for each pass, lets the reader read, works itself with the passes whose threads
+/// couldn't be made, and gives all passes back with what the reader gave. The reader has to seal the
+/// board, or no worker ends. Where there is no memory for the workers' handles no thread is made.
+pub fn run_crew<
+    R: Threads + Wait + Sync,
+    C: Checker + Send + Sync,
+    G: Gate + Sync,
+    T,
+    D: FnOnce() -> T,
+>(
+    rt: &R,
+    alloc: Global,
+    board: &Board<C>,
+    passes: Listed<WorkerPass<C>>,
+    checker: &C,
+    gate: &G,
+    read: D,
+) -> (T, Listed<WorkerPass<C>>)
+where
+    C::Job: Drop + Send + Sync,
+    requires idle { All (λ p. (p.seat.table_id ≡ board.now) × IsIdle p.seat.me.0) passes }
+    requires read { D.pre read }
+    ensures read { D.post read result.0 }
+    ensures count { length result.1 ≡ length passes }
+    ensures over { All (λ p. (p.seat.table_id ≡ board.now)
+        × IsIdle p.seat.me.0 × IsOver p.seat.me.0) result.1 }
+{
+    thread::scope(
+        thread::scope_env(),
+        rt,
+        move |scope| -> (T, Listed<WorkerPass<C>>)
+            requires { All (λ p. (p.seat.table_id ≡ board.now) × IsIdle p.seat.me.0) passes
+                × D.pre read }
+            ensures { D.post read result.0 × (length result.1 ≡ length passes)
+                × All (λ p. (p.seat.table_id ≡ board.entry.now)
+                × IsIdle p.seat.me.0 × IsOver p.seat.me.0) result.1 }
+        {
+            let mut passes = passes.into_vec();
+            let mut handles = Vec::new(alloc);
+            let mut late = Vec::new(alloc);
+            let Ok(()) = make_room(&mut handles, &mut late, passes.len()) else {
+                let given = read();
+                let passes = work_off(rt, board, passes, checker, gate);
+                return (given, Listed::from_vec(passes));
+            };
+            while let Some(pass) = passes.pop() {
+                let given = Snapshot::of(&pass);
+                match scope.spawn_with(
+                    Returned { given },
+                    move || -> WorkerPass<C>
+                        requires { (pass.seat.table_id ≡ board.now) × IsIdle pass.seat.me.0 }
+                        ensures { (result.seat.table_id ≡ pass.seat.table_id)
+                            × IsIdle result.seat.me.0 × IsOver result.seat.me.0 }
+                    { work(rt, board, pass, checker, gate) },
+                ) {
+                    Ok(child) => handles.push_reserved(child),
+                    Err(refused) => late.push_reserved(refused.value),
+                }
+            }
+            let given = read();
+            while let Some(worker) = late.pop() {
+                passes.push_reserved(worker());
+            }
+            while let Some(child) = handles.pop() {
+                passes.push_reserved(child.join(rt));
+            }
+            let _kept = board;
+            (given, Listed::from_vec(passes))
+        },
+    )
+}
+
+/// Makes room for so many handles and so many workers that weren't started.
+fn make_room<H, L>(handles: &mut Vec<H>, late: &mut Vec<L>, count: usize) -> Result<(), NoMemory>
+    requires { (handles.old.items ≡ []) × (late.old.items ≡ []) }
+    ensures handles { handles.new.items ≡ [] }
+    ensures late { late.new.items ≡ [] }
+    ensures handles_room { OnOk result (count ≤ vec_capacity handles.new) }
+    ensures late_room { OnOk result (count ≤ vec_capacity late.new) }
+{
+    handles.reserve(count)?;
+    late.reserve(count)?;
+    Ok(())
+}
+
+/// Works with all passes here, one after the other.
+fn work_off<R: Wait, C: Checker, G: Gate>(
+    rt: &R,
+    board: &Board<C>,
+    mut passes: Vec<WorkerPass<C>>,
+    checker: &C,
+    gate: &G,
+) -> Vec<WorkerPass<C>>
+where
+    C::Job: Drop,
+    requires waiting { All (λ p. (p.seat.table_id ≡ board.now) × IsIdle p.seat.me.0) passes.items }
+    ensures count { vec_len result ≡ vec_len passes }
+    ensures room { vec_capacity result ≡ vec_capacity passes }
+    ensures over { All (λ p. (p.seat.table_id ≡ board.now)
+        × IsIdle p.seat.me.0 × IsOver p.seat.me.0) result.items }
+{
+    let count = passes.len();
+    for turn in 0..count {
+        let pass = passes.remove(0);
+        passes.push_reserved(work(rt, board, pass, checker, gate));
+    }
+    passes
+}

@@ -1,0 +1,12 @@
+//! The workers of a board: what one does with its pass, and how several run beside the reader.
+//!
+//! A worker claims, checks the job while it has no turn at the board, and answers, until nothing can
+//! be claimed any more (docs/board.md). Begin at `work`, then `run_crew`.
+#![tactic(auto)]
+
+mod crew;
+mod patience;
+mod worker;
+
+pub use crew::run_crew;
+pub use worker::work;

@@ -1,0 +1,53 @@
+//! What a worker does with its pass.
+ghost use Rattle.std.specs.Prelude.{◌≡◌, ◌⊎◌};
+ghost use Rattle.dk_model.specs.declared.code.Verdict.TheVariants.{Memory};
+ghost use Rattle.task_board.specs.Passes.{IsIdle, IsOver};
+
+use crate::patience::Patience;
+use board_core::{Checker, Claimed, Gate};
+use dk_model::Verdict;
+use std::sync::Wait;
+use task_board::{Board, WorkerPass};
+
+/// Claims, checks and answers until nothing can be claimed and the board is sealed or stopped. While
+/// nothing can be claimed yet it rests, longer from time to time, and asks again.
+pub fn work<R: Wait, C: Checker, G: Gate>(
+    rt: &R,
+    board: &Board<C>,
+    mut pass: WorkerPass<C>,
+    checker: &C,
+    gate: &G,
+) -> WorkerPass<C>
+where
+    C::Job: Drop,
+    requires own { pass.seat.table_id ≡ board.now }
+    requires idle { IsIdle pass.seat.me.0 }
+    ensures own { result.seat.table_id ≡ board.now }
+    ensures number { result.number ≡ pass.number }
+    ensures idle { IsIdle result.seat.me.0 }
+    ensures over { IsOver result.seat.me.0 }
+{
+    let mut patience = Patience::new();
+    for _ in rt.forever() {
+        match board.claim(rt, &mut pass) {
+            Claimed::Over => return pass,
+            Claimed::Empty => patience.rest(),
+            Claimed::Task(task) => {
+                let verdict = gated(checker, gate, task.number, &*task.job);
+                board.answer(rt, &mut pass, task, verdict);
+                patience = Patience::new();
+            }
+        }
+    }
+    unreachable!()
+}
+
+/// The verdict of the job, between the two calls of the gate.
+fn gated<C: Checker, G: Gate>(checker: &C, gate: &G, number: u32, job: &C::Job) -> Verdict
+    ensures { (result ≡ C.due job.now) ⊎ (result ≡ Memory) }
+{
+    gate.enter(number);
+    let verdict = checker.check(job);
+    gate.leave(number);
+    verdict
+}
