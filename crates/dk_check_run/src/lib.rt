@@ -10,4 +10,6 @@ mod top;
 pub use top::run;
 
 #[cfg(test)]
+mod rule_tests;
+#[cfg(test)]
 mod tests;

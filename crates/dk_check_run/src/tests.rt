@@ -192,7 +192,12 @@ const FILES: [(&str, u8, &str); 57] = [
     ),
 ];
 
-fn shelf_of(alloc: Global, text: &str, piece: usize, failing: &[u64]) -> Result<MemShelf, Fail>
+pub(crate) fn shelf_of(
+    alloc: Global,
+    text: &str,
+    piece: usize,
+    failing: &[u64],
+) -> Result<MemShelf, Fail>
     requires { 0 < piece }
 {
     let book = Book {
@@ -204,7 +209,7 @@ fn shelf_of(alloc: Global, text: &str, piece: usize, failing: &[u64]) -> Result<
     Ok(MemShelf::new(alloc, books, piece, Vec::from_slice(alloc, failing)?)?)
 }
 
-fn words_of(alloc: Global, words: &[&str]) -> Result<Vec<String>, Fail> {
+pub(crate) fn words_of(alloc: Global, words: &[&str]) -> Result<Vec<String>, Fail> {
     let mut all = Vec::new(alloc);
     all.push(String::from_str(alloc, "dk_check")?)?;
     for word in words {

@@ -4,7 +4,7 @@ use Rattle.std.proofs.lemmas.Bool.Decides.{nat_tests}
 use Rattle.std.specs.Prelude.{slice_get, slice_set, replicate, not}
 use Rattle.dk_model.specs.Trees.{Tree, apply, bare, annotated, product}
 use Rattle.dk_model.specs.Substitution.{shift, equal}
-use Rattle.dk_model.specs.Signatures.{rule_variable_pattern, guard_pattern, PlainRule, PlainSignature}
+use Rattle.dk_model.specs.Signatures.{rule_variable_pattern, guard_pattern, PlainSignature}
 use Rattle.dk_model.specs.Units.{Units, bind, Takes}
 use Rattle.dk_model.specs.Spines.{head_symbol, contraction, pairs_of}
 use Rattle.dk_model.specs.Matrix.{Cell, cell, Column, Row, rigid_at}

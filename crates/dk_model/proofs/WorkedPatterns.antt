@@ -1,5 +1,5 @@
 -- Worked counts of rules with abstractions, repeated variables and guards, by computation.
-use Rattle.std.proofs.Common.{ℕ, ◌≡◌, Some, None, List, [], ◌∷◌, refl}
+use Rattle.std.proofs.Common.{ℕ, ◌≡◌, Some, None, List, [], ◌∷◌, ◌++◌, refl}
 use Rattle.dk_model.specs.Trees.{Tree, star, symbol, variable, rule_variable, apply, bare, product}
 use Rattle.dk_model.specs.Signatures.{Pattern, no_patterns, rule_variable_pattern, guard_pattern, symbol_pattern, abstraction_pattern, PlainRule, PlainEntry, symbol_entry, rules_entry, PlainSignature}
 use Rattle.dk_model.specs.Scoping.{PlainCommand, declare}
@@ -160,3 +160,26 @@ part_stays_normal = refl
 
 pub part_stays_normal_ends : normal_of sharing 14 shared ≡ None
 part_stays_normal_ends = refl
+
+-- eq : o -> o -> Type. r : x : o -> eq x x. thm t : eq (f (x => s (e x)) d) (s c) := r (s c).
+abbrev with_equality : PlainSignature
+with_equality = sharing ++ static (arrow o (arrow o star)) ∷ static (product o (two (symbol 8) (variable 0) (variable 0))) ∷ []
+
+abbrev shared_is : PlainCommand
+shared_is = theorem (two (symbol 8) shared (apply (symbol 3) (symbol 1))) (apply (symbol 9) (apply (symbol 3) (symbol 1)))
+
+pub shared_accepted : verdict_of with_equality shared_is 39 ≡ Accepted
+shared_accepted = refl
+
+pub shared_ends : verdict_of with_equality shared_is 38 ≡ Ended
+shared_ends = refl
+
+-- the weak head forms of docs/evaluation.md
+pub constant_part : whnf_of constant 6 (apply (symbol 4) (bare (apply (symbol 2) (variable 0)))) ≡ Some (symbol 5, 0)
+constant_part = refl
+
+pub repeated_part : whnf_of repeating 3 (two (symbol 5) (symbol 1) (symbol 1)) ≡ Some (symbol 3, 0)
+repeated_part = refl
+
+pub guard_fails : whnf_of guarding 4 (apply (symbol 5) (symbol 2)) ≡ Some (apply (symbol 5) (symbol 2), 0)
+guard_fails = refl

@@ -1,4 +1,4 @@
--- What a capture stands for: the part that it was made of, once it is applied to the arguments of its rule variable.
+-- Trusted: what a capture stands for, the part that it was made of, once it is applied to its rule variable's arguments.
 use Rattle.std.specs.Prelude.{ℕ, ◌≡◌, false, List, [], map}
 use Rattle.dk_model.specs.Trees.{Tree, variable}
 use Rattle.dk_model.specs.Substitution.{shift}
