@@ -3,10 +3,26 @@
 //! Begin at `Version`; then `Reducer`, evaluation over a version whatever stands for terms.
 #![tactic(auto)]
 
+mod blocks;
+mod branch;
+mod cells;
+mod fork;
 mod grow;
+mod held;
+mod leaf;
+mod levels;
+mod packed;
+mod place;
 mod reducer;
+mod rows;
+mod rule_list;
+mod slots;
+mod steps;
+mod table;
 mod version;
 
 pub use grow::Grow;
 pub use reducer::Reducer;
+pub use rows::{Row, Rows};
+pub use steps::Steps;
 pub use version::Version;

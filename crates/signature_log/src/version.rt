@@ -1,29 +1,44 @@
 //! A version: the entries of the commands before one.
-ghost use Rattle.std.specs.Prelude.{◌≡◌, [], ◌∷◌, ◌++◌, length, slice_get, map, Err, IfOk, ◌↔◌};
-ghost use Rattle.std.specs.Option.{option_copied};
+ghost use Rattle.std.specs.Prelude.{◌≡◌, ℕ, [], ◌∷◌, ◌++◌, ◌+◌, ◌≤◌, length, slice_get, map, Err, IfOk, ◌↔◌};
+ghost use Rattle.std.specs.Option.{option_copied, option_map};
 ghost use Rattle.std.specs.Arc.{arc_value};
+ghost use Rattle.dk_model.specs.SymbolRules.{rules_of, body_rule};
 ghost use Rattle.signature_log.specs.Versions.{stored_entry, entries_of};
+ghost use Rattle.signature_log.specs.Rows.{row_rules, body_rows};
 
-use crate::Grow;
+use crate::blocks::{Blocks, Share};
+use crate::branch::Branch;
+use crate::fork::Fork;
+use crate::held::Held;
+use crate::leaf::Leaf;
+use crate::slots::Slots;
+use crate::table::{RuleTable, with_entry};
+use crate::{Grow, Rows, Steps};
 use dk_model::{Entry, NoMemory};
 use shared_term::Stored;
 use std::alloc::Global;
-use std::marker::Model;
+use std::marker::{Brand, Model};
 use std::sync::Arc;
+use std::sync::ledger::{Blank, Ledger};
+
+/// Four levels of blocks of 32.
+type Entries = Branch<Branch<Branch<Leaf<Held>>>>;
 
 /// The entries of the commands accepted so far, in file order. Symbol `k` is declared by entry `k`, from 0.
+///
+/// A version never changes: `append` gives another one, which shares all but a block of each level with it.
 #[derive(Drop)]
 pub struct Version {
     alloc: Global,
-    entries: Vec<Arc<Entry<Stored>>>,
+    entries: Entries,
+    rules: RuleTable,
 }
 
 impl Model for Version {
-    ghost use Rattle.std.specs.Prelude.{List, map, length, ◌≤◌};
-    ghost use Rattle.std.specs.Arc.{arc_value};
+    ghost use Rattle.std.specs.Prelude.{List};
+    ghost use Rattle.std.specs.Coded.{coded_list};
     ghost use Rattle.dk_model.specs.declared.signature.Entry.{Entry};
     ghost use Rattle.shared_term.specs.declared.stored.Stored.{Stored};
-    ghost use Rattle.std.specs.Coded.{coded_list};
     ghost use Rattle.dk_model.specs.contracts.signature.Entry as entry;
     ghost use Rattle.shared_term.specs.contracts.stored.Stored as stored;
 
@@ -31,36 +46,29 @@ impl Model for Version {
 
     ghost coded = { coded_list (entry.the_row stored.the_row).coded };
 
-    ghost view = { λ v. map arc_value v.entries.items };
+    ghost use Rattle.signature_log.specs.Blocks.{places_4};
+    ghost use Rattle.signature_log.specs.Placed.{IsVersion};
 
-    ghost invariant = { λ v. length v.entries.items ≤ 1048576 };
+    ghost view = { λ v. places_4 v.entries };
+
+    ghost invariant = { λ v. IsVersion v.entries v.rules };
 }
 
-const MOST: usize = 1048576;
+const MOST: u64 = 1048576;
 
-fn shared(
-    alloc: Global,
-    entries: &[Arc<Entry<Stored>>],
-) -> Result<Vec<Arc<Entry<Stored>>>, NoMemory>
-    ensures { IfOk result (λ v. map arc_value v.items ≡ map arc_value entries.now) }
+fn body_of(entry: Option<&Entry<Stored>>) -> Option<&Stored>
+    ensures { (k : ℕ) → body_rows k result
+        ≡ body_rule k (option_map stored_entry (option_copied entry.entry)) }
 {
-    let mut shared = Vec::new(alloc);
-    for entry in entries {
-        shared.push(Arc::try_clone(entry)?)?;
+    match entry {
+        Some(
+            Entry::Symbol {
+                body: Some(body),
+                ..
+            },
+        ) => Some(body),
+        _ => None,
     }
-    Ok(shared)
-}
-
-fn with_last(
-    alloc: Global,
-    entries: &[Arc<Entry<Stored>>],
-    entry: Arc<Entry<Stored>>,
-) -> Result<Vec<Arc<Entry<Stored>>>, NoMemory>
-    ensures { IfOk result (λ v. map arc_value v.items ≡ map arc_value entries.now ++ arc_value entry ∷ []) }
-{
-    let mut all = shared(alloc, entries)?;
-    all.push(entry)?;
-    Ok(all)
 }
 
 impl Version {
@@ -70,7 +78,8 @@ impl Version {
     {
         Ok(Version {
             alloc,
-            entries: Vec::new(alloc),
+            entries: Branch::empty(alloc)?,
+            rules: Fork::empty(alloc)?,
         })
     }
 
@@ -79,13 +88,44 @@ impl Version {
         ensures ok { IfOk result (λ v. v ≡ self.now ++ arc_value entry ∷ []) }
         ensures full { result ≡ Err Grow.Full ↔ length self.now ≡ 1048576 }
     {
+        self.append_from::<Brand>(entry, Blank::new(1))
+    }
+
+    fn append_from<L: Ledger>(
+        &self,
+        entry: Arc<Entry<Stored>>,
+        blank: Blank,
+    ) -> Result<Version, Grow>
+        requires name { blank.name ≡ L.name }
+        requires parts { blank.parts ≡ L.parts }
+        requires one { L.parts ≡ 1 }
+        ensures ok { IfOk result (λ v. v ≡ self.now ++ arc_value entry ∷ []) }
+        ensures full { result ≡ Err Grow.Full ↔ length self.now ≡ 1048576 }
+    {
+        let mut steps = Steps::<L>::start(blank);
+        self.append_counted(entry, &mut steps)
+    }
+
+    /// The same with a count: a step for each place that is copied into a new block of entries.
+    pub fn append_counted<L: Ledger>(
+        &self,
+        entry: Arc<Entry<Stored>>,
+        steps: &mut Steps<L>,
+    ) -> Result<Version, Grow>
+        ensures ok { IfOk result (λ v. v ≡ self.now ++ arc_value entry ∷ []) }
+        ensures full { result ≡ Err Grow.Full ↔ length self.now ≡ 1048576 }
+        ensures cost { steps.new ≤ steps.old + 128 }
+    {
         if self.entries.len() >= MOST {
             return Err(Grow::Full);
         }
-        let entries = with_last(self.alloc, self.entries.as_slice(), entry)?;
+        let held = Held::new(entry);
+        let entries = self.entries.append(self.alloc, held.share()?, steps)?;
+        let rules = with_entry(self.alloc, &self.rules, held)?;
         Ok(Version {
             alloc: self.alloc,
             entries,
+            rules,
         })
     }
 
@@ -93,8 +133,8 @@ impl Version {
     pub fn get(&self, i: u32) -> Option<&Entry<Stored>>
         ensures { option_copied result ≡ slice_get self.now i }
     {
-        match self.entries.get(i as usize) {
-            Some(entry) => Some(entry),
+        match self.entries.get(i as u64) {
+            Some(held) => Some(held.entry()),
             None => None,
         }
     }
@@ -105,13 +145,23 @@ impl Version {
         self.entries.len() as u32
     }
 
-    /// An equal version, which shares the entries.
+    /// An equal version, which shares all blocks with it.
     pub fn share(&self) -> Result<Version, NoMemory>
         ensures { IfOk result (λ v. v ≡ self.now) }
     {
         Ok(Version {
             alloc: self.alloc,
-            entries: shared(self.alloc, self.entries.as_slice())?,
+            entries: self.entries.share()?,
+            rules: self.rules.share()?,
         })
+    }
+
+    /// The rules of a symbol: its body, then its declared rules in file order. Takes no memory.
+    pub fn rules_of(&self, symbol: u32) -> Rows<'_>
+        ensures { row_rules symbol result ≡ rules_of (entries_of self.now) symbol }
+    {
+        let body = body_of(self.get(symbol));
+        let declared = self.rules.find(symbol as u64);
+        Rows::new(body, declared)
     }
 }
