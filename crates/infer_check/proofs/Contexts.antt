@@ -1,5 +1,5 @@
 -- A context from one call of a reducer to the next, and by its innermost variable.
-use Rattle.std.proofs.Common.{List, [], ◌∷◌, ◌++◌, ◌≡◌, ◌+◌, ◌≤◌, ◌<◌, ℕ, zero, suc, Some, None, refl, ap, ◌∙◌, arith, length, get_or, map}
+use Rattle.std.proofs.Common.{List, [], ◌∷◌, ◌++◌, ◌≡◌, ◌+◌, ◌≤◌, ◌<◌, ℕ, zero, suc, Some, None, refl, ap, ◌∙◌, arith, length, get_or, map, sym as flip, subst}
 use Rattle.std.specs.Prelude.{slice_get}
 use Rattle.std.proofs.lemmas.List.{length-append}
 use Rattle.dk_model.specs.Trees.{Tree, kind}
@@ -132,3 +132,14 @@ rule_variable_missing denotes r ts k h = rw (get_past (map (denotes r) ts) k (le
 
 pub length_bound_types : {R T : Type 0} (denotes : R → T → Tree) (r : R) (c : Context T) → length (bound_types denotes r c) ≡ length c.bound
 length_bound_types denotes r c = length_innermost denotes r c.bound
+
+-- a context of no variables
+
+pub context_empty : {R T : Type 0} (owns : R → T → Type 0) (r : R) (c : Context T) → c.rule_vars ≡ [] → c.bound ≡ [] → OwnsContext owns r c
+context_empty {R} {T} owns r c e f = record { rule_vars = subst (AreOwned owns r) (flip e) tt; bound = subst (AreOwned owns r) (flip f) tt }
+
+pub rule_types_empty : {R T : Type 0} (denotes : R → T → Tree) (r : R) (c : Context T) → c.rule_vars ≡ [] → rule_types denotes r c ≡ []
+rule_types_empty denotes r c e = ap (map (denotes r)) e
+
+pub bound_types_empty : {R T : Type 0} (denotes : R → T → Tree) (r : R) (c : Context T) → c.bound ≡ [] → bound_types denotes r c ≡ []
+bound_types_empty denotes r c e = ap (innermost_first denotes r) e

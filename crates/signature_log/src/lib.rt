@@ -18,6 +18,7 @@ mod rows;
 mod rule_list;
 mod slots;
 mod steps;
+mod storing;
 mod table;
 mod version;
 
@@ -25,4 +26,5 @@ pub use grow::Grow;
 pub use reducer::Reducer;
 pub use rows::{Row, Rows};
 pub use steps::Steps;
+pub use storing::{store_entry, store_rules, version_of};
 pub use version::Version;

@@ -1,0 +1,4 @@
+pub mod Declaring
+pub mod Entering
+pub mod Shaping
+pub mod Verdicts

@@ -1,0 +1,13 @@
+//! The check of one command, once, over whatever stands for terms: its verdict, the type of a definition without one, and
+//! the entry that an accepted command adds.
+//!
+//! The meanings are `verdict_of`, `inferred_type` and `entry_of` of dk_model (docs/typing.md). Begin at `check_command`.
+#![tactic(auto)]
+
+mod declaration;
+mod entry;
+mod shapes;
+mod verdict;
+
+pub use entry::{entry_of, is_untyped};
+pub use verdict::{check_command, enter_command, infer_type};

@@ -1,0 +1,47 @@
+//! The rules of a command over a version: each has its shape, and its head is definable.
+ghost use Rattle.std.specs.Prelude.{◌≡◌};
+ghost use Rattle.dk_model.specs.Shapes.{is_definable};
+ghost use Rattle.signature_log.specs.Versions.{entries_of};
+ghost use Rattle.command_check.specs.Given.{command_shapes, GivesShapes};
+
+use dk_model::{Code, Entry, Fault, Listed, Rule, ScopedRule, SymSort, TypeFault};
+use pattern_compile::shape;
+use signature_log::Version;
+use std::alloc::Global;
+
+/// Whether the symbol was declared by `def`.
+fn is_definable(v: &Version, symbol: u32) -> bool
+    ensures { result ≡ is_definable (entries_of v.now) symbol }
+{
+    match v.get(symbol) {
+        Some(Entry::Symbol { sort, .. }) => match sort {
+            SymSort::Definable => true,
+            SymSort::Static => false,
+            SymSort::Theorem => false,
+        },
+        _ => false,
+    }
+}
+
+/// The rules of a command, or the first code of the first rule that has one (E31, E32, E33, then E30).
+pub fn shapes_of(
+    alloc: Global,
+    v: &Version,
+    rules: &Listed<ScopedRule>,
+) -> Result<Listed<Rule>, TypeFault>
+    ensures { GivesShapes (command_shapes (entries_of v.now) rules.now) result }
+{
+    let mut shapes = Listed::new(alloc);
+    for rule in rules.as_slice() {
+        let rule = match shape(alloc, rule) {
+            Ok(rule) => rule,
+            Err(Fault::Refused(code)) => return Err(TypeFault::Refused(code)),
+            Err(Fault::NoMemory) => return Err(TypeFault::NoMemory),
+        };
+        if !is_definable(v, rule.head) {
+            return Err(TypeFault::Refused(Code::E30));
+        }
+        shapes.push(rule)?;
+    }
+    Ok(shapes)
+}

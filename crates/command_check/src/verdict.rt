@@ -1,0 +1,216 @@
+//! The verdict on a command, and the type of a definition without one.
+ghost use Rattle.std.specs.Prelude.{◌≡◌, IfErr, IfOk, IsTrue, Some};
+ghost use Rattle.dk_model.specs.Trees.{tree};
+ghost use Rattle.dk_model.specs.Signatures.{maybe_by};
+ghost use Rattle.dk_model.specs.Scoping.{plain_command};
+ghost use Rattle.dk_model.specs.Verdicts.{body_type, command_checked, entry_of, inferred_type, is_untyped, rules_checked, verdict, verdict_of, IsVerdictOrMemory};
+ghost use Rattle.shared_term.specs.Storage.{stored_term};
+ghost use Rattle.signature_log.specs.Versions.{entries_of, stored_entry};
+ghost use Rattle.signature_log.specs.Reducers.{Keeps};
+ghost use Rattle.infer_check.specs.Given.{GivesFit};
+ghost use Rattle.typing_model.specs.Laws.{IsNumbered};
+ghost use Rattle.command_check.specs.Given.{command_shapes, fault_verdict, HasBodyType, IsDerived};
+
+use crate::declaration::{check_declaration, infer_body};
+use crate::entry::{entry_of, is_untyped};
+use crate::shapes::shapes_of;
+use dk_model::{Entry, Listed, Scoped, ScopedRule, Term, TypeFault, Verdict};
+use shared_term::Stored;
+use signature_log::{Reducer, Version};
+use typing_model::laws::accepted_has_derivation;
+
+fn fault_verdict(fault: TypeFault) -> Verdict
+    ensures { result ≡ fault_verdict fault }
+{
+    match fault {
+        TypeFault::Refused(code) => Verdict::Refused(code),
+        TypeFault::Ended => Verdict::Ended,
+        TypeFault::NoMemory => Verdict::Memory,
+    }
+}
+
+/// That the rules of a command have their shapes, which takes no unit; their types aren't looked at.
+#[tactic(auto, using(crate::proofs::Verdicts::shapes_fit, crate::proofs::Verdicts::shapes_fail))]
+fn check_rules<R: Reducer>(
+    r: &mut R,
+    v: &Version,
+    rules: &Listed<ScopedRule>,
+    left: &mut u64,
+) -> Result<(), TypeFault>
+    requires { R.serves (entries_of v.now) r.old }
+    ensures gives { GivesFit (rules_checked (command_shapes (entries_of v.now) rules.now) left.old)
+        result left.new }
+    ensures keeps { Keeps R.owns R.denotes r.old r.new }
+    ensures serves { R.serves (entries_of v.now) r.new }
+{
+    let _left = *left;
+    let _shapes = shapes_of(r.alloc(), v, rules)?;
+    Ok(())
+}
+
+/// The check of a command with the units that are left.
+fn judge<R: Reducer>(
+    r: &mut R,
+    v: &Version,
+    command: &Scoped,
+    left: &mut u64,
+) -> Result<(), TypeFault>
+    requires { R.serves (entries_of v.now) r.old }
+    ensures gives { GivesFit
+        (command_checked (entries_of v.now) (plain_command command.now) left.old) result left.new }
+    ensures keeps { Keeps R.owns R.denotes r.old r.new }
+    ensures serves { R.serves (entries_of v.now) r.new }
+{
+    match command {
+        Scoped::Declare { typ, body, .. } => check_declaration(r, v, typ, body, left),
+        Scoped::Rules(rules) => check_rules(r, v, rules, left),
+    }
+}
+
+/// The verdict on a command over the version of the commands before it (docs/typing.md).
+///
+/// The check may take `budget` units; `Ended` says that it needs more. `Memory` says nothing of the command. What is
+/// accepted has a derivation, where the version numbers the rule variables of its rules as shapes do.
+#[tactic(auto, using(crate::proofs::Verdicts::fit_verdict, crate::proofs::Verdicts::fault_due, crate::proofs::Verdicts::fault_refuses, crate::proofs::Verdicts::derived))]
+pub fn check_command<R: Reducer>(
+    reducer: &mut R,
+    v: &Version,
+    c: &Scoped,
+    budget: u64,
+) -> Verdict
+    requires { R.serves (entries_of v.now) reducer.old }
+    ensures due { IsVerdictOrMemory
+        (verdict_of (entries_of v.now) (plain_command c.now) budget) result }
+    ensures derivation { result ≡ Verdict.Accepted → IsNumbered (entries_of v.now)
+        → IsDerived (entries_of v.now) (plain_command c.now) }
+    ensures keeps { Keeps R.owns R.denotes reducer.old reducer.new }
+    ensures serves { R.serves (entries_of v.now) reducer.new }
+{
+    accepted_has_derivation();
+    let mut left = budget;
+    match judge(reducer, v, c, &mut left) {
+        Ok(()) => Verdict::Accepted,
+        Err(fault) => fault_verdict(fault),
+    }
+}
+
+/// The type of a body without a declared type, where it has one; else the verdict.
+#[tactic(auto, using(crate::proofs::Verdicts::fault_due, crate::proofs::Verdicts::fault_refuses, signature_log::proofs::Keeping::keeps_further))]
+fn infer_untyped<R: Reducer>(
+    reducer: &mut R,
+    v: &Version,
+    body: &Term,
+    budget: u64,
+) -> Result<Stored, Verdict>
+    requires { R.serves (entries_of v.now) reducer.old }
+    ensures ok { IfOk result (λ t. HasBodyType (entries_of v.now) (tree body.now) budget (stored_term t)) }
+    ensures err { IfErr result (IsVerdictOrMemory
+        (verdict (body_type (entries_of v.now) (tree body.now) budget))) }
+    ensures refused { IfErr result (λ v. ¬ (v ≡ Verdict.Accepted)) }
+    ensures keeps { Keeps R.owns R.denotes reducer.old reducer.new }
+    ensures serves { R.serves (entries_of v.now) reducer.new }
+{
+    let mut left = budget;
+    match infer_body(reducer, v, body, &mut left) {
+        Ok(typ) => match reducer.send(&typ) {
+            Ok(typ) => Ok(typ),
+            Err(_) => Err(Verdict::Memory),
+        },
+        Err(fault) => Err(fault_verdict(fault)),
+    }
+}
+
+/// The type of the body of a definition without a declared type, where the command is accepted; else its verdict.
+#[tactic(auto, using(crate::proofs::Verdicts::body_verdict, crate::proofs::Verdicts::body_due, crate::proofs::Verdicts::body_inferred, crate::proofs::Verdicts::derived))]
+pub fn infer_type<R: Reducer>(
+    reducer: &mut R,
+    v: &Version,
+    c: &Scoped,
+    budget: u64,
+) -> Result<Stored, Verdict>
+    requires untyped { IsTrue (is_untyped (plain_command c.now)) }
+    requires serves { R.serves (entries_of v.now) reducer.old }
+    ensures ok { IfOk result (λ t. inferred_type (entries_of v.now) (plain_command c.now) budget
+        ≡ Some (stored_term t)) }
+    ensures accepted { IfOk result (λ _. verdict_of (entries_of v.now) (plain_command c.now) budget
+        ≡ Verdict.Accepted) }
+    ensures derivation { IfOk result (λ _. IsNumbered (entries_of v.now)
+        → IsDerived (entries_of v.now) (plain_command c.now)) }
+    ensures err { IfErr result (IsVerdictOrMemory
+        (verdict_of (entries_of v.now) (plain_command c.now) budget)) }
+    ensures refused { IfErr result (λ v. ¬ (v ≡ Verdict.Accepted)) }
+    ensures keeps { Keeps R.owns R.denotes reducer.old reducer.new }
+    ensures serves { R.serves (entries_of v.now) reducer.new }
+{
+    accepted_has_derivation();
+    match c {
+        Scoped::Declare { typ, body, .. } => match typ {
+            Some(_) => unreachable!(),
+            None => match body {
+                Some(body) => infer_untyped(reducer, v, body, budget),
+                None => unreachable!(),
+            },
+        },
+        Scoped::Rules(_) => unreachable!(),
+    }
+}
+
+/// The entry that a command adds, where it is accepted; else its verdict.
+#[tactic(auto, using(crate::proofs::Verdicts::no_type_inferred))]
+pub fn enter_command<R: Reducer>(
+    reducer: &mut R,
+    v: &Version,
+    c: &Scoped,
+    budget: u64,
+) -> Result<Entry<Stored>, Verdict>
+    requires { R.serves (entries_of v.now) reducer.old }
+    ensures ok { IfOk result (λ e. stored_entry e
+        ≡ entry_of (entries_of v.now) (plain_command c.now)
+        (inferred_type (entries_of v.now) (plain_command c.now) budget)) }
+    ensures accepted { IfOk result (λ _. verdict_of (entries_of v.now) (plain_command c.now) budget
+        ≡ Verdict.Accepted) }
+    ensures err { IfErr result (IsVerdictOrMemory
+        (verdict_of (entries_of v.now) (plain_command c.now) budget)) }
+    ensures refused { IfErr result (λ v. ¬ (v ≡ Verdict.Accepted)) }
+    ensures keeps { Keeps R.owns R.denotes reducer.old reducer.new }
+    ensures serves { R.serves (entries_of v.now) reducer.new }
+{
+    let inferred = accepted_type(reducer, v, c, budget)?;
+    match entry_of(reducer.alloc(), v, c, inferred) {
+        Ok(entry) => Ok(entry),
+        Err(_) => Err(Verdict::Memory),
+    }
+}
+
+// The type that is inferred for a definition without a declared one, none for another command, where it is accepted;
+// else its verdict.
+#[tactic(auto, using(crate::proofs::Verdicts::no_type_inferred))]
+fn accepted_type<R: Reducer>(
+    reducer: &mut R,
+    v: &Version,
+    c: &Scoped,
+    budget: u64,
+) -> Result<Option<Stored>, Verdict>
+    requires { R.serves (entries_of v.now) reducer.old }
+    ensures ok { IfOk result (λ t. maybe_by stored_term t
+        ≡ inferred_type (entries_of v.now) (plain_command c.now) budget) }
+    ensures accepted { IfOk result (λ _. verdict_of (entries_of v.now) (plain_command c.now) budget
+        ≡ Verdict.Accepted) }
+    ensures err { IfErr result (IsVerdictOrMemory
+        (verdict_of (entries_of v.now) (plain_command c.now) budget)) }
+    ensures refused { IfErr result (λ v. ¬ (v ≡ Verdict.Accepted)) }
+    ensures keeps { Keeps R.owns R.denotes reducer.old reducer.new }
+    ensures serves { R.serves (entries_of v.now) reducer.new }
+{
+    if is_untyped(c) {
+        match infer_type(reducer, v, c, budget) {
+            Ok(typ) => Ok(Some(typ)),
+            Err(verdict) => Err(verdict),
+        }
+    } else {
+        match check_command(reducer, v, c, budget) {
+            Verdict::Accepted => Ok(None),
+            verdict => Err(verdict),
+        }
+    }
+}
