@@ -8,7 +8,7 @@ use Rattle.dk_model.specs.Typing.{Judged, answer, refused, ended, next}
 use Rattle.dk_model.specs.Verdicts.{answer_of, body_type, inferred_type, is_untyped, rules_checked, verdict, verdict_of, IsVerdictOrMemory}
 use Rattle.dk_model.specs.declared.code.Code.{Code}
 use Rattle.dk_model.specs.declared.code.Verdict.{Verdict}
-use Rattle.dk_model.specs.declared.code.Verdict.TheVariants.{Accepted, Refused as RefusedBy, Ended as OutOfUnits, Memory as OutOfMemory}
+use Rattle.dk_model.specs.declared.code.Verdict.TheVariants.{Accepted}
 use Rattle.dk_model.specs.declared.signature.SymSort.{SymSort}
 use Rattle.dk_model.specs.declared.stop.TypeFault.{TypeFault}
 use Rattle.dk_model.specs.declared.stop.TypeFault.TheVariants.{Refused, Ended, NoMemory}

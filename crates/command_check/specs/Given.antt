@@ -1,5 +1,5 @@
 -- What the calls answer, and what an accepted command means.
-use Rattle.std.specs.Prelude.{ℕ, ◌≡◌, Option, Some, Result, Ok, Err, List, [], map}
+use Rattle.std.specs.Prelude.{ℕ, ◌≡◌, Result, Ok, Err, List, map}
 use Rattle.dk_model.specs.Trees.{Tree}
 use Rattle.dk_model.specs.Signatures.{PlainRule, PlainSignature, plain_rule, rule_by}
 use Rattle.dk_model.specs.Scoping.{PlainCommand, declare, rule_command, plain_scoped_rule}
@@ -8,7 +8,7 @@ use Rattle.dk_model.specs.Typing.{answer}
 use Rattle.dk_model.specs.Verdicts.{body_type}
 use Rattle.dk_model.specs.declared.code.Code.{Code}
 use Rattle.dk_model.specs.declared.code.Verdict.{Verdict}
-use Rattle.dk_model.specs.declared.code.Verdict.TheVariants.{Accepted, Refused as RefusedBy, Ended as OutOfUnits, Memory as OutOfMemory}
+use Rattle.dk_model.specs.declared.code.Verdict.TheVariants.{Refused as RefusedBy, Ended as OutOfUnits, Memory as OutOfMemory}
 use Rattle.dk_model.specs.declared.scoped.ScopedRule.{ScopedRule}
 use Rattle.dk_model.specs.declared.signature.Rule.{Rule}
 use Rattle.dk_model.specs.declared.stop.TypeFault.{TypeFault}

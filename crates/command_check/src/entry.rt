@@ -52,11 +52,7 @@ fn entry_type(
 }
 
 /// The body without annotations, which a definition alone keeps.
-fn entry_body(
-    alloc: Global,
-    sort: SymSort,
-    body: &Option<Term>,
-) -> Result<Option<Stored>, NoMemory>
+fn entry_body(alloc: Global, sort: SymSort, body: &Option<Term>) -> Result<Option<Stored>, NoMemory>
     ensures { IfOk result (λ b. maybe_by stored_term b ≡ kept_body sort (maybe_tree body.now)) }
 {
     match sort {

@@ -72,12 +72,7 @@ fn judge<R: Reducer>(
 /// The check may take `budget` units; `Ended` says that it needs more. `Memory` says nothing of the command. What is
 /// accepted has a derivation, where the version numbers the rule variables of its rules as shapes do.
 #[tactic(auto, using(crate::proofs::Verdicts::fit_verdict, crate::proofs::Verdicts::fault_due, crate::proofs::Verdicts::fault_refuses, crate::proofs::Verdicts::derived))]
-pub fn check_command<R: Reducer>(
-    reducer: &mut R,
-    v: &Version,
-    c: &Scoped,
-    budget: u64,
-) -> Verdict
+pub fn check_command<R: Reducer>(reducer: &mut R, v: &Version, c: &Scoped, budget: u64) -> Verdict
     requires { R.serves (entries_of v.now) reducer.old }
     ensures due { IsVerdictOrMemory
         (verdict_of (entries_of v.now) (plain_command c.now) budget) result }

@@ -1,5 +1,5 @@
 -- From one call of a reducer to the next.
-use Rattle.std.proofs.Common.{◌≡◌, refl, ◌∙◌}
+use Rattle.std.proofs.Common.{refl, ◌∙◌}
 use Rattle.dk_model.specs.Trees.{Tree}
 use Rattle.signature_log.specs.Reducers.{Keeps}
 

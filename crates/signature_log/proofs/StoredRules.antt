@@ -2,7 +2,7 @@
 use Rattle.std.proofs.Common.{◌≡◌, ◌∙◌, ap, sym as flip, refl, ℕ, List, [], ◌∷◌, ◌++◌, map}
 use Rattle.std.proofs.lemmas.List.{map-append}
 use Rattle.dk_model.specs.Trees.{Tree, tree}
-use Rattle.dk_model.specs.Signatures.{Pattern, Patterns, no_patterns, more_patterns, symbol_pattern, variable_pattern, pattern, pattern_by, patterns_by, PlainEntry}
+use Rattle.dk_model.specs.Signatures.{Pattern, Patterns, no_patterns, more_patterns, symbol_pattern, variable_pattern, pattern, pattern_by, patterns_by}
 use Rattle.dk_model.specs.declared.signature.Pat.{Pat, Row_of-Pat, end_of-Pat, more_of-Pat, items-the_row-Pat}
 use Rattle.dk_model.specs.declared.signature.Pat.TheVariants.{Sym, Var}
 use Rattle.dk_model.specs.declared.signature.Pat.TheBlock.{hidden-the_row-Pat-0, items_hidden-the_row-Pat-0}

@@ -1,5 +1,5 @@
 -- What a call of a reducer gives, and what it leaves as it was.
-use Rattle.std.specs.Prelude.{ℕ, ◌≡◌, Option, Some, None, Bool, Result, Ok, Err}
+use Rattle.std.specs.Prelude.{ℕ, ◌≡◌, Some, None, Bool, Result, Ok, Err}
 use Rattle.dk_model.specs.Trees.{Tree, star, kind, symbol, variable, rule_variable, apply, bare, annotated, product}
 use Rattle.dk_model.specs.Units.{Units}
 use Rattle.dk_model.specs.declared.node.NodeOf.{NodeOf}

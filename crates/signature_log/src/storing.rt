@@ -20,10 +20,7 @@ fn store_maybe(alloc: Global, term: &Option<Term>) -> Result<Option<Stored>, NoM
     }
 }
 
-fn store_notes(
-    alloc: Global,
-    notes: &[Option<Term>],
-) -> Result<Listed<Option<Stored>>, NoMemory>
+fn store_notes(alloc: Global, notes: &[Option<Term>]) -> Result<Listed<Option<Stored>>, NoMemory>
     ensures { IfOk result (λ ts. map (maybe_by stored_term) ts ≡ map maybe_tree notes.now) }
 {
     let mut stored = Listed::new(alloc);
