@@ -1,5 +1,5 @@
--- What the words of the command line ask of the program (docs/command-line.md).
-use Rattle.std.specs.Prelude.{◌≡◌, ℕ, Bool, false, List, [], ◌∷◌, Option, Some, None}
+-- Trusted: what the words of the command line ask of the program (docs/command-line.md).
+use Rattle.std.specs.Prelude.{ℕ, Bool, false, List, [], ◌∷◌, Option, Some, None}
 use Rattle.std.specs.Prelude.{if◌then◌else◌, codes, option_map, option_and_then}
 use Rattle.std.specs.Option.{option_map_or}
 use Rattle.std.specs.Str.{bytes_eq}
@@ -8,17 +8,12 @@ use Rattle.clap.specs.ValueTests.{accepts}
 use Rattle.clap.specs.Kinds.{Kinds}
 use Rattle.clap.specs.Words.{Row, Text, fault_of, first_of, one_of, subcommand_of}
 use Rattle.command_line.specs.Words.{budgets, program}
-use Rattle.command_line.specs.declared.request.Request as given
 
 -- check the file of this name, each command with this budget, with `ok` lines unless quiet
 pub record Request : Type 0 where
   pub file : List ℕ
   pub budget : ℕ
   pub quiet : Bool
-
--- the request that the program holds
-abbrev pub plain_request : given.Request → Request
-plain_request r = record { file = r.file.now; budget = r.budget; quiet = r.quiet }
 
 -- the budget that a text writes, in decimal digits
 abbrev pub budget_of : Text → Option ℕ
@@ -43,10 +38,6 @@ abbrev pub request_in : List Row → Option Request
 request_in rows = option_and_then (λ file. option_map (λ budget.
     record { file = file; budget = budget; quiet = quiet_in rows })
     (budget_in rows)) (file_in rows)
-
--- clap finds no fault in the words, the first of which is the program's name
-abbrev pub IsTaken : List Text → Type 0
-IsTaken words = fault_of program words ≡ []
 
 -- the request, where no fault stands against it
 abbrev pub unless_fault : Kinds → Option Request → Option Request

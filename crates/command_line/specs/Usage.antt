@@ -1,4 +1,4 @@
--- The text that answers words which the program doesn't take (docs/command-line.md).
+-- Trusted: the text that answers words which the program doesn't take (docs/command-line.md).
 use Rattle.std.specs.Prelude.{ℕ, List, [], ◌∷◌, ◌++◌, codes}
 
 -- one line

@@ -1,4 +1,4 @@
--- The program's command as clap knows it (docs/command-line.md).
+-- Trusted: the program's command as clap knows it (docs/command-line.md).
 use Rattle.std.specs.Prelude.{[], ◌∷◌, Some, true, codes}
 use Rattle.clap.specs.Words.{App, Rule, new_app, new_rule, with_rule, with_subcommand}
 use Rattle.clap.specs.declared.builder.ArgAction.TheVariants.{SetTrue}

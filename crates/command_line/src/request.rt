@@ -2,14 +2,8 @@
 ghost use Rattle.std.specs.Prelude.{◌≡◌, ◌≤◌, ◌↔◌, IfOk, IfSome, IsSome, map, option_and_then, option_map};
 ghost use Rattle.std.specs.String.{string_bytes};
 ghost use Rattle.clap.specs.Words.{found_of, rows_of, subcommand_rows_of};
-ghost use Rattle.command_line.specs.Requests.{
-  IsTaken,
-  budget_in,
-  plain_request,
-  quiet_in,
-  request_in,
-  request_of,
-};
+ghost use Rattle.command_line.specs.Requests.{budget_in, quiet_in, request_in, request_of};
+ghost use Rattle.command_line.specs.Views.{IsTaken, plain_request};
 
 use crate::command::{LARGEST_BUDGET, found_in};
 use clap::ArgMatches;

@@ -2,7 +2,8 @@
 ghost use Rattle.std.specs.Prelude.{◌≡◌, ◌<◌, IfErr, IfOk, map};
 ghost use Rattle.std.specs.String.{string_bytes};
 ghost use Rattle.command_line.specs.Requests.{request_of};
-ghost use Rattle.dk_check_run.specs.Run.{Runs, shelf_state, sink_state};
+ghost use Rattle.dk_check_run.specs.Run.{shelf_state, sink_state};
+ghost use Rattle.dk_check_run.specs.Clauses.{Runs};
 ghost use Rattle.dk_check_cli.specs.Calls.{status_without_words};
 
 use dk_io::{Shelf, Sink};

@@ -10,9 +10,12 @@ use Rattle.dk_lexer.specs.declared.token.Token.{Token}
 use Rattle.dk_lexer.specs.declared.lexer.Lexer.{Lexer}
 use Rattle.dk_lexer.specs.Tokens.{Lexed, broken, tokens, whole}
 use Rattle.dk_lexer.specs.Steps.{lexer_after}
+use Rattle.dk_lexer.specs.Fronts.{AddNothing}
 use Rattle.dk_lexer.specs.Given.{IsFrontOf, Stays, begun_line}
-use Rattle.dk_parser.specs.Reading.{TokenReading, read, read_tokens, reading_of, tail_by_bytes, tail_by_ending, tail_by_tokens}
-use Rattle.dk_parser.specs.Reading as reading
+use Rattle.dk_parser.specs.Reading.{TokenReading}
+use Rattle.dk_parser.specs.FileReading.{read, reading_of, tail_by_bytes, tail_by_ending, tail_by_tokens}
+use Rattle.dk_parser.specs.Steps.{read_tokens}
+use Rattle.dk_parser.specs.FileReading as reading
 use Rattle.verdict_book.specs.declared.outcome.Outcome.{Outcome}
 use Rattle.verdict_book.specs.declared.outcome.Outcome.TheVariants.{Accepted, Stopped, Unread}
 use Rattle.dk_check_run.specs.declared.reader.Reader.{Reader}
@@ -86,13 +89,13 @@ behind_lexer l goes = record {
 }
 
 -- memory ended in the lexer
-pub memory_stands : (limits : Limits) (budget : ℕ) (given : List ℕ) (b line : ℕ) (old new : Reader) → GoesOnAfter limits budget given old
+pub memory_stands : (limits : Limits) (budget : ℕ) (given rest : List ℕ) (line : ℕ) (old new : Reader) → GoesOnAfter limits budget given old
     → line ≡ due_line limits (tokens limits given broken).tokens (begun_line limits given)
-    → new.theory ≡ old.theory → new.stop ≡ Some (Stopped (length (checked_of old.theory).shown + 1) line verdict.Memory) → StandsAt limits budget (given ++ b ∷ []) new
-memory_stands limits budget given b line old new goes line_is theory stop =
-    subst (λ (o : Option Outcome). stands_at limits budget (given ++ b ∷ []) new o) (sym stop) (record {
+    → new.theory ≡ old.theory → new.stop ≡ Some (Stopped (length (checked_of old.theory).shown + 1) line verdict.Memory) → StandsAt limits budget (given ++ rest) new
+memory_stands limits budget given rest line old new goes line_is theory stop =
+    subst (λ (o : Option Outcome). stands_at limits budget (given ++ rest) new o) (sym stop) (record {
       given = given;
-      rest = b ∷ [];
+      rest = rest;
       bytes_are = refl;
       memory = record {
         done = (read_tokens limits (tokens limits given broken).tokens).commands;
@@ -104,6 +107,16 @@ memory_stands limits budget given b line old new goes line_is theory stop =
         number_is = ap (λ t. length (checked_of t).shown + 1) (sym theory);
         line_is = line_is;
       };
+    })
+
+-- a front that gave nothing was taken
+pub front_stands : (limits : Limits) (budget : ℕ) (given front : List ℕ) (old : Reader) (l : Lexer) → GoesOnAfter limits budget given old → old.stop ≡ None → l ≡ lexer_after limits (given ++ front)
+    → AddNothing limits given front → StandsAt limits budget (given ++ front) (record old { lexer = l })
+front_stands limits budget given front old l goes going lexer adds =
+    subst (λ (o : Option Outcome). stands_at limits budget (given ++ front) (record old { lexer = l }) o) (sym going) (record {
+      lexer = lexer;
+      behind = subst (λ (ts : List Token). GoesOnBehind limits budget ts (record old { lexer = l })) (sym adds.same_tokens) (behind_lexer l goes.behind);
+      no_fault = adds.same_fault ∙ goes.no_fault;
     })
 
 -- memory ends at the next byte

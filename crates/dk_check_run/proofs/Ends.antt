@@ -1,7 +1,7 @@
 -- What an outcome says of the counts.
 use Rattle.std.proofs.Common.{◌≡◌, ℕ, List, subst}
 use Rattle.std.specs.Prelude.{Option, Some}
-use Rattle.verdict_book.specs.Report.{StopsAtFault}
+use Rattle.verdict_book.specs.Stops.{StopsAtFault}
 use Rattle.verdict_book.specs.declared.outcome.Outcome.{Outcome}
 use Rattle.verdict_book.specs.declared.outcome.Outcome.TheVariants.{Accepted, Stopped, Unread}
 use Rattle.dk_check_run.specs.Counts.{MayRiseAtUnread, RoseAtUnread}

@@ -8,8 +8,10 @@ use Rattle.dk_model.specs.declared.limits.Limits.{Limits}
 use Rattle.dk_lexer.specs.declared.token.Token.{Token}
 use Rattle.dk_lexer.specs.Tokens.{Ending, Lexed, tokens}
 use Rattle.dk_lexer.specs.Given.{Stays, with_token}
-use Rattle.dk_parser.specs.Reading.{TokenReading, read_tokens, reading_of, tail_by_tokens, tail_by_bytes}
-use Rattle.dk_parser.specs.Reading as reading
+use Rattle.dk_parser.specs.Reading.{TokenReading}
+use Rattle.dk_parser.specs.FileReading.{reading_of, tail_by_tokens, tail_by_bytes}
+use Rattle.dk_parser.specs.Steps.{read_tokens}
+use Rattle.dk_parser.specs.FileReading as reading
 use Rattle.verdict_book.specs.declared.outcome.Outcome.{Outcome}
 use Rattle.verdict_book.specs.declared.outcome.Outcome.TheVariants.{Accepted, Stopped, Unread}
 use Rattle.dk_check_run.specs.declared.reader.Reader.{Reader}

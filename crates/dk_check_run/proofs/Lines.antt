@@ -8,7 +8,7 @@ use Rattle.dk_lexer.specs.declared.token.Token.{Token}
 use Rattle.dk_parser.specs.declared.terminal.Terminal.{Terminal}
 use Rattle.dk_parser.specs.declared.terminal.Terminal.TheVariants as terminal
 use Rattle.dk_parser.specs.Parsing.{Answer, Part, PartStep, Parsing, answered, command, commands_from, ends, goes, more, parsing_after, parsing_from, part_next, refused, refuses, started, turn, turn_by_fault, turn_by_step, turn_by_terminal, turn_refused}
-use Rattle.dk_parser.specs.Reading.{read_tokens}
+use Rattle.dk_parser.specs.Steps.{read_tokens}
 use Rattle.dk_parser.specs.Terminals.{terminal_of}
 use Rattle.dk_parser.proofs.Exact.{commands_append, parsing_append}
 use Rattle.dk_check_run.specs.Run.{next_line}

@@ -8,7 +8,8 @@ use Rattle.dk_lexer.specs.Tokens.{Ending, broken, tokens, whole}
 use Rattle.dk_lexer.specs.Given.{begun_line}
 use Rattle.dk_lexer.specs.declared.token.Token.{Token}
 use Rattle.dk_lexer.proofs.Agree.{tokens_front}
-use Rattle.dk_parser.specs.Reading.{read, read_tokens}
+use Rattle.dk_parser.specs.FileReading.{read}
+use Rattle.dk_parser.specs.Steps.{read_tokens}
 use Rattle.dk_parser.specs.Written.{WrittenCommand}
 use Rattle.dk_parser.proofs.Exact.{read_extends}
 use Rattle.command_line.specs.Requests.{Request}

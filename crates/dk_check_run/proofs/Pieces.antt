@@ -6,8 +6,10 @@ use Rattle.dk_io.specs.Bytes.{TakesFront}
 use Rattle.dk_model.specs.declared.code.Verdict.TheVariants as verdict
 use Rattle.dk_model.specs.declared.limits.Limits.{Limits}
 use Rattle.dk_lexer.specs.Tokens.{broken, tokens}
-use Rattle.dk_parser.specs.Reading.{TokenReading, read_tokens, tail_by_bytes, tail_by_tokens}
-use Rattle.dk_parser.specs.Reading as reading
+use Rattle.dk_parser.specs.Reading.{TokenReading}
+use Rattle.dk_parser.specs.FileReading.{tail_by_bytes, tail_by_tokens}
+use Rattle.dk_parser.specs.Steps.{read_tokens}
+use Rattle.dk_parser.specs.FileReading as reading
 use Rattle.verdict_book.specs.declared.outcome.Outcome.{Outcome}
 use Rattle.verdict_book.specs.declared.outcome.Outcome.TheVariants.{Accepted, Stopped, Unread}
 use Rattle.dk_check_run.specs.declared.reader.Reader.{Reader}

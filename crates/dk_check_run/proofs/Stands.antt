@@ -10,7 +10,7 @@ use Rattle.dk_lexer.specs.declared.token.Token.{Token}
 use Rattle.dk_lexer.specs.Tokens.{Ending, tokens}
 use Rattle.dk_lexer.specs.Given.{begun_line}
 use Rattle.dk_parser.specs.Parsing.{commands_from, parsing_after}
-use Rattle.dk_parser.specs.Reading.{AddsCommand, AddsFault, read_tokens}
+use Rattle.dk_parser.specs.Steps.{AddsCommand, AddsFault, read_tokens}
 use Rattle.dk_parser.specs.Views.{parsing}
 use Rattle.dk_parser.specs.Written.{WrittenCommand}
 use Rattle.verdict_book.specs.declared.outcome.Outcome.{Outcome}

@@ -8,8 +8,10 @@ use Rattle.dk_model.specs.declared.code.Verdict.TheVariants as verdict
 use Rattle.dk_model.specs.declared.limits.Limits.{Limits}
 use Rattle.dk_lexer.specs.declared.token.Token.{Token}
 use Rattle.dk_lexer.specs.Tokens.{Ending, Lexed}
-use Rattle.dk_parser.specs.Reading.{AddsCommand, AddsFault, Extends, Tail, TokenReading, read_tokens, reading_of, tail_by_tokens}
-use Rattle.dk_parser.specs.Reading as reading
+use Rattle.dk_parser.specs.Reading.{TokenReading}
+use Rattle.dk_parser.specs.FileReading.{Tail, reading_of, tail_by_tokens}
+use Rattle.dk_parser.specs.Steps.{AddsCommand, AddsFault, Extends, read_tokens}
+use Rattle.dk_parser.specs.FileReading as reading
 use Rattle.dk_parser.specs.Written.{WrittenCommand}
 use Rattle.dk_parser.proofs.Exact.{read_extends}
 use Rattle.verdict_book.specs.declared.outcome.Outcome.{Outcome}

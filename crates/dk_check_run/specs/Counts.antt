@@ -1,4 +1,4 @@
--- What the counts of faults say of a reading.
+-- For proofs: what the counts of faults say of a reading.
 use Rattle.std.specs.Prelude.{◌≡◌, ◌≤◌, ℕ, List}
 use Rattle.dk_io.specs.Causes.{Rose}
 use Rattle.verdict_book.specs.declared.outcome.Outcome.{Outcome}

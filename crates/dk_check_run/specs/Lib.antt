@@ -1,4 +1,5 @@
 pub mod Answers
+pub mod Clauses
 pub mod Counts
 pub mod Outcomes
 pub mod Progress

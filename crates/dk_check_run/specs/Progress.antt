@@ -10,9 +10,10 @@ use Rattle.dk_lexer.specs.Given.{IsFrontOf, begun_line}
 use Rattle.dk_lexer.specs.Steps.{lexer_after}
 use Rattle.dk_parser.specs.Parsing.{parsing_after}
 use Rattle.dk_parser.specs.Views.{parsing}
-use Rattle.dk_parser.specs.Reading.{Tail, read_tokens, reading_of}
+use Rattle.dk_parser.specs.FileReading.{Tail, reading_of}
+use Rattle.dk_parser.specs.Steps.{read_tokens}
 use Rattle.dk_parser.specs.Written.{WrittenCommand}
-use Rattle.verdict_book.specs.Report.{IsFault}
+use Rattle.verdict_book.specs.Stops.{IsFault}
 use Rattle.verdict_book.specs.declared.outcome.Outcome.{Outcome}
 use Rattle.verdict_book.specs.declared.outcome.Outcome.TheVariants.{Accepted, Stopped, Unread}
 use Rattle.dk_check_run.specs.declared.reader.Reader.{Reader}

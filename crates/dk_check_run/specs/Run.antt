@@ -1,18 +1,18 @@
 -- Trusted: what the program answers, the text and the status that are due (docs/report.md).
-use Rattle.std.specs.Prelude.{◌≡◌, ◌≢◌, ◌⊎◌, ◌<◌, ◌≤◌, ℕ, ◌+◌, List, [], ◌∷◌, ◌++◌, length, take, drop, Option, Some, None, unwrap_or, codes}
+use Rattle.std.specs.Prelude.{◌≡◌, ◌≢◌, ◌⊎◌, ◌≤◌, ℕ, ◌+◌, List, [], ◌∷◌, ◌++◌, length, take, drop, Option, Some, unwrap_or, codes}
 use Rattle.dk_io.specs.Bytes.{AddsSome, Books, added, book_of}
 use Rattle.dk_io.specs.Causes.{Rose}
 use Rattle.dk_model.specs.Limits.{standard}
 use Rattle.dk_model.specs.declared.code.Verdict.TheVariants as verdict
 use Rattle.dk_lexer.specs.Tokens.{Ending, broken, tokens, whole}
-use Rattle.dk_lexer.specs.Given.{begun_line}
-use Rattle.dk_parser.specs.Reading.{TokenReading, read, read_tokens}
+use Rattle.dk_parser.specs.Reading.{TokenReading}
+use Rattle.dk_parser.specs.FileReading.{read}
+use Rattle.dk_parser.specs.Steps.{read_tokens}
 use Rattle.dk_parser.specs.Written.{WrittenCommand}
 use Rattle.scope_terms.specs.Scopes.{Scoping, scoped, refused, scope_of}
 use Rattle.dk_model.specs.Scoping.{PlainCommand, declare, rule_command}
 use Rattle.typing_model.specs.Derivations.{HasDerivation}
 use Rattle.command_line.specs.Requests.{Request}
-use Rattle.command_line.specs.Usage.{usage_text}
 use Rattle.verdict_book.specs.Report.{concat, report_of, status_of, stop_line}
 use Rattle.verdict_book.specs.declared.outcome.Outcome.TheVariants.{Stopped, Unread}
 use Rattle.dk_check_run.specs.Outcomes.{FileReport, Theory, no_theory, report_of_bytes, theory_after}
@@ -76,7 +76,7 @@ pub record IsMemoryAt (q : Request) (bytes : List ℕ) (accepted line : ℕ) : T
   pub ending : Ending
   pub last : ending ≡ whole → rest ≡ []
   pub read_are : accepted ≤ length (reading_at given ending).commands
-  pub line_is : line ≡ next_line (drop accepted (reading_at given ending).commands) (reading_at given ending).begun (begun_line standard given)
+  pub line_is : line ≡ next_line (drop accepted (reading_at given ending).commands) (reading_at given ending).begun (tokens standard given broken).line
 
 -- the first `ok` lines of the file's own report, and the line that says where memory ended
 abbrev pub memory_text : Request → List ℕ → ℕ → ℕ → List ℕ
@@ -158,19 +158,3 @@ abbrev pub HasShelfFault : Request → ShelfState → ShelfState → SinkState �
 HasShelfFault q old new before after =
     ((new.left ≡ old.left) × Rose (old.missed q.file) (new.missed q.file) × (after.taken ≡ added before.taken (unopened q.file)))
     ⊎ Rose old.faults new.faults
-
--- all clauses of `run` together, in its order
-pub record Runs (request : Option Request) (old new : ShelfState) (before after : SinkState) (result : ℕ) : Type 0 where
-  pub checks : (q : Request) (bytes : List ℕ) → AsksFor request old.books q (Some bytes) → ¬ (Rose (old.missed q.file) (new.missed q.file))
-      → ¬ (Rose old.faults new.faults) → ¬ (Rose before.faults after.faults) → result ≢ 4 → ReportsFile q bytes before.taken after.taken result
-  pub derived : (q : Request) (bytes : List ℕ) → AsksFor request old.books q (Some bytes) → result ≡ 0 → IsFileDerived q bytes
-  pub decided : (q : Request) (bytes : List ℕ) → AsksFor request old.books q (Some bytes) → IsDecided result → ReportsFile q bytes before.taken after.taken result
-  pub shelf_held : IsDecided result → HasHeld old new
-  pub due : (q : Request) (book : Option (List ℕ)) → AsksFor request old.books q book → WritesDue q book old new before after result
-  pub usage : request ≡ None → Writes before after usage_text 2 result ⊎ Writes before after memory_at_once 4 result
-  pub usage_only : result ≡ 2 → request ≡ None
-  pub untouched : request ≡ None → new ≡ old
-  pub shelf_failed : result ≡ 3 → (q : Request) × (request ≡ Some q) × HasShelfFault q old new before after
-  pub sink_failed : result ≡ 5 → Rose before.faults after.faults
-  pub sink_held : result ≢ 5 → after.faults ≡ before.faults
-  pub statuses : result < 7

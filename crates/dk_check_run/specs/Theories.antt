@@ -1,4 +1,4 @@
--- The theory that the program keeps, and a step of it.
+-- For proofs: the theory that the program keeps, and a step of it.
 use Rattle.std.specs.Prelude.{◌≡◌, ◌≢◌, ℕ, List, [], ◌∷◌, ◌++◌, length}
 use Rattle.dk_model.specs.Verdicts.{IsVerdictOrMemory}
 use Rattle.dk_model.specs.declared.code.Verdict.{Verdict}

@@ -3,7 +3,8 @@ ghost use Rattle.std.specs.Prelude.{◌<◌, ◌^◌, map, length};
 ghost use Rattle.std.specs.String.{string_bytes};
 ghost use Rattle.command_line.specs.Requests.{request_of};
 ghost use Rattle.command_line.specs.Usage.{usage_text};
-ghost use Rattle.verdict_book.specs.Report.{StopsAtFault, report_of, status_of};
+ghost use Rattle.verdict_book.specs.Report.{report_of, status_of};
+ghost use Rattle.verdict_book.specs.Stops.{StopsAtFault};
 ghost use Rattle.dk_check_run.specs.Answers.{Answers, ChecksBook};
 ghost use Rattle.dk_check_run.specs.Run.{Writes, memory_at_once, shelf_state, sink_state, unopened};
 

@@ -1,14 +1,14 @@
 //! Reads the commands of a file from its bytes and judges each as soon as it is whole.
-ghost use Rattle.std.specs.Prelude.{◌≡◌, ◌≢◌, ◌≤◌, ◌<◌, ◌+◌, length, ◌∷◌, ◌++◌, [], ℕ, List, IfOk, None, Some};
+ghost use Rattle.std.specs.Prelude.{◌≡◌, ◌≢◌, ◌≤◌, ◌<◌, ◌+◌, length, take, ◌∷◌, ◌++◌, [], ℕ, List, IfOk, None, Some};
 ghost use Rattle.dk_lexer.specs.Given.{AddsTokens, begun_line, with_token};
 ghost use Rattle.dk_lexer.specs.Steps.{lexer_after};
 ghost use Rattle.dk_parser.specs.Parsing.{parsing_after};
-ghost use Rattle.dk_parser.specs.Reading.{read_tokens};
+ghost use Rattle.dk_parser.specs.Steps.{read_tokens};
 ghost use Rattle.dk_parser.specs.Views.{parsing};
 ghost use Rattle.dk_lexer.specs.Tokens.{Ending, Lexed, tokens};
 ghost use Rattle.dk_lexer.specs.declared.token.Token.{Token};
 ghost use Rattle.dk_model.specs.declared.limits.Limits.{Limits};
-ghost use Rattle.dk_parser.specs.Written.{written_command};
+ghost use Rattle.dk_parser.specs.RawViews.{written_command};
 ghost use Rattle.verdict_book.specs.declared.outcome.Outcome.{Outcome};
 ghost use Rattle.dk_check_run.specs.Theories.{checked_of};
 ghost use Rattle.dk_check_run.specs.Progress.{EndsByItself, EndsWith, GoesOnBehind, IsReady, IsStop, JudgesWhole, StandsAt, StandsAtLexed, StandsAtTokens, due_line, ended_outcome, stopped};
@@ -217,6 +217,31 @@ impl Reader {
                 self.take(alloc, fed, place);
             }
             Err(_) => self.stop_at(due, Verdict::Memory),
+        }
+    }
+
+    /// Takes a front of the bytes at once, where none of them completes a token, and says how many.
+    pub fn pass(&mut self, bytes: &[u8]) -> usize
+        requires stop { IsStop self.old.stop }
+        requires ready { self.old.stop ≡ None → IsReady self.old }
+        ensures within { result ≤ length bytes.now }
+        ensures stands { (limits : Limits) (budget : ℕ) (given : List ℕ) →
+            StandsAt limits budget given self.old →
+            StandsAt limits budget (given ++ take result bytes.now) self.new }
+        ensures stop { IsStop self.new.stop }
+        ensures kept { (self.new.limits ≡ self.old.limits) × (self.new.budget ≡ self.old.budget) }
+        ensures ready { self.new.stop ≡ None → IsReady self.new }
+    {
+        if self.stop.is_some() {
+            return 0;
+        }
+        let due = self.due_line();
+        match self.lexer.pass(bytes) {
+            Ok(count) => count,
+            Err(_) => {
+                self.stop_at(due, Verdict::Memory);
+                0
+            }
         }
     }
 

@@ -1,6 +1,6 @@
 //! Reads a book from a shelf, piece by piece.
-ghost use Rattle.std.specs.Prelude.{◌≡◌, ◌≤◌, ◌<◌, ◌+◌, ◌++◌, [], ℕ, List, Some, None, length};
-ghost use Rattle.verdict_book.specs.Report.{StopsAtFault};
+ghost use Rattle.std.specs.Prelude.{◌≡◌, ◌≤◌, ◌<◌, ◌+◌, ◌++◌, [], ℕ, List, Some, None, length, take};
+ghost use Rattle.verdict_book.specs.Stops.{StopsAtFault};
 ghost use Rattle.dk_check_run.specs.Counts.{MayRiseAtUnread, RoseAtUnread};
 ghost use Rattle.dk_model.specs.declared.limits.Limits.{Limits};
 ghost use Rattle.dk_check_run.specs.Progress.{EndsOn, IsReady, IsStop, StandsAt};
@@ -10,6 +10,27 @@ use crate::reader::Reader;
 use dk_io::Shelf;
 use std::alloc::Global;
 use verdict_book::Outcome;
+
+// Takes a front of the bytes, at least one, and says how many.
+fn feed_front(alloc: Global, reader: &mut Reader, bytes: &[u8]) -> usize
+    requires some { 0 < length bytes.now }
+    requires stop { IsStop reader.old.stop }
+    requires ready { reader.old.stop ≡ None → IsReady reader.old }
+    ensures some { 0 < result }
+    ensures within { result ≤ length bytes.now }
+    ensures stands { (limits : Limits) (budget : ℕ) (given : List ℕ) →
+        StandsAt limits budget given reader.old →
+        StandsAt limits budget (given ++ take result bytes.now) reader.new }
+    ensures stop { IsStop reader.new.stop }
+    ensures ready { reader.new.stop ≡ None → IsReady reader.new }
+{
+    let count = reader.pass(bytes);
+    if count > 0 {
+        return count;
+    }
+    reader.feed(alloc, bytes[0]);
+    1
+}
 
 // Takes the bytes of a piece.
 fn feed_piece(alloc: Global, reader: &mut Reader, bytes: &[u8])
@@ -21,8 +42,10 @@ fn feed_piece(alloc: Global, reader: &mut Reader, bytes: &[u8])
     ensures stop { IsStop reader.new.stop }
     ensures ready { reader.new.stop ≡ None → IsReady reader.new }
 {
-    for byte in bytes {
-        reader.feed(alloc, *byte);
+    let mut at = 0;
+    while at < bytes.len() {
+        let (_, rest) = bytes.split_at(at);
+        at += feed_front(alloc, reader, rest);
     }
 }
 

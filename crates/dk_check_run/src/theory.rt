@@ -1,7 +1,8 @@
 //! The theory of the commands accepted so far, and the check of the next one.
 ghost use Rattle.std.specs.Prelude.{◌≡◌, ◌<◌, ◌≤◌, ◌∷◌, ◌++◌, [], IfOk, IfErr, OnOk, OnErr, length, map};
 ghost use Rattle.dk_model.specs.Signatures.{plain_entry};
-ghost use Rattle.dk_parser.specs.Written.{written_form, written_pattern, written_rule, written_rules};
+ghost use Rattle.dk_parser.specs.Written.{written_rules};
+ghost use Rattle.dk_parser.specs.RawViews.{written_form, written_pattern, written_rule};
 ghost use Rattle.plain_evaluation.specs.Rules.{AreRuled};
 ghost use Rattle.dk_check_run.specs.Outcomes.{head_name, shown_name, verdict_after};
 ghost use Rattle.dk_check_run.specs.Theories.{AcceptsWith, Adds, IsKept, IsOtherVerdict, Judges, checked_of, nothing_checked};
@@ -103,7 +104,8 @@ impl Theory {
         }
     }
 
-    // The entry of the next command where it is accepted, whose name is declared then; else its verdict.
+    // The entry of the next command where it is accepted; else its verdict. Its name is declared once scoping accepts it, also
+    // where the check then refuses: after such a verdict the theory is let go.
     fn checked_entry(&mut self, alloc: Global, budget: u64, raw: &Raw) -> Result<Entry, Verdict>
         requires few { (checked_of self.old).theory.names.count < 4294967295 }
         requires ruled { AreRuled self.old.signature self.old.ruled.items }

@@ -1,4 +1,4 @@
--- What is known of a shelf of real files: no bytes, only how many calls failed and whether a book is open.
+-- For proofs: what is known of a shelf of real files: no bytes, only how many calls failed and whether a book is open.
 use Rattle.std.specs.Prelude.{ℕ, Bool, List, Option}
 
 pub record FileState : Type 0 where

@@ -1,4 +1,4 @@
--- What a sink in memory and a shelf in memory are, as their callers see them.
+-- For proofs: what a sink in memory and a shelf in memory are, as their callers see them.
 use Rattle.std.specs.Prelude.{ℕ, List, Contains, slice_index_or}
 use Rattle.dk_io.specs.Causes.{raised}
 use Rattle.dk_io.specs.Bytes.{Books, place_of}

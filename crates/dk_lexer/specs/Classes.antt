@@ -1,4 +1,4 @@
--- The classes of bytes.
+-- Trusted: the classes of bytes.
 use Rattle.std.specs.Prelude.{ℕ, Bool, true, false, if◌then◌else◌, ◌==◌, nat_le, ◌&&◌, ◌||◌}
 use Rattle.dk_lexer.specs.declared.class.Class.{Class}
 use Rattle.dk_lexer.specs.declared.class.Class.TheVariants as class
@@ -37,13 +37,6 @@ in_name class.Digit = true
 in_name class.Underscore = true
 in_name class.Quote = true
 in_name _ = false
-
--- may it begin a name
-abbrev pub begins_name : Class → Bool
-begins_name class.Letter = true
-begins_name class.Digit = true
-begins_name class.Underscore = true
-begins_name _ = false
 
 abbrev pub is_letter_class : Class → Bool
 is_letter_class class.Letter = true

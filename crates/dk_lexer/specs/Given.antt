@@ -1,4 +1,4 @@
--- What one more byte, or the end of the input, adds to the tokens.
+-- For proofs: what one more byte, or the end of the input, adds to the tokens.
 use Rattle.std.specs.Prelude.{◌≡◌, ℕ, List, [], ◌∷◌, ◌++◌, Option, Some, None}
 use Rattle.dk_model.specs.declared.code.Code.{Code}
 use Rattle.dk_model.specs.declared.limits.Limits.{Limits}

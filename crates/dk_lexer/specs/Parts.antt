@@ -4,7 +4,14 @@ use Rattle.dk_lexer.specs.declared.class.Class.{Class}
 use Rattle.dk_lexer.specs.declared.class.Class.TheVariants as class
 use Rattle.dk_lexer.specs.declared.part.Part.{Part}
 use Rattle.dk_lexer.specs.declared.part.Part.TheVariants as part
-use Rattle.dk_lexer.specs.Classes.{begins_name, in_name, is_letter_class}
+use Rattle.dk_lexer.specs.Classes.{in_name, is_letter_class}
+
+-- may it begin a name
+abbrev pub begins_name : Class → Bool
+begins_name class.Letter = true
+begins_name class.Digit = true
+begins_name class.Underscore = true
+begins_name _ = false
 
 abbrev pub is_bar : Class → Bool
 is_bar class.Bar = true

@@ -1,4 +1,4 @@
--- The tokens that come out, call after call, where the bytes come in pieces; and the place behind some bytes.
+-- For proofs: the tokens that come out, call after call, where the bytes come in pieces; and the place behind some bytes.
 use Rattle.std.specs.Prelude.{ℕ, ◌+◌, List, [], ◌∷◌, ◌++◌, if◌then◌else◌, ◌==◌}
 use Rattle.dk_model.specs.declared.limits.Limits.{Limits}
 use Rattle.dk_lexer.specs.declared.token.Token.{Token}

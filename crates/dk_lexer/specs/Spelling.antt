@@ -1,4 +1,4 @@
--- What is spelt at a place: the longest spelling of a blank, a comment or a token that stands there
+-- Trusted: what is spelt at a place: the longest spelling of a blank, a comment or a token that stands there
 -- (Dedukti manual, lexical conventions; docs/syntax.md).
 use Rattle.std.specs.Prelude.{ℕ, zero, suc, ◌+◌, ◌-◌, Bool, true, false, List, [], ◌∷◌, ◌++◌, length, codes, if◌then◌else◌, nat_le, ◌==◌, ◌||◌}
 use Rattle.std.specs.Str.{bytes_eq}

@@ -1,4 +1,4 @@
--- The tokens of a list of bytes (Dedukti manual, lexical conventions; the limits are our own; docs/syntax.md).
+-- Trusted: the tokens of a list of bytes (Dedukti manual, lexical conventions; the limits are our own; docs/syntax.md).
 use Rattle.std.specs.Prelude.{ℕ, ◌+◌, min, max, Bool, true, false, List, [], ◌∷◌, length, Option, Some, None, if◌then◌else◌, ◌==◌, nat_le, nat_lt}
 use Rattle.dk_model.specs.declared.code.Code.{Code}
 use Rattle.dk_model.specs.declared.code.Code.TheVariants.{E03, E05, E07}

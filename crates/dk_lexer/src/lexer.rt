@@ -1,6 +1,7 @@
 //! The lexer (docs/syntax.md, "Tokens"). Begin at `Lexer::feed` in lexer/feed.rt.
 mod ends;
 mod feed;
+mod front;
 mod moves;
 mod names;
 mod quoted;

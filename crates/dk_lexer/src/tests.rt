@@ -206,3 +206,69 @@ fn gives_the_spelling_of_a_name(rt: HostRuntime) -> Result<(), Fail> {
     assert_eq!(rt; spelling, b"a.{|b c|}".as_slice());
     Ok(())
 }
+
+// The tokens, where fronts of the text are taken at once.
+fn lex_by_fronts(alloc: Global, text: &[u8]) -> Result<Read, Fail> {
+    let mut lexer = Lexer::new(Limits::standard());
+    let mut read = Read {
+        tokens: String::new(alloc),
+        count: 0,
+        fault: None,
+        line: 0,
+    };
+    let mut rest = text;
+    for _ in 0..text.len() {
+        let count = lexer.pass(rest)?;
+        let (_, behind) = rest.split_at(count.min(rest.len()));
+        let [byte, later @ ..] = behind else {
+            break;
+        };
+        let fed = lexer.feed(alloc, *byte)?;
+        keep_all(alloc, &mut read, fed)?;
+        rest = later;
+    }
+    let fed = lexer.finish(alloc);
+    keep_all(alloc, &mut read, fed)?;
+    read.line = lexer.line();
+    Ok(read)
+}
+
+#[test]
+fn gives_the_same_tokens_where_fronts_are_taken_at_once(rt: HostRuntime) -> Result<(), Fail> {
+    let alloc = rt.alloc();
+    for text in [
+        THEORY,
+        b"(; a (; b ;) \n ;) x\n  : y. (; c ;)\n",
+        b"name' :\n\n Type (; open",
+        b"a \x0c b",
+        b"m.n {|q\n",
+    ] {
+        let one = lex(alloc, Limits::standard(), text, true)?;
+        let fronts = lex_by_fronts(alloc, text)?;
+        assert_eq!(rt; fronts.tokens.as_str(), one.tokens.as_str(), "the tokens of {text:?}");
+        assert_eq!(rt; fronts.fault, one.fault, "the fault of {text:?}");
+        assert_eq!(rt; fronts.line, one.line, "the line of {text:?}");
+    }
+    Ok(())
+}
+
+#[test]
+fn takes_a_whole_front(rt: HostRuntime) -> Result<(), Fail> {
+    let alloc = rt.alloc();
+    for (before, text, count) in [
+        ("", "  \n\t", 4),
+        ("", "  \nx", 3),
+        ("(; ", "a ( b \n ;) c", 8),
+        ("na", "me' : x", 3),
+        ("x ", ": y", 0),
+        ("{|", "abc", 0),
+        ("$", "abc", 0),
+    ] {
+        let mut lexer = Lexer::new(Limits::standard());
+        for byte in before.as_bytes() {
+            let _fed = lexer.feed(alloc, *byte)?;
+        }
+        assert_eq!(rt; lexer.pass(text.as_bytes())?, count, "at {text} behind {before}");
+    }
+    Ok(())
+}

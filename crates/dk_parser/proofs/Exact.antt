@@ -11,9 +11,10 @@ use Rattle.dk_parser.specs.declared.terminal.Terminal.TheVariants as terminal
 use Rattle.dk_parser.specs.Terminals.{terminal_of}
 use Rattle.dk_parser.specs.Written.{WrittenForm, WrittenCommand}
 use Rattle.dk_parser.specs.Grammar.{SpellsForm, terminals, first_line, Spells, Begins}
-use Rattle.dk_parser.specs.Levels.{load, IsWithin}
+use Rattle.dk_parser.specs.Levels.{level_or_argument, IsWithin}
 use Rattle.dk_parser.specs.Parsing.{Part, command_due, PartStep, goes, ends, refuses, part_next, Parsing, started, more, refused, Turn, turn, turn_refused, turn_by_step, turn_by_terminal, turn_by_fault, parsing_from, answered, commands_from}
-use Rattle.dk_parser.specs.Reading.{IsFault, IsFront, TokenReading, with_command, Reads, reads_nothing, reads_front, reads_fault, reads_command, fault_of, read_tokens, Extends}
+use Rattle.dk_parser.specs.Reading.{IsFault, IsFront, TokenReading, with_command, Reads, reads_nothing, reads_front, reads_fault, reads_command}
+use Rattle.dk_parser.specs.Steps.{fault_of, read_tokens, Extends}
 use Rattle.dk_parser.proofs.Machine.{going, ended, stuck, run_by, run, run_next, run_goes, front_goes}
 use Rattle.dk_parser.proofs.Commands.{complete}
 use Rattle.dk_parser.proofs.Reached.{sound, begins}
@@ -54,10 +55,10 @@ last_split (z ∷ xs) (f ∷ front) rest x y e =
     let tail : xs ++ x ∷ [] ≡ front ++ y ∷ rest = cc in
     elim (last_split xs front rest x y tail) [ inl h ↦ inl (cc (head, h.0), h.1) | inr h ↦ inr (h.0, cc (head, h.1)) ]
 
-within_last : (limit : ℕ) (xs front : List Terminal) (x y : Terminal) → front ≡ xs → y ≡ x → load xs x ≤ limit → load front y ≤ limit
-within_last limit xs front x y e f h = subst (λ zs. load zs y ≤ limit) (sym e) (subst (λ z. load xs z ≤ limit) (sym f) h)
+within_last : (limit : ℕ) (xs front : List Terminal) (x y : Terminal) → front ≡ xs → y ≡ x → level_or_argument xs x ≤ limit → level_or_argument front y ≤ limit
+within_last limit xs front x y e f h = subst (λ zs. level_or_argument zs y ≤ limit) (sym e) (subst (λ z. level_or_argument xs z ≤ limit) (sym f) h)
 
-within_more : (limit : ℕ) (xs : List Terminal) (x : Terminal) → IsWithin limit xs → load xs x ≤ limit → IsWithin limit (xs ++ x ∷ [])
+within_more : (limit : ℕ) (xs : List Terminal) (x : Terminal) → IsWithin limit xs → level_or_argument xs x ≤ limit → IsWithin limit (xs ++ x ∷ [])
 within_more limit xs x h k front rest y e = elim (last_split xs front rest x y e) [ inl f ↦ within_last limit xs front x y f.0 f.1 k | inr f ↦ h front f.0 y f.1 ]
 
 within_front : (limit : ℕ) (xs ys : List Terminal) → IsWithin limit (xs ++ ys) → IsWithin limit xs
@@ -224,13 +225,13 @@ module _ (limits : Limits) where
   exact_goes : (front : List Token) (p q : Part) (made : ℕ) (t : Token) (us : List Token) (b : Bool) → run command_due (terminals front) ≡ going p → IsWithin limits.levels (terminals front) → part_next p (terminal_of t) ≡ goes made q → nat_lt limits.levels made ≡ b → Behind us → Reads limits (front ++ t ∷ us) (read_from (state_at limits (first_begun front) p) (t ∷ us))
   exact_goes front p q made t us true is w e b later =
       let other = not_profile_goes p q made (terminal_of t) e in
-      let deep : limits.levels < load (terminals front) (terminal_of t) = subst (λ n. limits.levels < n) (sym (loaded (terminals front) p q made (terminal_of t) is e)) (below limits.levels made b) in
+      let deep : limits.levels < level_or_argument (terminals front) (terminal_of t) = subst (λ n. limits.levels < n) (sym (loaded (terminals front) p q made (terminal_of t) is e)) (below limits.levels made b) in
       subst (Reads limits (front ++ t ∷ us)) (sym (too_deep_read limits front p t us made q other e b))
       (reads_fault {front = front} {code = E04} t us (front_ok front p is w) (goes_begins (terminals front) p q made (terminal_of t) is e, deep))
   exact_goes front p q made t us false is w e b later =
       let other = not_profile_goes p q made (terminal_of t) e in
       let next : run command_due (terminals (front ++ t ∷ [])) ≡ going q = ap (run command_due) (terminals_more front t) ∙ run_goes command_due p q made (terminals front) (terminal_of t) is e in
-      let deep : load (terminals front) (terminal_of t) ≤ limits.levels = subst (λ n. n ≤ limits.levels) (sym (loaded (terminals front) p q made (terminal_of t) is e)) (within limits.levels made b) in
+      let deep : level_or_argument (terminals front) (terminal_of t) ≤ limits.levels = subst (λ n. n ≤ limits.levels) (sym (loaded (terminals front) p q made (terminal_of t) is e)) (within limits.levels made b) in
       let w_next : IsWithin limits.levels (terminals (front ++ t ∷ [])) = subst (IsWithin limits.levels) (sym (terminals_more front t)) (within_more limits.levels (terminals front) (terminal_of t) w deep) in
       subst (λ ts. Reads limits ts (read_from (state_at limits (first_begun front) p) (t ∷ us))) (append_assoc front (t ∷ []) us)
       (subst (Reads limits ((front ++ t ∷ []) ++ us)) (sym (goes_read limits front p t us made q other e b)) (later (front ++ t ∷ []) q next w_next))
@@ -239,7 +240,7 @@ module _ (limits : Limits) where
   exact_ends front p t us form is w e later =
       let other = not_profile_ends p form (terminal_of t) e in
       let spelt : SpellsForm (terminals (front ++ t ∷ [])) form = subst (λ xs. SpellsForm xs form) (sym (terminals_more front t)) (sound (terminals front) p (terminal_of t) form is e) in
-      let deep : load (terminals front) (terminal_of t) ≤ limits.levels = subst (λ n. n ≤ limits.levels) (sym (end_load (terminals front) p (terminal_of t) form is e)) (nothing_within limits.levels) in
+      let deep : level_or_argument (terminals front) (terminal_of t) ≤ limits.levels = subst (λ n. n ≤ limits.levels) (sym (end_load (terminals front) p (terminal_of t) form is e)) (nothing_within limits.levels) in
       let w_next : IsWithin limits.levels (terminals (front ++ t ∷ [])) = subst (IsWithin limits.levels) (sym (terminals_more front t)) (within_more limits.levels (terminals front) (terminal_of t) w deep) in
       subst (λ ts. Reads limits ts (read_from (state_at limits (first_begun front) p) (t ∷ us))) (append_assoc front (t ∷ []) us)
       (subst (Reads limits ((front ++ t ∷ []) ++ us)) (sym (ends_read limits front p t us form other e))
@@ -280,7 +281,7 @@ stuck_goes refuses p x xs q e is = cc
 step_run : (front : List Token) (p : Part) (t : Token) (us : List Token) → run command_due (terminals front) ≡ going p → run command_due (terminals (front ++ t ∷ us)) ≡ run_by (part_next p (terminal_of t)) (λ r. run r (terminals us)) (terminals us)
 step_run front p t us is = ap (run command_due) (terminals_append front (t ∷ us)) ∙ run_next command_due p (terminals front) (terminal_of t) (terminals us) is
 
-begins_goes : (s : PartStep) (xs : List Terminal) (p : Part) (x : Terminal) (limit : ℕ) → run command_due xs ≡ going p → limit < load xs x → Begins (xs ++ x ∷ []) → part_next p x ≡ s → (made : ℕ) × (q : Part) × (part_next p x ≡ goes made q)
+begins_goes : (s : PartStep) (xs : List Terminal) (p : Part) (x : Terminal) (limit : ℕ) → run command_due xs ≡ going p → limit < level_or_argument xs x → Begins (xs ++ x ∷ []) → part_next p x ≡ s → (made : ℕ) × (q : Part) × (part_next p x ≡ goes made q)
 begins_goes (goes made q) xs p x limit is d b e = (made, q, e)
 begins_goes (ends form) xs p x limit is d b e = absurd (none_below limit (subst (λ n. limit < n) (end_load xs p x form is e) d))
 begins_goes refuses xs p x limit is d b e = absurd (refused_begins xs p x is e b)

@@ -9,7 +9,7 @@ use Rattle.dk_parser.specs.declared.terminal.Terminal.{Terminal}
 use Rattle.dk_parser.specs.declared.terminal.Terminal.TheVariants as terminal
 use Rattle.dk_parser.specs.Written.{Written, written_qualified, written_star, written_apply, written_arrow, written_product, written_bare, written_annotated, WrittenParam, WrittenPattern, pattern_qualified, pattern_guard, WrittenForm}
 use Rattle.dk_parser.specs.Grammar.{dot, param, entry}
-use Rattle.dk_parser.specs.Levels.{Group, empty_group, atom_more, Groups, no_groups, with_inner, closed, grouped, Side, in_head, behind_head, on_left, Standing, at_start, params_closed, side_at_colon, stands, standing_from, standing, arrows_of, level_of, argument_in, load}
+use Rattle.dk_parser.specs.Levels.{Group, empty_group, atom_more, Groups, no_groups, with_inner, closed, groups_behind, Side, in_head, behind_head, on_left, Standing, at_start, params_closed, side_at_colon, standing_behind, standing_from, standing, arrows_of, level_of, argument_in, level_or_argument}
 use Rattle.dk_parser.specs.Parsing.{at_front, domain, Slot, due, bindable, applied, bracketed, Frame, bracket_frame, arrow_frame, product_frame, bare_frame, annotated_frame, Frames, bottom, on, TermPart, depth, pushed, binder_term, atoms, slot_more, slot_binder, takes_atom, in_frames, unwound, next_open, next_close, next_close_term, next_close_domain, next_colon, next_arrow, next_double_arrow, framed, term_next, term_argument, term_done, in_bracket, takes, PatternSlot, pattern_due, pattern_bindable, pattern_applied, Binders, no_binders, binder_on, PatternFrames, no_bracket, bracket_on, PatternPart, pattern_depth, pattern_atoms, pattern_more, pattern_binder, slot_pattern, under_binders, with_atom, with_binder, pattern_opened, pattern_closed, pattern_bound, pattern_next, pattern_argument, pattern_done, RuleHead, with_entry, with_rule, Head, level_behind, with_param, Purpose, as_param, as_type, as_body, as_entry, as_guard, as_right, Part, command_due, name_due, head_due, binder_due, binder_colon_due, rule_name_due, rule_brace_due, square_due, context_due, entry_due, entry_named, in_left, in_term, PartStep, goes, ends, refuses, body_due, body_behind_head, body_behind_type, dot_behind_type, behind_entry, behind_rule, behind_term, named_next, left_goes, right_due, guard_due, left_next, term_goes, term_ends, in_term_next, head_next, part_next}
 use Rattle.dk_parser.proofs.Machine.{going, run, follow}
 use Rattle.dk_parser.proofs.Complete.{at, next_takes, close_enders}
@@ -197,7 +197,7 @@ module _ (params : ℕ) (under : List Group) where
   next_double_grouped s fs q c e = cc
 
   -- one terminal more of a term
-  term_grouped : (p q : TermPart) (x : Terminal) → Counted p.frames → term_next p x ≡ Some q → IsGrouped (grouped (part_groups p) x) q
+  term_grouped : (p q : TermPart) (x : Terminal) → Counted p.frames → term_next p x ≡ Some q → IsGrouped (groups_behind (part_groups p) x) q
   term_grouped p q (terminal.Name n) c e = atom_grouped (slot_binder p.slot (Some n)) p.frames (atoms p.slot) q c (λ t h. binder_atoms p.slot t (Some n) h) e
   term_grouped p q terminal.Wildcard c e = atom_grouped (slot_binder p.slot None) p.frames (atoms p.slot) q c (λ t h. binder_atoms p.slot t None h) e
   term_grouped p q (terminal.Qualified m n) c e = atom_grouped (slot_more p.slot (written_qualified m n)) p.frames (atoms p.slot) q c (λ t h. slot_atoms p.slot t (written_qualified m n) h) e
@@ -321,11 +321,11 @@ StandsAt st (in_term purpose p) = (st ≡ standing_in (params_of purpose) (side_
 
 -- the load of a terminal that stands behind this
 abbrev load_in : Standing → Terminal → ℕ
-load_in st x = max (level_of (stands st x)) (argument_in st x)
+load_in st x = max (level_of (standing_behind st x)) (argument_in st x)
 
 -- what a step leaves, and the load of its terminal
 abbrev Stepped : Standing → Terminal → PartStep → Type 0
-Stepped st x (goes made q) = StandsAt (stands st x) q × (load_in st x ≡ made)
+Stepped st x (goes made q) = StandsAt (standing_behind st x) q × (load_in st x ≡ made)
 Stepped st x (ends form) = x ≡ dot
 Stepped st x refuses = Unit {0}
 
@@ -379,11 +379,11 @@ side_stays (as_guard h part) p = refl
 side_stays (as_right h l) p = refl
 
 -- a terminal of a term changes its groups alone
-term_stands : (purpose : Purpose) (p q : TermPart) (x : Terminal) → term_next p x ≡ Some q → stands (standing_in (params_of purpose) (side_of purpose) (term_groups purpose p)) x ≡ standing_in (params_of purpose) (side_of purpose) (grouped (term_groups purpose p) x)
+term_stands : (purpose : Purpose) (p q : TermPart) (x : Terminal) → term_next p x ≡ Some q → standing_behind (standing_in (params_of purpose) (side_of purpose) (term_groups purpose p)) x ≡ standing_in (params_of purpose) (side_of purpose) (groups_behind (term_groups purpose p) x)
 term_stands purpose p q (terminal.Sign sign.CloseBracket) e =
-    ap (λ n. standing_in n (side_of purpose) (grouped (term_groups purpose p) (terminal.Sign sign.CloseBracket))) (params_stay purpose p (next_takes p q (terminal.Sign sign.CloseBracket) e))
+    ap (λ n. standing_in n (side_of purpose) (groups_behind (term_groups purpose p) (terminal.Sign sign.CloseBracket))) (params_stay purpose p (next_takes p q (terminal.Sign sign.CloseBracket) e))
 term_stands purpose p q (terminal.Sign sign.Colon) e =
-    ap (λ side. standing_in (params_of purpose) side (grouped (term_groups purpose p) (terminal.Sign sign.Colon))) (side_stays purpose p)
+    ap (λ side. standing_in (params_of purpose) side (groups_behind (term_groups purpose p) (terminal.Sign sign.Colon))) (side_stays purpose p)
 term_stands purpose p q (terminal.Sign sign.Defined) e = cc
 term_stands purpose p q (terminal.Sign sign.Dot) e = cc
 term_stands purpose p q (terminal.Sign sign.LongArrow) e = cc
@@ -460,7 +460,7 @@ outer_under params under (on d (annotated_frame v a) fs) k n e = outer_under par
 abbrev head_standing : ℕ → Standing
 head_standing n = standing_in n in_head (record { inner = name_group n; outer = [] })
 
-param_stands : (n : ℕ) (gs : Groups) → gs.outer ≡ param_group n → stands (standing_in n in_head gs) (terminal.Sign sign.CloseBracket) ≡ head_standing (n + 1)
+param_stands : (n : ℕ) (gs : Groups) → gs.outer ≡ param_group n → standing_behind (standing_in n in_head gs) (terminal.Sign sign.CloseBracket) ≡ head_standing (n + 1)
 param_stands n gs e = ap (λ outer. standing_in (params_closed in_head outer n) in_head (closed gs outer)) e
 
 param_stepped : (h : Head) (v : Option (List ℕ)) (a : Written) (gs : Groups) → gs.outer ≡ param_group (level_behind h) → Stepped (standing_in (level_behind h) in_head gs) (terminal.Sign sign.CloseBracket) (goes (level_behind h + 1) (head_due (with_param h v a)))
@@ -564,7 +564,7 @@ some_left p q e = cc
 
 -- where a left side stands behind a terminal
 abbrev LeftStands : PatternPart → Terminal → PatternPart → Type 0
-LeftStands part x q = (stands (left_standing (left_groups part)) x ≡ left_standing (left_groups q)) × LeftCounted q.frames
+LeftStands part x q = (standing_behind (left_standing (left_groups part)) x ≡ left_standing (left_groups q)) × LeftCounted q.frames
 
 to_left : (part p q : PatternPart) (x : Terminal) → Some p ≡ Some q → LeftStands part x p → LeftStands part x q
 to_left part p q x e h = subst (λ q. LeftStands part x q) (some_left p q e) h
@@ -663,9 +663,9 @@ part_stepped st (in_left h part) x e = stepped_from st (left_standing (left_grou
 part_stepped st (in_term purpose p) x h =
     stepped_from st (standing_in (params_of purpose) (side_of purpose) (term_groups purpose p)) x (in_term_next (takes p x) purpose p x) h.0 (in_term_stepped (takes p x) purpose p x h.1 h.2 refl)
 
-standing_more : (st : Standing) (xs : List Terminal) (x : Terminal) → standing_from st (xs ++ x ∷ []) ≡ stands (standing_from st xs) x
+standing_more : (st : Standing) (xs : List Terminal) (x : Terminal) → standing_from st (xs ++ x ∷ []) ≡ standing_behind (standing_from st xs) x
 standing_more st [] x = refl
-standing_more st (y ∷ xs) x = standing_more (stands st y) xs x
+standing_more st (y ∷ xs) x = standing_more (standing_behind st y) xs x
 
 keeps_standing : (xs : List Terminal) (p q : Part) (made : ℕ) (x : Terminal) → StandsAt (standing xs) p → part_next p x ≡ goes made q → StandsAt (standing (xs ++ x ∷ [])) q
 keeps_standing xs p q made x h e =
@@ -676,16 +676,16 @@ stands_at : (xs : List Terminal) (p : Part) → run command_due xs ≡ going p �
 stands_at xs p is = follow (λ xs p. StandsAt (standing xs) p) keeps_standing refl xs p is
 
 -- the load of a terminal is the one that the step gives
-pub loaded : (xs : List Terminal) (p q : Part) (made : ℕ) (x : Terminal) → run command_due xs ≡ going p → part_next p x ≡ goes made q → load xs x ≡ made
+pub loaded : (xs : List Terminal) (p q : Part) (made : ℕ) (x : Terminal) → run command_due xs ≡ going p → part_next p x ≡ goes made q → level_or_argument xs x ≡ made
 loaded xs p q made x is e =
     let s : Stepped (standing xs) x (goes made q) = subst (Stepped (standing xs) x) e (part_stepped (standing xs) p x (stands_at xs p is)) in
     s.1
 
 -- what ends a command has no load
-pub end_load : (xs : List Terminal) (p : Part) (x : Terminal) (form : WrittenForm) → run command_due xs ≡ going p → part_next p x ≡ ends form → load xs x ≡ 0
+pub end_load : (xs : List Terminal) (p : Part) (x : Terminal) (form : WrittenForm) → run command_due xs ≡ going p → part_next p x ≡ ends form → level_or_argument xs x ≡ 0
 end_load xs p x form is e =
     let s : Stepped (standing xs) x (ends form) = subst (Stepped (standing xs) x) e (part_stepped (standing xs) p x (stands_at xs p is)) in
-    ap (load xs) s
+    ap (level_or_argument xs) s
 
 profile_behind : (purpose : Purpose) (o : Option Written) → term_ends purpose terminal.Profile o ≡ refuses
 profile_behind purpose None = refl

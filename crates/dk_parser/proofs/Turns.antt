@@ -12,9 +12,11 @@ use Rattle.dk_parser.specs.declared.parser.Step.TheVariants as step
 use Rattle.dk_parser.specs.declared.terminal.Terminal.{Terminal}
 use Rattle.dk_parser.specs.declared.terminal.Terminal.TheVariants as terminal
 use Rattle.dk_parser.specs.Terminals.{terminal_of}
-use Rattle.dk_parser.specs.Written.{WrittenCommand, written_command}
+use Rattle.dk_parser.specs.Written.{WrittenCommand}
+use Rattle.dk_parser.specs.RawViews.{written_command}
 use Rattle.dk_parser.specs.Parsing.{Part, PartStep, goes, ends, refuses, part_next, Parsing, started, Answer, more, command, refused, turn, turn_refused, turn_by_step, turn_by_terminal, turn_by_fault, parsing_from, parsing_after, answered, commands_from}
-use Rattle.dk_parser.specs.Reading.{TokenReading, read_tokens, fault_of, GoesOn, AddsCommand, AddsFault, AddsStep, Answers}
+use Rattle.dk_parser.specs.Reading.{TokenReading}
+use Rattle.dk_parser.specs.Steps.{read_tokens, fault_of, GoesOn, AddsCommand, AddsFault, AddsStep, Answers}
 use Rattle.dk_parser.specs.Views.{CameTo}
 
 pub parsing_more : (s : Parsing) (ts : List Token) (t : Token) → parsing_from s (ts ++ t ∷ []) ≡ (turn (parsing_from s ts) t).state

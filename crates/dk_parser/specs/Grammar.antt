@@ -1,4 +1,4 @@
--- The grammar: which terminals spell which commands (Dedukti manual, syntax; docs/grammar.md).
+-- Trusted: the grammar: which terminals spell which commands (Dedukti manual, syntax; docs/grammar.md).
 use Rattle.std.specs.Prelude.{◌≡◌, ℕ, List, [], ◌∷◌, ◌++◌, Option, Some, None, map}
 use Rattle.dk_model.specs.declared.signature.SymSort.TheVariants.{Static, Definable, Theorem}
 use Rattle.dk_lexer.specs.declared.token.Token.{Token}

@@ -1,4 +1,4 @@
--- The levels of a command, and the arguments of its applications (docs/grammar.md).
+-- Trusted: the levels of a command, and the arguments of its applications (docs/grammar.md).
 use Rattle.std.specs.Prelude.{◌≡◌, ◌≤◌, ℕ, ◌+◌, List, [], ◌∷◌, ◌++◌, max}
 use Rattle.dk_lexer.specs.declared.token.Sign.TheVariants as sign
 use Rattle.dk_parser.specs.declared.terminal.Terminal.{Terminal}
@@ -37,17 +37,17 @@ closed gs [] = gs
 closed gs (g ∷ outer) = record { inner = g; outer = outer }
 
 -- a terminal of a term: a bracket is an atom of the application that it stands in; an arrow and a binder's colon end an application
-abbrev pub grouped : Groups → Terminal → Groups
-grouped gs (terminal.Name n) = with_inner atom_more gs
-grouped gs (terminal.Qualified m n) = with_inner atom_more gs
-grouped gs terminal.Star = with_inner atom_more gs
-grouped gs terminal.Wildcard = with_inner atom_more gs
-grouped gs (terminal.Sign sign.OpenBracket) = record { inner = empty_group; outer = atom_more gs.inner ∷ gs.outer }
-grouped gs (terminal.Sign sign.CloseBracket) = closed gs gs.outer
-grouped gs (terminal.Sign sign.Colon) = with_inner binder_over gs
-grouped gs (terminal.Sign sign.Arrow) = with_inner arrow_more gs
-grouped gs (terminal.Sign sign.DoubleArrow) = with_inner arrow_more gs
-grouped gs x = gs
+abbrev pub groups_behind : Groups → Terminal → Groups
+groups_behind gs (terminal.Name n) = with_inner atom_more gs
+groups_behind gs (terminal.Qualified m n) = with_inner atom_more gs
+groups_behind gs terminal.Star = with_inner atom_more gs
+groups_behind gs terminal.Wildcard = with_inner atom_more gs
+groups_behind gs (terminal.Sign sign.OpenBracket) = record { inner = empty_group; outer = atom_more gs.inner ∷ gs.outer }
+groups_behind gs (terminal.Sign sign.CloseBracket) = closed gs gs.outer
+groups_behind gs (terminal.Sign sign.Colon) = with_inner binder_over gs
+groups_behind gs (terminal.Sign sign.Arrow) = with_inner arrow_more gs
+groups_behind gs (terminal.Sign sign.DoubleArrow) = with_inner arrow_more gs
+groups_behind gs x = gs
 
 -- where in its command a terminal stands: in the head, which its `:` or `:=` ends; on the left side of a rule; or elsewhere
 pub data Side : Type 0 where
@@ -75,31 +75,31 @@ side_at_colon in_head [] = behind_head
 side_at_colon side outer = side
 
 -- what begins anew behind a term, a context or a left side
-abbrev pub anew : Standing → Side → Standing
-anew s side = record { params = s.params; side = side; groups = no_groups }
+abbrev pub with_new_groups : Standing → Side → Standing
+with_new_groups s side = record { params = s.params; side = side; groups = no_groups }
 
 -- a brace opens a guard on a left side, and elsewhere the name of a rule
 abbrev pub brace_opened : Side → Standing → Standing
 brace_opened on_left s = record { params = s.params; side = on_left; groups = record { inner = empty_group; outer = atom_more s.groups.inner ∷ s.groups.outer } }
-brace_opened side s = anew s behind_head
+brace_opened side s = with_new_groups s behind_head
 
 -- a bracket of the head that closes is a parameter; a context and its commas, `-->`, `:=` and the name of a rule end a term, and the dot a command
-abbrev pub stands : Standing → Terminal → Standing
-stands s (terminal.Sign sign.CloseBracket) = record { params = params_closed s.side s.groups.outer s.params; side = s.side; groups = grouped s.groups (terminal.Sign sign.CloseBracket) }
-stands s (terminal.Sign sign.Colon) = record { params = s.params; side = side_at_colon s.side s.groups.outer; groups = grouped s.groups (terminal.Sign sign.Colon) }
-stands s (terminal.Sign sign.Defined) = anew s behind_head
-stands s (terminal.Sign sign.OpenSquare) = anew s behind_head
-stands s (terminal.Sign sign.Comma) = anew s behind_head
-stands s (terminal.Sign sign.CloseSquare) = anew s on_left
-stands s (terminal.Sign sign.LongArrow) = anew s behind_head
-stands s (terminal.Sign sign.OpenBrace) = brace_opened s.side s
-stands s (terminal.Sign sign.CloseBrace) = record { params = s.params; side = s.side; groups = closed s.groups s.groups.outer }
-stands s (terminal.Sign sign.Dot) = at_start
-stands s x = record { params = s.params; side = s.side; groups = grouped s.groups x }
+abbrev pub standing_behind : Standing → Terminal → Standing
+standing_behind s (terminal.Sign sign.CloseBracket) = record { params = params_closed s.side s.groups.outer s.params; side = s.side; groups = groups_behind s.groups (terminal.Sign sign.CloseBracket) }
+standing_behind s (terminal.Sign sign.Colon) = record { params = s.params; side = side_at_colon s.side s.groups.outer; groups = groups_behind s.groups (terminal.Sign sign.Colon) }
+standing_behind s (terminal.Sign sign.Defined) = with_new_groups s behind_head
+standing_behind s (terminal.Sign sign.OpenSquare) = with_new_groups s behind_head
+standing_behind s (terminal.Sign sign.Comma) = with_new_groups s behind_head
+standing_behind s (terminal.Sign sign.CloseSquare) = with_new_groups s on_left
+standing_behind s (terminal.Sign sign.LongArrow) = with_new_groups s behind_head
+standing_behind s (terminal.Sign sign.OpenBrace) = brace_opened s.side s
+standing_behind s (terminal.Sign sign.CloseBrace) = record { params = s.params; side = s.side; groups = closed s.groups s.groups.outer }
+standing_behind s (terminal.Sign sign.Dot) = at_start
+standing_behind s x = record { params = s.params; side = s.side; groups = groups_behind s.groups x }
 
 abbrev pub standing_from : Standing → List Terminal → Standing
 standing_from s [] = s
-standing_from s (x ∷ xs) = standing_from (stands s x) xs
+standing_from s (x ∷ xs) = standing_from (standing_behind s x) xs
 
 abbrev pub standing : List Terminal → Standing
 standing xs = standing_from at_start xs
@@ -128,9 +128,9 @@ argument_in s (terminal.Sign sign.OpenBrace) = argument_of_brace s.side s.groups
 argument_in s x = 0
 
 -- the level that a terminal stands on behind these, or the number of the argument that it begins, whichever is greater; a parameter's bracket counts for an argument of the name too, but its level is as great
-abbrev pub load : List Terminal → Terminal → ℕ
-load xs x = max (level_of (stands (standing xs) x)) (argument_in (standing xs) x)
+abbrev pub level_or_argument : List Terminal → Terminal → ℕ
+level_or_argument xs x = max (level_of (standing_behind (standing xs) x)) (argument_in (standing xs) x)
 
 -- no terminal makes a level or an argument above the limit
 abbrev pub IsWithin : ℕ → List Terminal → Type 0
-IsWithin limit xs = (front rest : List Terminal) (x : Terminal) → xs ≡ front ++ x ∷ rest → load front x ≤ limit
+IsWithin limit xs = (front rest : List Terminal) (x : Terminal) → xs ≡ front ++ x ∷ rest → level_or_argument front x ≤ limit

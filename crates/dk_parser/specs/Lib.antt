@@ -1,7 +1,10 @@
-pub mod Written
-pub mod Terminals
+pub mod FileReading
 pub mod Grammar
 pub mod Levels
 pub mod Parsing
+pub mod RawViews
 pub mod Reading
+pub mod Steps
+pub mod Terminals
 pub mod Views
+pub mod Written

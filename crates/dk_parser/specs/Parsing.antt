@@ -1,4 +1,4 @@
--- What the parser has made of the tokens so far. `Reading` has its meaning.
+-- For proofs: what the parser has made of the tokens so far. `Reading` has its meaning.
 use Rattle.std.specs.Prelude.{ℕ, ◌+◌, Bool, true, false, List, [], ◌∷◌, ◌++◌, Option, Some, None, length, max, unwrap_or, if◌then◌else◌, nat_lt}
 use Rattle.dk_model.specs.declared.code.Code.{Code}
 use Rattle.dk_model.specs.declared.code.Code.TheVariants.{E02, E04, E06}

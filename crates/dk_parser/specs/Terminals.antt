@@ -1,4 +1,4 @@
--- The terminal of a token.
+-- Trusted: the terminal of a token.
 use Rattle.std.specs.Prelude.{ℕ, ◌+◌, Bool, List, ◌==◌, length, take, drop, position, unwrap_or}
 use Rattle.dk_lexer.specs.declared.token.Token.{Token}
 use Rattle.dk_lexer.specs.declared.token.TokenKind.{TokenKind}

@@ -1,4 +1,4 @@
--- The parser and its parts as plain data.
+-- For proofs: the parser and its parts as plain data.
 use Rattle.std.specs.Prelude.{◌≡◌, Option, Some, None, Result, Ok, Err, map}
 use Rattle.dk_model.specs.declared.code.Fault.{Fault}
 use Rattle.dk_model.specs.declared.code.Fault.TheVariants as fault
@@ -32,7 +32,8 @@ use Rattle.dk_parser.specs.declared.parser.Parser.{Parser}
 use Rattle.dk_parser.specs.declared.parser.Step.{Step}
 use Rattle.dk_parser.specs.declared.parser.Step.TheVariants as step
 use Rattle.dk_parser.specs.declared.raw.RawPat.{RawPat}
-use Rattle.dk_parser.specs.Written.{WrittenPattern, written, maybe_written, written_param, written_pattern, written_note, written_rule, written_form, written_command}
+use Rattle.dk_parser.specs.Written.{WrittenPattern}
+use Rattle.dk_parser.specs.RawViews.{written, maybe_written, written_param, written_pattern, written_note, written_rule, written_form, written_command}
 use Rattle.dk_parser.specs.Parsing as plain
 
 abbrev pub maybe_pattern : Option RawPat → Option WrittenPattern

@@ -3,7 +3,7 @@ ghost use Rattle.std.specs.Prelude.{◌≡◌, ◌+◌, IfOk};
 ghost use Rattle.dk_parser.specs.Parsing.{behind_term, binder_named, body_behind_head, body_behind_type, body_due, dot_behind_type, head_next, named, part_next};
 ghost use Rattle.dk_parser.specs.Parsing as plain;
 ghost use Rattle.dk_parser.specs.Views.{plain_head, plain_step};
-ghost use Rattle.dk_parser.specs.Written.{maybe_written, written};
+ghost use Rattle.dk_parser.specs.RawViews.{maybe_written, written};
 
 use crate::RawTerm;
 use crate::head::Head;

@@ -3,7 +3,8 @@ ghost use Rattle.std.specs.Prelude.{◌≡◌, ◌+◌, IfOk, Some, option_map};
 ghost use Rattle.dk_parser.specs.Parsing.{around, atoms, binder_term, depth, in_bracket, in_frames, pushed, slot_binder, slot_more, slot_term, takes_atom, unwound, unwound_all};
 ghost use Rattle.dk_parser.specs.Parsing as plain;
 ghost use Rattle.dk_parser.specs.Views.{plain_place, plain_around, plain_frame, plain_frames, plain_slot, plain_term};
-ghost use Rattle.dk_parser.specs.Written.{maybe_written, written, written_annotated, written_apply, written_arrow, written_bare, written_product};
+ghost use Rattle.dk_parser.specs.Written.{written_annotated, written_apply, written_arrow, written_bare, written_product};
+ghost use Rattle.dk_parser.specs.RawViews.{maybe_written, written};
 
 use crate::RawTerm;
 use crate::term_part::TermPart;

@@ -2,7 +2,8 @@
 ghost use Rattle.std.specs.Prelude.{◌≡◌, [], IfOk};
 ghost use Rattle.dk_parser.specs.Parsing.{level_behind, with_param};
 ghost use Rattle.dk_parser.specs.Views.{plain_head};
-ghost use Rattle.dk_parser.specs.Written.{maybe_written, written, written_declare, written_form};
+ghost use Rattle.dk_parser.specs.Written.{written_declare};
+ghost use Rattle.dk_parser.specs.RawViews.{maybe_written, written, written_form};
 
 use crate::{RawForm, RawParam, RawTerm};
 use dk_model::{Listed, NoMemory, SymSort};

@@ -4,7 +4,8 @@ ghost use Rattle.dk_lexer.specs.declared.token.Token.{Token};
 ghost use Rattle.dk_model.specs.declared.code.Code.{Code};
 ghost use Rattle.dk_model.specs.declared.limits.Limits.{Limits};
 ghost use Rattle.dk_parser.specs.Grammar.{Spells};
-ghost use Rattle.dk_parser.specs.Reading.{Extends, Reads, TokenReading, read_tokens};
+ghost use Rattle.dk_parser.specs.Reading.{Reads, TokenReading};
+ghost use Rattle.dk_parser.specs.Steps.{Extends, read_tokens};
 ghost use Rattle.dk_parser.specs.Written.{WrittenCommand};
 
 /// A list of tokens spells at most one command.

@@ -6,7 +6,7 @@ ghost use Rattle.dk_model.specs.declared.limits.Limits.{Limits};
 ghost use Rattle.dk_parser.specs.declared.parser.Step.{Step};
 ghost use Rattle.dk_parser.specs.Parsing.{parsing_after, part_next, turn, turn_by_step};
 ghost use Rattle.dk_parser.specs.Parsing as plain;
-ghost use Rattle.dk_parser.specs.Reading.{AddsStep, Answers, finished, read_tokens};
+ghost use Rattle.dk_parser.specs.Steps.{AddsStep, Answers, finished, read_tokens};
 ghost use Rattle.dk_parser.specs.Views.{CameTo, parsing, plain_part, plain_step};
 
 use crate::part::{Part, PartStep};

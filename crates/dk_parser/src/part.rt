@@ -3,7 +3,7 @@ ghost use Rattle.std.specs.Prelude.{◌≡◌, IfOk, option_map};
 ghost use Rattle.dk_parser.specs.Parsing.{behind_term, in_term_next, part_next, takes, term_ends, term_goes};
 ghost use Rattle.dk_parser.specs.Parsing as plain;
 ghost use Rattle.dk_parser.specs.Views.{plain_part, plain_purpose, plain_step, plain_term};
-ghost use Rattle.dk_parser.specs.Written.{maybe_written, written};
+ghost use Rattle.dk_parser.specs.RawViews.{maybe_written, written};
 
 use crate::declare_part::{
     binder_colon_next, binder_next, body_read, head_next, name_next, named, param_read, type_read,

@@ -3,7 +3,8 @@ ghost use Rattle.std.specs.Prelude.{◌≡◌, ◌+◌, IfOk, Some, option_map};
 ghost use Rattle.dk_parser.specs.Parsing.{left_due, pattern_argument, pattern_bound, pattern_closed, pattern_depth, pattern_done, pattern_next, pattern_opened, slot_pattern, under_binders, with_atom, with_binder};
 ghost use Rattle.dk_parser.specs.Parsing as plain;
 ghost use Rattle.dk_parser.specs.Views.{maybe_pattern, plain_binders, plain_pattern, plain_pattern_frames, plain_pattern_slot};
-ghost use Rattle.dk_parser.specs.Written.{pattern_bare, written_pattern};
+ghost use Rattle.dk_parser.specs.Written.{pattern_bare};
+ghost use Rattle.dk_parser.specs.RawViews.{written_pattern};
 
 use crate::RawPat;
 use crate::pattern_slot::PatternSlot;

@@ -3,7 +3,8 @@ ghost use Rattle.std.specs.Prelude.{◌≡◌, ◌+◌, IfOk};
 ghost use Rattle.dk_parser.specs.Parsing.{binder_pattern, pattern_atoms, pattern_binder, pattern_more, slot_pattern};
 ghost use Rattle.dk_parser.specs.Parsing as plain;
 ghost use Rattle.dk_parser.specs.Views.{maybe_pattern, plain_pattern_slot};
-ghost use Rattle.dk_parser.specs.Written.{pattern_apply, written_pattern};
+ghost use Rattle.dk_parser.specs.Written.{pattern_apply};
+ghost use Rattle.dk_parser.specs.RawViews.{written_pattern};
 
 use crate::RawPat;
 use dk_model::{Listed, NoMemory};

@@ -3,7 +3,8 @@ ghost use Rattle.std.specs.Prelude.{◌≡◌, IfOk, [], map};
 ghost use Rattle.dk_parser.specs.Grammar.{entry};
 ghost use Rattle.dk_parser.specs.Parsing.{no_rules, with_entry, with_rule};
 ghost use Rattle.dk_parser.specs.Views.{plain_rule_head};
-ghost use Rattle.dk_parser.specs.Written.{maybe_written, written, written_form, written_pattern, written_rules};
+ghost use Rattle.dk_parser.specs.Written.{written_rules};
+ghost use Rattle.dk_parser.specs.RawViews.{maybe_written, written, written_form, written_pattern};
 
 use crate::{RawForm, RawNote, RawPat, RawRule, RawTerm};
 use dk_model::{Listed, NoMemory};

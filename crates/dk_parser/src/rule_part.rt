@@ -4,7 +4,7 @@ ghost use Rattle.dk_parser.specs.Grammar.{entry};
 ghost use Rattle.dk_parser.specs.Parsing.{behind_entry, behind_rule, behind_term, guard_due, left_goes, left_next, named_next, part_next, right_due, with_entry, with_rule};
 ghost use Rattle.dk_parser.specs.Parsing as plain;
 ghost use Rattle.dk_parser.specs.Views.{maybe_pattern, plain_pattern, plain_rule_head, plain_step};
-ghost use Rattle.dk_parser.specs.Written.{maybe_written, written, written_pattern};
+ghost use Rattle.dk_parser.specs.RawViews.{maybe_written, written, written_pattern};
 
 use crate::part::{Part, PartStep, Purpose};
 use crate::pattern_part::PatternPart;

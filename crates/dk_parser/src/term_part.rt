@@ -2,7 +2,7 @@
 ghost use Rattle.std.specs.Prelude.{◌≡◌, IfOk, option_map};
 ghost use Rattle.dk_parser.specs.Parsing.{framed, next_arrow, next_close, next_close_domain, next_colon, next_double_arrow, next_open, takes, takes_atom, term_argument, term_done, term_due, term_next};
 ghost use Rattle.dk_parser.specs.Views.{plain_frame, plain_frames, plain_slot, plain_term};
-ghost use Rattle.dk_parser.specs.Written.{maybe_written, written};
+ghost use Rattle.dk_parser.specs.RawViews.{maybe_written, written};
 
 use crate::RawTerm;
 use crate::frames::{Frame, Frames, Place, Slot, atom_more, binder_more, binder_term};

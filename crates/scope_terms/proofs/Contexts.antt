@@ -7,7 +7,8 @@ use Rattle.dk_model.specs.Signatures.{maybe_tree}
 use Rattle.dk_model.specs.declared.term.Term.{Term}
 use Rattle.dk_model.specs.declared.code.Code.TheVariants.{E13}
 use Rattle.dk_model.specs.Scoping.{PlainLeft, PlainScopedRule}
-use Rattle.dk_parser.specs.Written.{WrittenNote, WrittenRule, written_note}
+use Rattle.dk_parser.specs.Written.{WrittenNote, WrittenRule}
+use Rattle.dk_parser.specs.RawViews.{written_note}
 use Rattle.dk_parser.specs.declared.raw.RawNote.{RawNote}
 use Rattle.scope_terms.specs.Scopes.{Numbered, no_names, term_of, left_of, rule_of, Scoping, scoped, refused, both, number_of, with_name, maybe_term_of, notes_of, variables_of}
 use Rattle.scope_terms.proofs.Stages.{behind, behind_more, both_scoped}

@@ -1,4 +1,4 @@
--- How the faults of a call stand to scoping.
+-- For proofs: how the faults of a call stand to scoping.
 use Rattle.std.specs.Prelude.{◌≡◌}
 use Rattle.dk_model.specs.declared.code.Fault.{Fault}
 use Rattle.dk_model.specs.declared.code.Fault.TheVariants.{Refused, NoMemory}

@@ -1,10 +1,10 @@
--- What the code holds as plain data, and its scoping.
+-- For proofs: what the code holds as plain data, and its scoping.
 use Rattle.std.specs.Prelude.{ℕ, Option, List, [], ◌∷◌, map}
 use Rattle.std.specs.Option.{option_map}
 use Rattle.dk_model.specs.Trees.{Tree}
 use Rattle.dk_model.specs.Scoping.{PlainLeft, PlainScopedRule, PlainCommand, plain_scoped_rule}
 use Rattle.dk_model.specs.declared.scoped.ScopedRule.{ScopedRule}
-use Rattle.dk_parser.specs.Written.{written, maybe_written, written_pattern, written_param, written_note, written_rule, written_form}
+use Rattle.dk_parser.specs.RawViews.{written, maybe_written, written_pattern, written_param, written_note, written_rule, written_form}
 use Rattle.dk_parser.specs.declared.raw.Raw.{Raw}
 use Rattle.dk_parser.specs.declared.raw.RawTerm.{RawTerm}
 use Rattle.dk_parser.specs.declared.raw.RawPat.{RawPat}

@@ -1,4 +1,4 @@
--- Scoping: which binder, rule variable or symbol each name means (docs/scoping.md).
+-- Trusted: scoping: which binder, rule variable or symbol each name means (docs/scoping.md).
 use Rattle.std.specs.Prelude.{ℕ, ◌+◌, nat_eq, Bool, false, if◌then◌else◌, is_some, Option, Some, None, List, [], ◌∷◌, ◌++◌, length}
 use Rattle.std.specs.Option.{option_map, option_map_or}
 use Rattle.std.specs.Cmp.Lexicographic.{pointwise}

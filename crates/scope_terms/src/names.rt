@@ -1,7 +1,7 @@
 //! The names that the commands so far declare.
 ghost use Rattle.std.specs.Prelude.{◌≡◌, ◌<◌, is_some, None, IfOk, IfErr, OnOk, OnErr};
 ghost use Rattle.dk_model.specs.Scoping.{plain_command};
-ghost use Rattle.dk_parser.specs.Written.{written_form};
+ghost use Rattle.dk_parser.specs.RawViews.{written_form};
 ghost use Rattle.scope_terms.specs.Scopes.{no_names, number_of, with_name, names_after, scoped};
 ghost use Rattle.scope_terms.specs.Answers.{IsFaultOf};
 ghost use Rattle.scope_terms.specs.Places.{scoping_of};

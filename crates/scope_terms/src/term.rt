@@ -2,7 +2,7 @@
 ghost use Rattle.std.specs.Prelude.{◌≡◌, IfOk, IfErr};
 ghost use Rattle.dk_model.specs.Trees.{tree};
 ghost use Rattle.dk_model.specs.Signatures.{maybe_tree};
-ghost use Rattle.dk_parser.specs.Written.{written};
+ghost use Rattle.dk_parser.specs.RawViews.{written};
 ghost use Rattle.scope_terms.specs.Scopes.{scoped};
 ghost use Rattle.scope_terms.specs.Answers.{IsFaultOf};
 ghost use Rattle.scope_terms.specs.Places.{named_term, term_sense, maybe_sense};

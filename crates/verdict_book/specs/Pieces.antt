@@ -1,4 +1,4 @@
--- The text of the pieces of a line.
+-- For proofs: the text of the pieces of a line.
 use Rattle.std.specs.Prelude.{ℕ, List, [], ◌∷◌, ◌++◌, decimal}
 use Rattle.verdict_book.specs.declared.pieces.Piece.{Piece}
 use Rattle.verdict_book.specs.declared.pieces.Piece.TheVariants.{Text, Number}

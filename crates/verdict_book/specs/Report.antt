@@ -1,5 +1,5 @@
--- The text of a report and its status (docs/report.md).
-use Rattle.std.specs.Prelude.{◌≢◌, ℕ, ◌+◌, Bool, true, false, List, [], ◌∷◌, ◌++◌, codes, decimal}
+-- Trusted: the text of a report and its status (docs/report.md).
+use Rattle.std.specs.Prelude.{ℕ, ◌+◌, Bool, true, false, List, [], ◌∷◌, ◌++◌, codes, decimal}
 use Rattle.dk_model.specs.declared.code.Verdict.{Verdict}
 use Rattle.dk_model.specs.declared.code.Verdict.TheVariants as verdict
 use Rattle.dk_model.specs.Codes.{code_text}
@@ -57,13 +57,3 @@ abbrev pub status_of : Outcome → ℕ
 status_of (Accepted count) = 0
 status_of (Stopped number line v) = stop_status v
 status_of (Unread number) = 3
-
--- a verdict other than Accepted
-abbrev pub IsFault : Verdict → Type 0
-IsFault v = v ≢ verdict.Accepted
-
--- a file stops with a verdict other than Accepted
-abbrev pub StopsAtFault : Outcome → Type 0
-StopsAtFault (Accepted count) = Unit {0}
-StopsAtFault (Stopped number line v) = IsFault v
-StopsAtFault (Unread number) = Unit {0}

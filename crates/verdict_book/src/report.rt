@@ -1,9 +1,10 @@
 //! Writes a report through one buffer, in few and large pieces.
 ghost use Rattle.std.specs.Prelude.{◌<◌, ◌^◌, length};
-ghost use Rattle.dk_io.specs.Bytes.{Wrote};
+ghost use Rattle.dk_io.specs.Writing.{Wrote};
 ghost use Rattle.dk_io.specs.Causes.{HasCause};
 ghost use Rattle.dk_io.specs.Gathered.{Gathers};
-ghost use Rattle.verdict_book.specs.Report.{IsFault, StopsAtFault, last_line, ok_line, ok_lines, report_of, shown_lines, stop_line};
+ghost use Rattle.verdict_book.specs.Report.{last_line, ok_line, ok_lines, report_of, shown_lines, stop_line};
+ghost use Rattle.verdict_book.specs.Stops.{IsFault, StopsAtFault};
 
 use crate::{Outcome, Piece, put_pieces};
 use dk_io::{Buffer, Failed, Sink};

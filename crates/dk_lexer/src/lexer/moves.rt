@@ -1,6 +1,6 @@
 //! What a byte does that begins, continues or ends a part.
 ghost use Rattle.std.specs.Prelude.{◌≡◌, ◌≤◌, ◌<◌, ◌+◌, [], ◌∷◌, false, None, Some, OnOk, IfOk, OnErr, IsTrue, ℕ};
-ghost use Rattle.dk_lexer.specs.Classes.{begins_name};
+ghost use Rattle.dk_lexer.specs.Parts.{begins_name};
 ghost use Rattle.dk_lexer.specs.Tokens.{behind, token_at};
 ghost use Rattle.dk_lexer.specs.Steps.{past, own, fails, takes, goes_on, completes, ended, begin_name, begin_by, begin};
 

@@ -1,6 +1,7 @@
 //! Runs and qualified names.
 ghost use Rattle.std.specs.Prelude.{◌≡◌, ◌+◌, [], ◌∷◌, ◌++◌, codes, true, None, Some, OnOk, IfOk, OnErr, IsTrue, ◌⊎◌};
-ghost use Rattle.dk_lexer.specs.Classes.{begins_name, in_name};
+ghost use Rattle.dk_lexer.specs.Classes.{in_name};
+ghost use Rattle.dk_lexer.specs.Parts.{begins_name};
 ghost use Rattle.dk_lexer.specs.Steps.{run_name, run_step, second_begins, dot_step, dot_ends, second_opens, brace_step, second_name, second_step, settles, sign_at};
 
 use super::Lexer;

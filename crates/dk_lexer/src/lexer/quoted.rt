@@ -1,6 +1,7 @@
 //! Quoted names and words.
 ghost use Rattle.std.specs.Prelude.{◌≡◌, ◌+◌, [], ◌∷◌, ◌++◌, codes, true, None, Some, OnOk, IfOk, OnErr, IsTrue, ◌≢◌, ◌⊎◌};
-ghost use Rattle.dk_lexer.specs.Classes.{begins_name, is_letter_class};
+ghost use Rattle.dk_lexer.specs.Classes.{is_letter_class};
+ghost use Rattle.dk_lexer.specs.Parts.{begins_name};
 ghost use Rattle.dk_lexer.specs.Steps.{quoted_step, bar_more, bar_step, word_step, hash_step, open_step, goes_on};
 
 use super::Lexer;

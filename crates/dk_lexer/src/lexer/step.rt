@@ -1,6 +1,6 @@
 //! What a byte does, by the part that is begun.
 ghost use Rattle.std.specs.Prelude.{◌≡◌, [], None, Some, OnOk, IfOk, OnErr, IsTrue};
-ghost use Rattle.dk_lexer.specs.Classes.{begins_name};
+ghost use Rattle.dk_lexer.specs.Parts.{begins_name};
 ghost use Rattle.dk_lexer.specs.Parts.{in_text};
 ghost use Rattle.dk_lexer.specs.Spelling.{Pair, opens, closes, apart, pair};
 ghost use Rattle.dk_lexer.specs.Steps.{step, part_step, comment_pair, bracket_step, colon_step, equals_step, minus_step, two_minus_step, is_text};

@@ -7,7 +7,8 @@ use Rattle.clap.specs.Words.{Text, fault_of, kind_of}
 use Rattle.clap.specs.declared.error.Error.{Error}
 use Rattle.clap.specs.declared.error.kind.ErrorKind.TheVariants.{OutOfMemory}
 use Rattle.command_line.specs.Words.{program}
-use Rattle.command_line.specs.Requests.{IsTaken, plain_request, request_in, request_of}
+use Rattle.command_line.specs.Requests.{request_in, request_of}
+use Rattle.command_line.specs.Views.{IsTaken, plain_request}
 use Rattle.command_line.proofs.RequestParts.{asked_by, is_simple_program, refused_by}
 use Rattle.command_line.proofs.TakenWords.{taken_asks}
 use Rattle.command_line.proofs.request.read_request.Goals as goal

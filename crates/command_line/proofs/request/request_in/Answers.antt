@@ -2,7 +2,8 @@ use Rattle.std.proofs.Common.{◌≡◌, ◌∙◌, ap, codes, Some, None, sym}
 use Rattle.std.specs.Option.{option_map}
 use Rattle.clap.proofs.WalkLemmas.{first_value-rows}
 use Rattle.clap.specs.Words.{found_of, rows_of}
-use Rattle.command_line.specs.Requests.{budget_in, file_in, plain_request}
+use Rattle.command_line.specs.Requests.{budget_in, file_in}
+use Rattle.command_line.specs.Views.{plain_request}
 use Rattle.command_line.proofs.RequestParts.{both_given, no_file}
 use Rattle.command_line.proofs.request.request_in.Goals as goal
 

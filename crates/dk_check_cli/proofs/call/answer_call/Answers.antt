@@ -2,7 +2,8 @@ use Rattle.std.proofs.Common.{◌≡◌, List, ℕ, Option, map, ap, subst, sym,
 use Rattle.std.specs.Prelude.{Ok, Result}
 use Rattle.std.specs.String.{string_bytes}
 use Rattle.command_line.specs.Requests.{Request, request_of}
-use Rattle.dk_check_run.specs.Run.{Runs, ShelfState, SinkState}
+use Rattle.dk_check_run.specs.Run.{ShelfState, SinkState}
+use Rattle.dk_check_run.specs.Clauses.{Runs}
 use Rattle.dk_check_cli.proofs.call.answer_call.Goals as goal
 
 if_ok : {A E : Type 0} (r : Result A E) (x : A) (P : A → Type 0) → r ≡ Ok x → P x → IfOk r P

@@ -1,5 +1,5 @@
 use Rattle.std.proofs.Common.{sym}
-use Rattle.command_line.specs.Requests.{plain_request}
+use Rattle.command_line.specs.Views.{plain_request}
 use Rattle.dk_check_run.specs.Answers.{checked, not_opened}
 use Rattle.dk_check_run.proofs.answering.answer.Goals as goal
 

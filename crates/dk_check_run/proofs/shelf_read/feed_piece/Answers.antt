@@ -1,27 +1,31 @@
-use Rattle.std.proofs.Common.{◌++◌, ◌∷◌, [], ap, subst, sym, ◌∙◌, take, get_or, arith}
-use Rattle.std.proofs.lemmas.List.{append-nil, append_assoc, take_all, take_more}
+use Rattle.std.proofs.Common.{◌≡◌, ◌≤◌, ◌+◌, ◌++◌, [], List, ℕ, ap, subst, sym, ◌∙◌, length, take, drop, arith}
+use Rattle.std.proofs.lemmas.List.{append-nil, append_assoc, take_all}
+use Rattle.std.proofs.Math.Seq.{take-add}
 use Rattle.dk_check_run.specs.Progress.{StandsAt}
 use Rattle.dk_check_run.proofs.shelf_read.feed_piece.Goals as goal
 
-pub loop-byte-init : goal.loop-byte-init
-loop-byte-init c = record {
-  stands = λ limits budget given stands. subst (λ l. StandsAt limits budget l c.args.reader.now) (sym (append-nil given)) stands;
+pub loop-at-init : goal.loop-at-init
+loop-at-init c = record {
+  within = omega arith;
+  stands = λ limits budget given stands. subst (λ (l : List ℕ). StandsAt limits budget l c.args.reader.now) (sym (append-nil given)) stands;
   stop = c.requires.stop;
   ready = c.requires.ready;
 }
 
-pub loop-byte-preserved : goal.loop-byte-preserved
-loop-byte-preserved c = record {
+pub loop-at-preserved : goal.loop-at-preserved
+loop-at-preserved c = record {
+  within = let a = c.feed_front-at.ensures.within in let b = c.split_at.ensures.back_len in omega (arith, a, b);
   stands = λ limits budget given stands.
-      subst (λ l. StandsAt limits budget l c.feed.new.self)
-      (append_assoc given (take c.loop-byte.byte-index c.args.bytes.now) (get_or c.args.bytes.now c.loop-byte.byte-index 0 ∷ [])
-      ∙ ap (λ l. given ++ l) (sym (take_more c.args.bytes.now c.loop-byte.byte-index 0 c.loop-byte-test.true)))
-      (c.feed.ensures.stands limits budget (given ++ take c.loop-byte.byte-index c.args.bytes.now) (c.loop-byte.invariant.stands limits budget given stands));
-  stop = c.feed.ensures.stop;
-  ready = c.feed.ensures.ready;
+      subst (λ (l : List ℕ). StandsAt limits budget l c.feed_front-at.new.reader)
+      (ap (λ rest. (given ++ take c.loop-at.at c.args.bytes.now) ++ take c.feed_front-at.result rest) c.split_at.ensures.back
+      ∙ append_assoc given (take c.loop-at.at c.args.bytes.now) (take c.feed_front-at.result (drop c.loop-at.at c.args.bytes.now))
+      ∙ ap (λ l. given ++ l) (sym (take-add c.loop-at.at c.feed_front-at.result c.args.bytes.now)))
+      (c.feed_front-at.ensures.stands limits budget (given ++ take c.loop-at.at c.args.bytes.now) (c.loop-at.invariant.stands limits budget given stands));
+  stop = c.feed_front-at.ensures.stop;
+  ready = c.feed_front-at.ensures.ready;
 }
 
 pub returns-clause-stands : goal.returns-clause-stands
 returns-clause-stands c = λ limits budget given stands.
-    subst (λ l. StandsAt limits budget (given ++ l) c.loop-byte.reader) (take_all c.loop-byte.byte-index c.args.bytes.now (omega arith))
-    (c.loop-byte.invariant.stands limits budget given stands)
+    subst (λ (l : List ℕ). StandsAt limits budget (given ++ l) c.loop-at.reader) (take_all c.loop-at.at c.args.bytes.now (omega arith))
+    (c.loop-at.invariant.stands limits budget given stands)

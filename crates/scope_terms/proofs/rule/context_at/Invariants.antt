@@ -1,6 +1,6 @@
 use Rattle.std.proofs.Common.{◌≡◌, map, drop}
 use Rattle.dk_model.specs.Signatures.{maybe_tree}
-use Rattle.dk_parser.specs.Written.{written_note}
+use Rattle.dk_parser.specs.RawViews.{written_note}
 use Rattle.scope_terms.specs.Scopes.{no_names, notes_of, variables_of}
 use Rattle.scope_terms.proofs.Stages.{behind}
 use Rattle.scope_terms.proofs.rule.context_at.Given as goal

@@ -1,6 +1,6 @@
 use Rattle.std.proofs.Common.{◌≡◌, List, map, subst}
 use Rattle.dk_model.specs.Signatures.{maybe_tree}
-use Rattle.dk_parser.specs.Written.{written_note, written_rule}
+use Rattle.dk_parser.specs.RawViews.{written_note, written_rule}
 use Rattle.dk_parser.specs.declared.raw.RawNote.{RawNote}
 use Rattle.scope_terms.specs.Scopes.{no_names, scoped, notes_of, variables_of}
 use Rattle.scope_terms.proofs.Contexts.{rule_scoped}

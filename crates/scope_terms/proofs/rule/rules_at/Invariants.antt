@@ -1,6 +1,6 @@
 use Rattle.std.proofs.Common.{◌≡◌, map, drop}
 use Rattle.dk_model.specs.Scoping.{plain_scoped_rule}
-use Rattle.dk_parser.specs.Written.{written_rule}
+use Rattle.dk_parser.specs.RawViews.{written_rule}
 use Rattle.scope_terms.specs.Scopes.{rules_of}
 use Rattle.scope_terms.proofs.Stages.{behind}
 use Rattle.scope_terms.proofs.rule.rules_at.Given as goal

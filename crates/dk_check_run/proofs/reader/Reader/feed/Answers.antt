@@ -29,6 +29,6 @@ returns-in-Ok-clause-stands c = λ limits budget bytes stands.
 pub returns-in-Err-clause-stands : goal.returns-in-Err-clause-stands
 returns-in-Err-clause-stands c = λ limits budget bytes stands.
     let goes = going_on limits budget bytes c.args.self.now (is_none _ (sym c.is_some.ensures ∙ c.if-is_some.false)) stands in
-    memory_stands limits budget bytes c.args.byte c.due_line-due.result c.args.self.now c.stop_at.new.self goes
+    memory_stands limits budget bytes (c.args.byte ∷ []) c.due_line-due.result c.args.self.now c.stop_at.new.self goes
     (c.due_line-due.ensures limits bytes (tokens limits bytes broken).tokens goes.lexer goes.behind.parser)
     (ap (λ (r : Reader). r.theory) c.stop_at.ensures) (ap (λ (r : Reader). r.stop) c.stop_at.ensures)

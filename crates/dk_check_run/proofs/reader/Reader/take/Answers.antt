@@ -2,7 +2,7 @@ use Rattle.std.proofs.Common.{◌≡◌, ◌≢◌, ap, refl, subst, sym, ◌∙
 use Rattle.std.specs.Prelude.{is_some, unwrap_or}
 use Rattle.dk_model.specs.declared.code.Code.{Code}
 use Rattle.dk_lexer.specs.Tokens.{tokens}
-use Rattle.dk_parser.specs.Reading.{read_tokens}
+use Rattle.dk_parser.specs.Steps.{read_tokens}
 use Rattle.verdict_book.specs.declared.outcome.Outcome.{Outcome}
 use Rattle.dk_check_run.specs.Progress.{stands_at_tokens}
 use Rattle.dk_check_run.proofs.Lexes.{lexed_fault, lexed_going, lexed_stopped}

@@ -1,0 +1,74 @@
+-- For proofs: what the parser's steps read, and what a token adds to it. That it is what `Reads` says is a law (src/laws.rt).
+use Rattle.std.specs.Prelude.{◌≡◌, ℕ, List, [], ◌∷◌, ◌++◌, Option, Some, None, Result, Ok, Err, unwrap_or, option_map, IsSome}
+use Rattle.dk_model.specs.declared.code.Code.{Code}
+use Rattle.dk_model.specs.declared.code.Code.TheVariants.{E03}
+use Rattle.dk_model.specs.declared.code.Fault.{Fault}
+use Rattle.dk_model.specs.declared.code.Fault.TheVariants as answer_fault
+use Rattle.dk_model.specs.declared.limits.Limits.{Limits}
+use Rattle.dk_lexer.specs.declared.token.Token.{Token}
+use Rattle.dk_parser.specs.declared.parser.Step.{Step}
+use Rattle.dk_parser.specs.declared.parser.Step.TheVariants as step
+use Rattle.dk_parser.specs.Written.{WrittenCommand}
+use Rattle.dk_parser.specs.RawViews.{written_command}
+use Rattle.dk_parser.specs.Parsing.{Parsing, started, parsing_after, commands_from}
+use Rattle.dk_parser.specs.Reading.{TokenReading}
+
+abbrev pub fault_of : Parsing → Option (ℕ × Code)
+fault_of s = option_map (λ code. (unwrap_or s.begun 0, code)) s.fault
+
+-- what a list of tokens is read as
+abbrev pub read_tokens : Limits → List Token → TokenReading
+read_tokens limits ts = record {
+  commands = commands_from (started limits) ts;
+  begun = (parsing_after limits ts).begun;
+  fault = fault_of (parsing_after limits ts);
+}
+
+-- one reading begins with another: its commands do, and a fault stays
+pub record Extends (old new : TokenReading) : Type 0 where
+  pub later : List WrittenCommand
+  pub commands : new.commands ≡ old.commands ++ later
+  pub stays : IsSome old.fault → new ≡ old
+
+-- what the end of the tokens answers
+abbrev pub finished_by : Option (ℕ × Code) → Option ℕ → Result Unit Code
+finished_by (Some fault) begun = Err fault.1
+finished_by None (Some line) = Err E03
+finished_by None None = Ok tt
+
+abbrev pub finished : TokenReading → Result Unit Code
+finished r = finished_by r.fault r.begun
+
+-- one more token, and nothing comes of it yet
+pub record GoesOn (old new : TokenReading) : Type 0 where
+  pub commands : new.commands ≡ old.commands
+  pub begun : IsSome new.begun
+  pub before : old.fault ≡ None
+  pub after : new.fault ≡ None
+
+-- one more token, and it ends a command
+pub record AddsCommand (old new : TokenReading) (c : WrittenCommand) : Type 0 where
+  pub commands : new.commands ≡ old.commands ++ c ∷ []
+  pub begun : new.begun ≡ None
+  pub before : old.fault ≡ None
+  pub after : new.fault ≡ None
+
+-- one more token, and it is at fault, or one before it was
+pub record AddsFault (old new : TokenReading) (code : Code) : Type 0 where
+  pub commands : new.commands ≡ old.commands
+  pub line : ℕ
+  pub begun : new.begun ≡ Some line
+  pub after : new.fault ≡ Some (line, code)
+  pub before : IsSome old.fault → new ≡ old
+
+-- what an answer says of the reading before the token and with it; want of memory says nothing
+abbrev pub AddsStep : TokenReading → Result Step Fault → TokenReading → Type 0
+AddsStep old (Ok step.More) new = GoesOn old new
+AddsStep old (Ok (step.Command raw)) new = AddsCommand old new (written_command raw)
+AddsStep old (Err (answer_fault.Refused code)) new = AddsFault old new code
+AddsStep old (Err answer_fault.NoMemory) new = Unit {0}
+
+-- a fact of every answer but want of memory
+abbrev pub Answers : Result Step Fault → Type 0 → Type 0
+Answers (Err answer_fault.NoMemory) P = Unit {0}
+Answers answer P = P
