@@ -6,11 +6,12 @@ use Rattle.std.proofs.lemmas.Option.{slice_get-get_or}
 use Rattle.std.specs.List.{list_any}
 use Rattle.indexmap.specs.IndexSet.{insert_key}
 use Rattle.dk_model.specs.Trees.{Tree, star, kind, symbol, variable, rule_variable, apply, bare, annotated, product}
-use Rattle.dk_model.specs.Bounds.{IsClosedAt}
-use Rattle.dk_model.proofs.Closed.{closed_further}
 use Rattle.dk_model.specs.declared.NodeOf.TheVariants.{Star, Kind, Sym, Var, Rvar, App, Abs, Prod}
 use Rattle.shared_term.specs.declared.id.TermId.{TermId}
-use Rattle.shared_term.specs.Pools.{Node, at, denoted, IsWithin, terms_after, terms, IsPool, HasBounds, Extends, node_bound}
+use Rattle.shared_term.specs.declared.summary.Summary.{Summary}
+use Rattle.shared_term.specs.Summaries.{IsSummary, AreSummaries, blank, summary_at, node_summary}
+use Rattle.shared_term.proofs.Summing.{both_right, inside_right, annotated_right, product_right}
+use Rattle.shared_term.specs.Pools.{Node, at, denoted, IsWithin, terms_after, terms, IsPool, Extends}
 
 -- one node after others
 after-push : (ts : List Tree) (ns : List Node) (n : Node) → terms_after ts (ns ++ n ∷ []) ≡ terms_after ts ns ++ denoted (terms_after ts ns) n ∷ []
@@ -184,38 +185,36 @@ pool-push ns n h w new = record {
       (below_or_last i (length ns) (omega (arith, length-append ns (n ∷ [])))) (below_or_last j (length ns) (omega (arith, length-append ns (n ∷ [])))) e;
 }
 
-bound_closed : (bs : List ℕ) (ts : List Tree) (n : ℕ) (m : Node) → ((i : ℕ) → i < n → IsClosedAt (get_or bs i 0) (get_or ts i star)) → IsWithin n m → IsClosedAt (node_bound bs m) (denoted ts m)
-bound_closed bs ts n Star h w = tt
-bound_closed bs ts n Kind h w = tt
-bound_closed bs ts n (Sym k) h w = tt
-bound_closed bs ts n (Var k) h w = omega arith
-bound_closed bs ts n (Rvar k) h w = tt
-bound_closed bs ts n (App f a) h w =
-    (closed_further (get_or bs f.0 0) _ (at ts f) (omega arith) (h f.0 w.0), closed_further (get_or bs a.0 0) _ (at ts a) (omega arith) (h a.0 w.1))
-bound_closed bs ts n (Abs None b) h w = closed_further (get_or bs b.0 0) _ (at ts b) (omega arith) (h b.0 w)
-bound_closed bs ts n (Abs (Some a) b) h w =
-    (closed_further (get_or bs a.0 0) _ (at ts a) (omega arith) (h a.0 w.0), closed_further (get_or bs b.0 0) _ (at ts b) (omega arith) (h b.0 w.1))
-bound_closed bs ts n (Prod a b) h w =
-    (closed_further (get_or bs a.0 0) _ (at ts a) (omega arith) (h a.0 w.0), closed_further (get_or bs b.0 0) _ (at ts b) (omega arith) (h b.0 w.1))
+summary_right : (ss : List Summary) (ts : List Tree) (n : ℕ) (m : Node) → ((i : ℕ) → i < n → IsSummary (get_or ss i blank) (get_or ts i star)) → IsWithin n m
+    → IsSummary (node_summary ss m) (denoted ts m)
+summary_right ss ts n Star h w = record { closed = tt; ruled = λ e. tt; plain = λ e. tt }
+summary_right ss ts n Kind h w = record { closed = tt; ruled = λ e. tt; plain = λ e. tt }
+summary_right ss ts n (Sym k) h w = record { closed = tt; ruled = λ e. tt; plain = λ e. tt }
+summary_right ss ts n (Var k) h w = record { closed = omega arith; ruled = λ e. tt; plain = λ e. tt }
+summary_right ss ts n (Rvar k) h w = record { closed = tt; ruled = λ e. absurd (true≢false e); plain = λ e. tt }
+summary_right ss ts n (App f a) h w = both_right (summary_at ss f) (summary_at ss a) (at ts f) (at ts a) (h f.0 w.0) (h a.0 w.1)
+summary_right ss ts n (Abs None b) h w = inside_right (summary_at ss b) (at ts b) (h b.0 w)
+summary_right ss ts n (Abs (Some a) b) h w = annotated_right (summary_at ss a) (summary_at ss b) (at ts a) (at ts b) (h a.0 w.0) (h b.0 w.1)
+summary_right ss ts n (Prod a b) h w = product_right (summary_at ss a) (summary_at ss b) (at ts a) (at ts b) (h a.0 w.0) (h b.0 w.1)
 
-closed-push : (ns : List Node) (bs : List ℕ) (n : Node) → HasBounds ns bs → IsWithin (length ns) n → (i : ℕ) → (i < length ns) ⊎ (i ≡ length ns)
-    → IsClosedAt (get_or (bs ++ node_bound bs n ∷ []) i 0) (get_or (terms (ns ++ n ∷ [])) i star)
-closed-push ns bs n h w i (inl p) =
-    let e = get_or-append bs (node_bound bs n ∷ []) 0 i (omega (arith, h.count)) in
+right-push : (ns : List Node) (ss : List Summary) (n : Node) → AreSummaries ns ss → IsWithin (length ns) n → (i : ℕ) → (i < length ns) ⊎ (i ≡ length ns)
+    → IsSummary (get_or (ss ++ node_summary ss n ∷ []) i blank) (get_or (terms (ns ++ n ∷ [])) i star)
+right-push ns ss n h w i (inl p) =
+    let e = get_or-append ss (node_summary ss n ∷ []) blank i (omega (arith, h.count)) in
     let f = (extends-push ns n).keeps i p in
-    let P : ℕ → Tree → Type 0 = IsClosedAt in
-    subst (λ (k : ℕ). P k (get_or (terms (ns ++ n ∷ [])) i star)) (sym e) (subst (λ (t : Tree). P (get_or bs i 0) t) (sym f) (h.closed i p))
-closed-push ns bs n h w i (inr p) =
-    let e = ap (λ k. get_or (bs ++ node_bound bs n ∷ []) k 0) (p ∙ sym h.count) ∙ get_or-append_seam bs (node_bound bs n) [] 0 in
+    let P : Summary → Tree → Type 0 = λ s t. IsSummary s t in
+    subst (λ (s : Summary). P s (get_or (terms (ns ++ n ∷ [])) i star)) (sym e) (subst (λ (t : Tree). P (get_or ss i blank) t) (sym f) (h.right i p))
+right-push ns ss n h w i (inr p) =
+    let e = ap (λ k. get_or (ss ++ node_summary ss n ∷ []) k blank) (p ∙ sym h.count) ∙ get_or-append_seam ss (node_summary ss n) [] blank in
     let f = ap (λ k. get_or (terms (ns ++ n ∷ [])) k star) p ∙ last_term ns n in
-    let P : ℕ → Tree → Type 0 = IsClosedAt in
-    subst (λ (k : ℕ). P k (get_or (terms (ns ++ n ∷ [])) i star)) (sym e)
-    (subst (λ (t : Tree). P (node_bound bs n) t) (sym f) (bound_closed bs (terms ns) (length ns) n h.closed w))
+    let P : Summary → Tree → Type 0 = λ s t. IsSummary s t in
+    subst (λ (s : Summary). P s (get_or (terms (ns ++ n ∷ [])) i star)) (sym e)
+    (subst (λ (t : Tree). P (node_summary ss n) t) (sym f) (summary_right ss (terms ns) (length ns) n h.right w))
 
-pub bounds-push : (ns : List Node) (bs : List ℕ) (n : Node) → HasBounds ns bs → IsWithin (length ns) n → HasBounds (ns ++ n ∷ []) (bs ++ node_bound bs n ∷ [])
-bounds-push ns bs n h w = record {
-  count = length-append bs (node_bound bs n ∷ []) ∙ ap (λ k. k + 1) h.count ∙ sym (length-append ns (n ∷ []));
-  closed = λ i l. closed-push ns bs n h w i (below_or_last i (length ns) (omega (arith, length-append ns (n ∷ []))));
+pub summaries-push : (ns : List Node) (ss : List Summary) (n : Node) → AreSummaries ns ss → IsWithin (length ns) n → AreSummaries (ns ++ n ∷ []) (ss ++ node_summary ss n ∷ [])
+summaries-push ns ss n h w = record {
+  count = length-append ss (node_summary ss n ∷ []) ∙ ap (λ k. k + 1) h.count ∙ sym (length-append ns (n ∷ []));
+  right = λ i l. right-push ns ss n h w i (below_or_last i (length ns) (omega (arith, length-append ns (n ∷ []))));
 }
 
 -- what a set that lacks the node says of each of its nodes
@@ -244,11 +243,11 @@ module _ (eq : Node → Node → Bool) (exact : (m n : Node) → eq m n ≡ true
       by true e = let P : Bool → Type 0 = λ c. IsPool (if c then ns else ns ++ n ∷ []) in subst P (sym e) h
       by false e = let P : Bool → Type 0 = λ c. IsPool (if c then ns else ns ++ n ∷ []) in subst P (sym e) (pool-push ns n h w (fresh ns n e))
 
-  pub bounds-insert : (ns : List Node) (bs : List ℕ) (n : Node) → list_any (eq n) ns ≡ false → HasBounds ns bs → IsWithin (length ns) n
-      → HasBounds (insert_key eq ns n) (bs ++ node_bound bs n ∷ [])
-  bounds-insert ns bs n e h w =
-      let P : Bool → Type 0 = λ c. HasBounds (if c then ns else ns ++ n ∷ []) (bs ++ node_bound bs n ∷ []) in
-      subst P (sym e) (bounds-push ns bs n h w)
+  pub summaries-insert : (ns : List Node) (ss : List Summary) (n : Node) → list_any (eq n) ns ≡ false → AreSummaries ns ss → IsWithin (length ns) n
+      → AreSummaries (insert_key eq ns n) (ss ++ node_summary ss n ∷ [])
+  summaries-insert ns ss n e h w =
+      let P : Bool → Type 0 = λ c. AreSummaries (if c then ns else ns ++ n ∷ []) (ss ++ node_summary ss n ∷ []) in
+      subst P (sym e) (summaries-push ns ss n h w)
 
   pub extends-insert : (ns : List Node) (n : Node) → Extends ns (insert_key eq ns n)
   extends-insert ns n = by (list_any (eq n) ns)

@@ -1,3 +1,7 @@
+pub mod Summing
 pub mod Growth
-pub mod Walks
+pub mod Unchanged
+pub mod Remembering
+pub mod Waiting
+pub mod Captures
 pub mod Places

@@ -1,7 +1,6 @@
 -- What the nodes of a pool denote.
-use Rattle.std.specs.Prelude.{◌≡◌, ℕ, ◌+◌, ◌-◌, ◌<◌, ◌≤◌, ◌^◌, max, List, [], ◌∷◌, ◌++◌, length, get_or, slice_get, Some, None}
+use Rattle.std.specs.Prelude.{◌≡◌, ℕ, ◌+◌, ◌<◌, ◌≤◌, ◌^◌, List, [], ◌∷◌, ◌++◌, length, get_or, slice_get, Some, None}
 use Rattle.dk_model.specs.Trees.{Tree, star, kind, symbol, variable, rule_variable, apply, bare, annotated, product}
-use Rattle.dk_model.specs.Bounds.{IsClosedAt}
 use Rattle.dk_model.specs.declared.NodeOf.{NodeOf}
 use Rattle.dk_model.specs.declared.NodeOf.TheVariants.{Star, Kind, Sym, Var, Rvar, App, Abs, Prod}
 use Rattle.shared_term.specs.declared.id.TermId.{TermId}
@@ -56,11 +55,6 @@ pub record IsPool (ns : List Node) : Type 0 where
   pub built : (i : ℕ) (n : Node) → slice_get ns i ≡ Some n → get_or (terms ns) i star ≡ denoted (terms ns) n
   pub once : (i j : ℕ) → i < length ns → j < length ns → get_or (terms ns) i star ≡ get_or (terms ns) j star → i ≡ j
 
--- each place has a bound on the variables that its term mentions
-pub record HasBounds (ns : List Node) (bs : List ℕ) : Type 0 where
-  pub count : length bs ≡ length ns
-  pub closed : (i : ℕ) → i < length ns → IsClosedAt (get_or bs i 0) (get_or (terms ns) i star)
-
 -- what was denoted is denoted still
 pub record Extends (old new : List Node) : Type 0 where
   pub longer : length old ≤ length new
@@ -70,18 +64,6 @@ pub record Extends (old new : List Node) : Type 0 where
 abbrev pub HasNext : Node → Type 0
 HasNext (Var k) = k + 1 < 2 ^ 64
 HasNext n = Unit {0}
-
--- a bound on the variables that a node mentions, from those of its parts
-abbrev pub node_bound : List ℕ → Node → ℕ
-node_bound bs Star = 0
-node_bound bs Kind = 0
-node_bound bs (Sym k) = 0
-node_bound bs (Var k) = k + 1
-node_bound bs (Rvar k) = 0
-node_bound bs (App f a) = max (get_or bs f.0 0) (get_or bs a.0 0)
-node_bound bs (Abs None b) = get_or bs b.0 0 - 1
-node_bound bs (Abs (Some n) b) = max (get_or bs n.0 0) (get_or bs b.0 0 - 1)
-node_bound bs (Prod a b) = max (get_or bs a.0 0) (get_or bs b.0 0 - 1)
 
 -- the one term, in the pool as it was, is taken to the other, in the pool as it is
 pub record Moves (g : Tree → Tree) (old new : List Node) (x y : TermId) : Type 0 where

@@ -1,16 +1,21 @@
 //! Terms as numbers of nodes that are shared: two numbers of one pool denote equal terms exactly where they are equal.
+//!
+//! Begin at `Pool`, then specs/Pools.antt, which says what a number denotes.
 #![tactic(auto)]
 
 mod boxed;
+mod change;
+mod entering;
 mod id;
 mod loading;
 mod memo;
+mod memos;
 mod nodes;
 mod pool;
-mod shifting;
 mod stored;
 mod storing;
-mod substitution;
+mod summary;
+mod walk;
 
 pub use id::{Node, TermId};
 pub use nodes::Nodes;

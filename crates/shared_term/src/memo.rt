@@ -1,16 +1,15 @@
-//! What was worked out lately, by its number, its depth and a further number.
+//! What was worked out lately, by what was asked for.
 ghost use Rattle.std.specs.Prelude.{◌≡◌, ◌≤◌, ◌<◌, ◌⊎◌, All, IfSome, IfOk};
 
 use crate::TermId;
+use crate::change::{Change, Goal};
 use dk_model::NoMemory;
 use std::alloc::Global;
 
-/// A result: that of `id` at depth `at`, with `by`.
+/// A result, and what it was asked for.
 #[derive(Clone, Copy)]
 pub(crate) struct Done {
-    pub(crate) id: TermId,
-    pub(crate) at: u64,
-    pub(crate) by: u64,
+    pub(crate) goal: Goal,
     pub(crate) result: TermId,
 }
 
@@ -23,14 +22,17 @@ pub(crate) struct Slot {
 const UNUSED: Slot = Slot {
     era: 0,
     done: Done {
-        id: TermId(0),
-        at: 0,
-        by: 0,
+        goal: Goal {
+            change: Change::Erase,
+            id: TermId(0),
+            depth: 0,
+        },
         result: TermId(0),
     },
 };
 
-/// Results by a slot that their key picks. A later one takes an earlier one's place, and those of an earlier era don't count.
+/// Results by a slot that their goal picks. A later one takes an earlier one's place, and those of an earlier era
+/// don't count.
 #[derive(Drop)]
 pub(crate) struct Memo {
     pub(crate) slots: Vec<Slot>,
@@ -39,10 +41,18 @@ pub(crate) struct Memo {
     ghost begun: { 0 < era },
 }
 
-fn slot_of(id: TermId, at: u64, by: u64, count: usize) -> usize {
-    let key = (id.0 as u64)
-        .wrapping_add(by.wrapping_mul(0x9e37_79b9))
-        .wrapping_add(at << 21)
+// Two goals that pick the same slot only cost time.
+fn slot_of(goal: Goal, count: usize) -> usize {
+    let change = match goal.change {
+        Change::Shift(by) => by.wrapping_mul(2),
+        Change::Substitute(by) => (by.0 as u64).wrapping_mul(2).wrapping_add(1),
+        Change::Erase => 0,
+        Change::Fill => 0,
+        Change::Rename => 0,
+    };
+    let key = (goal.id.0 as u64)
+        .wrapping_add(change.wrapping_mul(0x9e37_79b9))
+        .wrapping_add(goal.depth << 21)
         .wrapping_mul(0x9e37_79b9_7f4a_7c15);
     if count == 0 {
         0
@@ -63,20 +73,18 @@ impl Memo {
         Ok(Memo { slots, era: 1 })
     }
 
-    /// The result that is remembered under the key, if one is.
+    /// The result that is remembered for the goal, if one is.
     #[inline(always)]
-    pub(crate) fn find(&self, id: TermId, at: u64, by: u64) -> Option<TermId>
-        ensures { IfSome result (λ r. Remembers self.now (Is id at by r)) }
+    pub(crate) fn find(&self, goal: Goal) -> Option<TermId>
+        ensures { IfSome result (λ r. Remembers self.now (Is goal r)) }
     {
-        let slot = slot_of(id, at, by, self.slots.len());
+        let slot = slot_of(goal, self.slots.len());
         match self.slots.get(slot) {
-            Some(s) => {
-                if s.era == self.era && s.done.id == id && s.done.at == at && s.done.by == by {
-                    Some(s.done.result)
-                } else {
-                    None
-                }
-            }
+            Some(s) => if s.era == self.era && s.done.goal == goal {
+                Some(s.done.result)
+            } else {
+                None
+            },
             None => None,
         }
     }
@@ -86,7 +94,7 @@ impl Memo {
     pub(crate) fn put(&mut self, done: Done)
         ensures { (d : Done) → Remembers self.new d → (d ≡ done) ⊎ Remembers self.old d }
     {
-        let slot = slot_of(done.id, done.at, done.by, self.slots.len());
+        let slot = slot_of(done.goal, self.slots.len());
         let era = self.era;
         if let Some(place) = self.slots.get_mut(slot) {
             *place = Slot { era, done };

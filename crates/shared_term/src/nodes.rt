@@ -1,9 +1,10 @@
-//! A list of nodes, each once, and for each a bound on the variables that its term mentions.
+//! A list of nodes, each once, and for each a summary of its term.
 ghost use Rattle.std.specs.Prelude.{◌≡◌, ◌<◌, [], ◌∷◌, ◌++◌, length, slice_get, Some, IfOk, OnErr, IsTrue, ◌↔◌};
-ghost use Rattle.shared_term.specs.Pools.{term, terms, denoted, Extends, IsWithin, HasNext, node_bound};
-ghost use Rattle.dk_model.specs.Bounds.{IsClosedAt};
+ghost use Rattle.shared_term.specs.Pools.{term, terms, denoted, Extends, IsWithin, HasNext};
+ghost use Rattle.shared_term.specs.Summaries.{IsSummary};
 
 use crate::id::exact;
+use crate::summary::{Summary, summary_of};
 use crate::{Node, TermId};
 use dk_model::{NoMemory, NodeOf};
 use indexmap::IndexSet;
@@ -22,45 +23,25 @@ fn has_next(node: Node) -> bool
     }
 }
 
-// A bound on the variables of a node, from those of its parts.
-fn bound_of(bounds: &[u64], node: Node) -> u64
-    requires parts { IsWithin (length bounds.now) node }
-    requires next { HasNext node }
-    ensures { result ≡ node_bound bounds.now node }
-{
-    match node {
-        NodeOf::Star => 0,
-        NodeOf::Kind => 0,
-        NodeOf::Sym(_) => 0,
-        NodeOf::Var(k) => k + 1,
-        NodeOf::Rvar(_) => 0,
-        NodeOf::App(f, a) => bounds[f.0 as usize].max(bounds[a.0 as usize]),
-        NodeOf::Abs(None, b) => bounds[b.0 as usize].saturating_sub(1),
-        NodeOf::Abs(Some(n), b) => {
-            bounds[n.0 as usize].max(bounds[b.0 as usize].saturating_sub(1))
-        }
-        NodeOf::Prod(a, b) => bounds[a.0 as usize].max(bounds[b.0 as usize].saturating_sub(1)),
-    }
-}
-
 /// Nodes in the order in which they were first interned. The parts of a node stand before it.
 #[derive(Drop)]
 pub struct Nodes {
     nodes: IndexSet<Node>,
-    bounds: Vec<u64>,
+    summaries: Vec<Summary>,
 }
 
 impl Model for Nodes {
     ghost use Rattle.std.specs.Prelude.{List};
     ghost use Rattle.dk_model.specs.declared.NodeOf.{NodeOf};
     ghost use Rattle.shared_term.specs.declared.id.TermId.{TermId};
-    ghost use Rattle.shared_term.specs.Pools.{IsPool, HasBounds};
+    ghost use Rattle.shared_term.specs.Pools.{IsPool};
+    ghost use Rattle.shared_term.specs.Summaries.{AreSummaries};
 
     ghost Value = { List (NodeOf TermId) };
 
     ghost view = { λ p. p.nodes.keys };
 
-    ghost invariant = { λ p. IsPool p.nodes.keys × HasBounds p.nodes.keys p.bounds.items };
+    ghost invariant = { λ p. IsPool p.nodes.keys × AreSummaries p.nodes.keys p.summaries.items };
 }
 
 impl Nodes {
@@ -70,7 +51,7 @@ impl Nodes {
     {
         Nodes {
             nodes: IndexSet::new(alloc),
-            bounds: Vec::new(alloc),
+            summaries: Vec::new(alloc),
         }
     }
 
@@ -91,12 +72,12 @@ impl Nodes {
         self.nodes[id.0 as usize]
     }
 
-    /// A bound on the variables that a term mentions.
-    pub fn bound(&self, id: TermId) -> u64
+    /// What is known of a term.
+    pub(crate) fn summary(&self, id: TermId) -> Summary
         requires { id.0 < length self.now }
-        ensures { IsClosedAt result (term self.now id) }
+        ensures { IsSummary result (term self.now id) }
     {
-        self.bounds[id.0 as usize]
+        self.summaries[id.0 as usize]
     }
 
     /// The place of a node, which goes last where it isn't there.
@@ -110,11 +91,11 @@ impl Nodes {
             return Err(NoMemory);
         }
         exact();
-        self.bounds.reserve(1)?;
+        self.summaries.reserve(1)?;
         let (place, new) = self.nodes.insert_full(node)?;
         if new {
-            let bound = bound_of(self.bounds.as_slice(), node);
-            self.bounds.push_reserved(bound);
+            let summary = summary_of(self.summaries.as_slice(), node);
+            self.summaries.push_reserved(summary);
         }
         Ok(TermId(place as u32))
     }
@@ -134,6 +115,6 @@ impl Nodes {
         ensures { self.new ≡ [] }
     {
         self.nodes.truncate(0);
-        self.bounds.clear();
+        self.summaries.clear();
     }
 }

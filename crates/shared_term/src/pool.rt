@@ -1,56 +1,62 @@
 //! A pool of shared terms.
 ghost use Rattle.std.specs.Prelude.{◌≡◌, ◌<◌, ◌↔◌, [], length, slice_get, Some, IfOk, IsTrue};
 ghost use Rattle.dk_model.specs.Substitution.{shift, substitute};
+ghost use Rattle.dk_model.specs.Erasure.{erased};
+ghost use Rattle.dk_model.specs.Selection.{filled, renamed};
 ghost use Rattle.shared_term.specs.Storage.{stored_term};
 ghost use Rattle.shared_term.specs.Pools.{term, terms, denoted, Extends, IsWithin, Moves};
+ghost use Rattle.shared_term.specs.Changes.{AreCaptures, captured_terms};
 
+use crate::change::{Change, Frame, Given, Goal};
 use crate::loading::loaded;
-use crate::memo::Memo;
-use crate::shifting::shifted;
+use crate::memos::Memos;
 use crate::storing::stored;
-use crate::substitution::substituted;
+use crate::walk::walked;
 use crate::{Node, Nodes, Stored, TermId};
 use dk_model::NoMemory;
 use std::alloc::Global;
 use std::marker::Model;
-
-const SLOTS: usize = 1024;
 
 /// Nodes, each once. A contract sees their list, and by it the term at each place.
 #[derive(Drop)]
 pub struct Pool {
     alloc: Global,
     nodes: Nodes,
-    shifts: Memo,
-    substitutions: Memo,
+    memos: Memos,
+    frames: Vec<Frame>,
 }
 
 impl Model for Pool {
     ghost use Rattle.std.specs.Prelude.{List};
     ghost use Rattle.dk_model.specs.declared.NodeOf.{NodeOf};
     ghost use Rattle.shared_term.specs.declared.id.TermId.{TermId};
-    ghost use Rattle.shared_term.specs.Memos.{AreShifts, AreSubstitutions};
+    ghost use Rattle.shared_term.specs.Memos.{AreLasting};
 
     ghost Value = { List (NodeOf TermId) };
 
     ghost view = { λ p. p.nodes };
 
-    ghost invariant = { λ p. AreShifts p.nodes p.shifts × AreSubstitutions p.nodes p.substitutions };
+    ghost invariant = { λ p. AreLasting p.nodes p.memos.lasting };
 }
+
+const NOTHING: Given<'static> = Given {
+    captures: &[],
+    bound: 0,
+    arguments: &[],
+};
 
 impl Pool {
     /// An empty pool.
-    #[tactic(auto, using(crate::proofs::Walks::shifts_blank, crate::proofs::Walks::substitutions_blank))]
+    #[tactic(auto, using(crate::proofs::Remembering::lasting_blank))]
     pub fn new(alloc: Global) -> Result<Pool, NoMemory>
         ensures { IfOk result (λ p. p ≡ []) }
     {
-        let shifts = Memo::new(alloc, SLOTS)?;
-        let substitutions = Memo::new(alloc, SLOTS)?;
+        let memos = Memos::new(alloc)?;
         Ok(Pool {
             alloc,
             nodes: Nodes::new(alloc),
-            shifts,
-            substitutions,
+            memos,
+            frames: Vec::new(alloc),
         })
     }
 
@@ -66,20 +72,12 @@ impl Pool {
     }
 
     /// Takes all nodes out, and keeps the memory.
-    #[tactic(auto, using(crate::proofs::Walks::shifts_blank, crate::proofs::Walks::substitutions_blank))]
+    #[tactic(auto, using(crate::proofs::Remembering::lasting_blank))]
     pub fn clear(&mut self)
         ensures { self.new ≡ [] }
     {
         self.nodes.clear();
-        self.shifts.clear();
-        self.substitutions.clear();
-    }
-
-    /// A place's number in the list.
-    pub fn number(&self, id: TermId) -> u32
-        ensures { result ≡ id.0 }
-    {
-        id.0
+        self.memos.lasting.clear();
     }
 
     /// The outermost node of a term.
@@ -102,7 +100,7 @@ impl Pool {
     }
 
     /// The place of a node, which goes last where it isn't there.
-    #[tactic(auto, using(crate::proofs::Walks::shifts_grown, crate::proofs::Walks::substitutions_grown))]
+    #[tactic(auto, using(crate::proofs::Remembering::lasting_grown))]
     pub fn intern(&mut self, node: Node) -> Result<TermId, NoMemory>
         requires { IsWithin (length self.old) node }
         ensures within { IfOk result (λ id. id.0 < length self.new) }
@@ -119,24 +117,109 @@ impl Pool {
         ensures moves { IfOk result (λ r. Moves (substitute depth (term self.old by)) self.old self.new id r) }
         ensures keeps { Extends self.old self.new }
     {
-        substituted(
-            &mut self.nodes,
-            &mut self.shifts,
-            &mut self.substitutions,
+        let goal = Goal {
+            change: Change::Substitute(by),
             id,
             depth,
-            by,
+        };
+        walked(
+            &mut self.nodes,
+            &mut self.memos,
+            &mut self.frames,
+            &NOTHING,
+            goal,
         )
     }
 
     /// Adds `by` to each free variable from `cut` on.
-    #[tactic(auto, using(crate::proofs::Walks::shifts_grown, crate::proofs::Walks::substitutions_grown))]
     pub fn shift(&mut self, id: TermId, cut: u64, by: u64) -> Result<TermId, NoMemory>
         requires { id.0 < length self.old }
         ensures moves { IfOk result (λ r. Moves (shift cut by) self.old self.new id r) }
         ensures keeps { Extends self.old self.new }
     {
-        shifted(&mut self.nodes, &mut self.shifts, id, cut, by)
+        let goal = Goal {
+            change: Change::Shift(by),
+            id,
+            depth: cut,
+        };
+        walked(
+            &mut self.nodes,
+            &mut self.memos,
+            &mut self.frames,
+            &NOTHING,
+            goal,
+        )
+    }
+
+    /// Removes every annotation of an abstraction.
+    pub fn erased(&mut self, id: TermId) -> Result<TermId, NoMemory>
+        requires { id.0 < length self.old }
+        ensures moves { IfOk result (λ r. Moves erased self.old self.new id r) }
+        ensures keeps { Extends self.old self.new }
+    {
+        let goal = Goal {
+            change: Change::Erase,
+            id,
+            depth: 0,
+        };
+        walked(
+            &mut self.nodes,
+            &mut self.memos,
+            &mut self.frames,
+            &NOTHING,
+            goal,
+        )
+    }
+
+    /// The term under the captures of its rule variables; a rule variable without one stays.
+    pub fn filled(&mut self, id: TermId, captures: &[Option<TermId>]) -> Result<TermId, NoMemory>
+        requires id { id.0 < length self.old }
+        requires captures { AreCaptures (length self.old) captures.now }
+        ensures moves { IfOk result (λ r. Moves (filled (captured_terms self.old captures.now) 0) self.old self.new id r) }
+        ensures keeps { Extends self.old self.new }
+    {
+        let given = Given {
+            captures,
+            bound: 0,
+            arguments: &[],
+        };
+        let goal = Goal {
+            change: Change::Fill,
+            id,
+            depth: 0,
+        };
+        walked(
+            &mut self.nodes,
+            &mut self.memos,
+            &mut self.frames,
+            &given,
+            goal,
+        )
+    }
+
+    /// The term over the arguments of a capture, in place of the `bound` variables that the pattern binds where it stands.
+    pub fn renamed(&mut self, id: TermId, bound: u64, arguments: &[u32]) -> Result<TermId, NoMemory>
+        requires { id.0 < length self.old }
+        ensures moves { IfOk result (λ r. Moves (renamed 0 bound arguments.now) self.old self.new id r) }
+        ensures keeps { Extends self.old self.new }
+    {
+        let given = Given {
+            captures: &[],
+            bound,
+            arguments,
+        };
+        let goal = Goal {
+            change: Change::Rename,
+            id,
+            depth: 0,
+        };
+        walked(
+            &mut self.nodes,
+            &mut self.memos,
+            &mut self.frames,
+            &given,
+            goal,
+        )
     }
 
     /// A term in a list of its own, which has each node once.

@@ -2,7 +2,7 @@
 use Rattle.std.proofs.Common.{◌≡◌, List, length, sym, ◌∙◌, subst}
 use Rattle.std.proofs.lemmas.Bool.{not-true}
 use Rattle.shared_term.specs.Pools.{Node, IsWithin}
-use Rattle.shared_term.proofs.Growth.{pool-insert, bounds-insert, extends-insert, term-insert}
+use Rattle.shared_term.proofs.Growth.{pool-insert, summaries-insert, extends-insert, term-insert}
 use Rattle.shared_term.proofs.nodes.Nodes.intern.Goals as goal
 use Rattle.shared_term.proofs.nodes.Nodes.intern.Goals.{then-new, else-new}
 
@@ -12,8 +12,8 @@ invariant_of-self-then-new c =
     let w = subst P (sym c.self.view_is) c.requires in
     let lacking = not-true _ (sym c.in_ok-place.ensures.added ∙ c.if-new.true) in (
       rw c.in_ok-place.ensures.keys (pool-insert _ (λ m n. c.exact.ensures.exact m n) (λ n. c.exact.ensures.alike n) c.self.inside.nodes.keys c.args.node c.self.invariant.0 w),
-      rw (c.in_ok-place.ensures.keys, c.push_reserved.ensures.items, c.bound_of-bound.ensures, c.as_slice.ensures.value, c.reserve.ensures.items)
-          (bounds-insert _ (λ m n. c.exact.ensures.exact m n) (λ n. c.exact.ensures.alike n) c.self.inside.nodes.keys c.self.inside.bounds.items c.args.node lacking c.self.invariant.1 w),
+      rw (c.in_ok-place.ensures.keys, c.push_reserved.ensures.items, c.summary_of-summary.ensures, c.as_slice.ensures.value, c.reserve.ensures.items)
+          (summaries-insert _ (λ m n. c.exact.ensures.exact m n) (λ n. c.exact.ensures.alike n) c.self.inside.nodes.keys c.self.inside.summaries.items c.args.node lacking c.self.invariant.1 w),
     )
 
 pub returns-clause-denotes : goal.returns-clause-denotes

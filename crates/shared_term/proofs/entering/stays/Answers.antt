@@ -1,0 +1,21 @@
+-- What the summary shows of each change.
+use Rattle.std.proofs.Common.{arith}
+use Rattle.std.proofs.lemmas.Bool.{not-true}
+use Rattle.std.proofs.lemmas.Bool.Decides.{nat_tests}
+use Rattle.shared_term.proofs.Unchanged.{unchanged_shift, unchanged_substitute, unchanged_erase, unchanged_fill, unchanged_rename}
+use Rattle.shared_term.proofs.entering.stays.Goals as goal
+
+pub returns-in-Shift : goal.returns-in-Shift
+returns-in-Shift c = λ h. unchanged_shift c.args.nodes.now c.args.given.now c.args.goal c.summary-summary.result c.summary-summary.ensures _ c.in-Shift.is (grind (arith, nat_tests))
+
+pub returns-in-Substitute : goal.returns-in-Substitute
+returns-in-Substitute c = λ h. unchanged_substitute c.args.nodes.now c.args.given.now c.args.goal c.summary-summary.result c.summary-summary.ensures _ c.in-Substitute.is (grind (arith, nat_tests))
+
+pub returns-in-Erase : goal.returns-in-Erase
+returns-in-Erase c = λ h. unchanged_erase c.args.nodes.now c.args.given.now c.args.goal c.summary-summary.result c.summary-summary.ensures c.in-Erase.is (not-true _ h)
+
+pub returns-in-Fill : goal.returns-in-Fill
+returns-in-Fill c = λ h. unchanged_fill c.args.nodes.now c.args.given.now c.args.goal c.summary-summary.result c.summary-summary.ensures c.in-Fill.is (not-true _ h)
+
+pub returns-in-Rename : goal.returns-in-Rename
+returns-in-Rename c = λ h. unchanged_rename c.args.nodes.now c.args.given.now c.args.goal c.summary-summary.result c.summary-summary.ensures c.in-Rename.is (grind (arith, nat_tests))

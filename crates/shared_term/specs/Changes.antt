@@ -1,0 +1,83 @@
+-- What a walk makes of a term: each change is a function of trees, by the number of binders above.
+use Rattle.std.specs.Prelude.{ℕ, ◌+◌, ◌<◌, List, [], ◌∷◌, slice_get, Option, Some, None}
+use Rattle.dk_model.specs.Trees.{Tree, apply, annotated, product}
+use Rattle.dk_model.specs.Substitution.{shift, substitute}
+use Rattle.dk_model.specs.Erasure.{erased}
+use Rattle.dk_model.specs.Selection.{filled, renamed}
+use Rattle.dk_model.specs.declared.NodeOf.TheVariants.{App, Abs, Prod}
+use Rattle.shared_term.specs.declared.id.TermId.{TermId}
+use Rattle.shared_term.specs.declared.change.Change.{Change}
+use Rattle.shared_term.specs.declared.change.Change.TheVariants.{Shift, Substitute, Erase, Fill, Rename}
+use Rattle.shared_term.specs.declared.change.Goal.{Goal}
+use Rattle.shared_term.specs.declared.change.Given.{Given}
+use Rattle.shared_term.specs.declared.change.Pair.{Pair}
+use Rattle.shared_term.specs.declared.change.Pair.TheVariants.{Application, Abstraction, Product}
+use Rattle.shared_term.specs.Pools.{Node, term}
+
+-- the terms of captures
+abbrev pub captured_terms : List Node → List (Option TermId) → List (Option Tree)
+captured_terms ns [] = []
+captured_terms ns (None ∷ cs) = None ∷ captured_terms ns cs
+captured_terms ns (Some i ∷ cs) = Some (term ns i) ∷ captured_terms ns cs
+
+-- each capture is a term of the pool
+abbrev pub AreCaptures : ℕ → List (Option TermId) → Type 0
+AreCaptures n [] = Unit {0}
+AreCaptures n (None ∷ cs) = AreCaptures n cs
+AreCaptures n (Some i ∷ cs) = (i.0 < n) × AreCaptures n cs
+
+-- the capture of a rule variable
+abbrev pub capture_id : List (Option TermId) → ℕ → Option TermId
+capture_id cs k = elim (slice_get cs k) [ None ↦ None | Some o ↦ o ]
+
+-- what becomes of a tree that stands under `d` binders
+abbrev pub changed : List Node → Given → Change → ℕ → Tree → Tree
+changed ns g (Shift by) d t = shift d by t
+changed ns g (Substitute u) d t = substitute d (term ns u) t
+changed ns g Erase d t = erased t
+changed ns g Fill d t = filled (captured_terms ns g.captures.now) d t
+changed ns g Rename d t = renamed d g.bound g.arguments.now t
+
+-- the terms that the change looks up are in the pool
+abbrev pub IsKnown : ℕ → Given → Change → Type 0
+IsKnown n g (Substitute u) = u.0 < n
+IsKnown n g Fill = AreCaptures n g.captures.now
+IsKnown n g c = Unit {0}
+
+-- the change looks nothing up but by a term of the pool, so its results stay right from call to call
+abbrev pub IsLasting : Change → Type 0
+IsLasting Fill = ⊥
+IsLasting Rename = ⊥
+IsLasting c = Unit {0}
+
+abbrev pub IsErase : Change → Type 0
+IsErase Erase = Unit {0}
+IsErase c = ⊥
+
+-- the goal can be asked for
+abbrev pub IsAsked : ℕ → Given → Goal → Type 0
+IsAsked n g goal = (goal.id.0 < n) × IsKnown n g goal.change
+
+-- the tree that the goal asks for
+abbrev pub wanted : List Node → Given → Goal → Tree
+wanted ns g goal = changed ns g goal.change goal.depth (term ns goal.id)
+
+-- a tree of two parts
+abbrev pub joined : Pair → Tree → Tree → Tree
+joined Application x y = apply x y
+joined Abstraction x y = annotated x y
+joined Product x y = product x y
+
+abbrev pub joined_node : Pair → TermId → TermId → Node
+joined_node Application x y = App x y
+joined_node Abstraction x y = Abs (Some x) y
+joined_node Product x y = Prod x y
+
+-- how many binders the second part stands under
+abbrev pub under : Pair → ℕ → ℕ
+under Application d = d
+under Abstraction d = d + 1
+under Product d = d + 1
+
+abbrev pub part : Goal → TermId → ℕ → Goal
+part goal id depth = record { change = goal.change; id = id; depth = depth }
