@@ -1,8 +1,9 @@
 -- The capture of a rule variable, as a number and as a term.
-use Rattle.std.proofs.Common.{◌≡◌, ℕ, zero, suc, ◌+◌, ◌<◌, ◌≤◌, List, [], ◌∷◌, length, Option, Some, None, refl, ap, sym, subst, ◌∙◌, arith}
-use Rattle.dk_model.specs.Trees.{rule_variable}
+use Rattle.std.proofs.Common.{◌≡◌, ℕ, zero, suc, ◌+◌, ◌<◌, ◌≤◌, List, [], ◌∷◌, length, Option, Some, None, refl, ap, sym, subst, ◌∙◌, arith, take}
+use Rattle.std.proofs.lemmas.List.{take_all}
+use Rattle.dk_model.specs.Trees.{Tree, rule_variable, bare}
 use Rattle.dk_model.specs.Substitution.{shift}
-use Rattle.dk_model.specs.Selection.{capture_at, filled}
+use Rattle.dk_model.specs.Captures.{capture_at, filled, abstracted}
 use Rattle.shared_term.specs.declared.id.TermId.{TermId}
 use Rattle.shared_term.specs.declared.change.Change.{Change}
 use Rattle.shared_term.specs.declared.change.Change.TheVariants.{Shift, Fill}
@@ -53,3 +54,15 @@ module _ (ns : List Node) (g : Given) where
       let h : filled (captured_terms ns g.captures.now) goal.depth (rule_variable k) ≡ shift 0 goal.depth (term ns x) = rw (r.1, filled) refl in
       let w : goal_weight ns g goal ≡ captures_weight ns g g.captures.now + 1 = (λ i. weight ns g (more ns g (e i)) (is i)) in
       ((r.0, tt), filled_at goal k e is ∙ h, omega (arith, r.2, w))
+
+more_binders : (xs : List ℕ) (i : ℕ) (t : Tree) → i < length xs → abstracted (take (suc i) xs) t ≡ bare (abstracted (take i xs) t)
+more_binders [] i t l = absurd (omega arith)
+more_binders (x ∷ xs) zero t l = refl
+more_binders (x ∷ xs) (suc i) t l = ap bare (more_binders xs i t (omega arith))
+
+-- one binder more
+pub abstracted_more : (xs : List ℕ) (i : ℕ) (t : Tree) → i < length xs → abstracted (take (i + 1) xs) t ≡ bare (abstracted (take i xs) t)
+abstracted_more xs i t l = ap (λ k. abstracted (take k xs) t) (let e : i + 1 ≡ suc i = omega arith in e) ∙ more_binders xs i t l
+
+pub abstracted_all : (xs : List ℕ) (i : ℕ) (t : Tree) → length xs ≤ i → abstracted (take i xs) t ≡ abstracted xs t
+abstracted_all xs i t l = ap (λ ys. abstracted ys t) (take_all i xs l)

@@ -4,4 +4,5 @@ pub mod Unchanged
 pub mod Remembering
 pub mod Waiting
 pub mod Captures
+pub mod Others
 pub mod Places

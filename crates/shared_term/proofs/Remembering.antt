@@ -2,10 +2,10 @@
 use Rattle.std.proofs.Common.{◌≡◌, ℕ, ◌<◌, ◌≤◌, List, [], ◌∷◌, length, Option, Some, None, refl, ap, sym, subst, ◌∙◌, ◌⊎◌, inl, inr, arith}
 use Rattle.dk_model.specs.Trees.{Tree}
 use Rattle.dk_model.specs.Substitution.{substitute}
-use Rattle.dk_model.specs.Selection.{filled}
+use Rattle.dk_model.specs.Captures.{filled}
 use Rattle.shared_term.specs.declared.id.TermId.{TermId}
 use Rattle.shared_term.specs.declared.change.Change.{Change}
-use Rattle.shared_term.specs.declared.change.Change.TheVariants.{Shift, Substitute, Erase, Fill, Rename}
+use Rattle.shared_term.specs.declared.change.Change.TheVariants.{Shift, Substitute, Erase, Fill, Rename, Raise}
 use Rattle.shared_term.specs.declared.change.Goal.{Goal}
 use Rattle.shared_term.specs.declared.change.Given.{Given}
 use Rattle.shared_term.specs.declared.memo.Done.{Done}
@@ -30,6 +30,7 @@ known_grown m n g (Substitute u) l h = omega (arith, h)
 known_grown m n g Erase l h = tt
 known_grown m n g Fill l h = captures_known m n g.captures.now l h
 known_grown m n g Rename l h = tt
+known_grown m n g Raise l h = tt
 
 pub asked_grown : (old new : List Node) (g : Given) (goal : Goal) → Extends old new → IsAsked (length old) g goal → IsAsked (length new) g goal
 asked_grown old new g goal e h = (omega (arith, e.longer, h.0), known_grown (length old) (length new) g goal.change e.longer h.1)
@@ -40,6 +41,7 @@ changed_grown old new g (Substitute u) d t e h = ap (λ x. substitute d x t) (e.
 changed_grown old new g Erase d t e h = refl
 changed_grown old new g Fill d t e h = ap (λ cs. filled cs d t) (captures_grown old new g.captures.now e h)
 changed_grown old new g Rename d t e h = refl
+changed_grown old new g Raise d t e h = refl
 
 -- a goal asks for what it did
 pub wanted_grown : (old new : List Node) (g : Given) (goal : Goal) → Extends old new → IsAsked (length old) g goal → wanted new g goal ≡ wanted old g goal
@@ -77,6 +79,7 @@ lasting_changed ns g h (Substitute u) d t l = refl
 lasting_changed ns g h Erase d t l = refl
 lasting_changed ns g h Fill d t l = absurd l
 lasting_changed ns g h Rename d t l = absurd l
+lasting_changed ns g h Raise d t l = absurd l
 
 lasting_known : (n : ℕ) (g h : Given) (c : Change) → IsLasting c → IsKnown n g c → IsKnown n h c
 lasting_known n g h (Shift by) l k = tt
@@ -84,6 +87,7 @@ lasting_known n g h (Substitute u) l k = k
 lasting_known n g h Erase l k = tt
 lasting_known n g h Fill l k = absurd l
 lasting_known n g h Rename l k = absurd l
+lasting_known n g h Raise l k = absurd l
 
 -- the result of a lasting change is right whatever is looked up
 lasting_done : (ns : List Node) (g h : Given) (d : Done) → IsLasting d.goal.change → IsDone ns g d → IsDone ns h d

@@ -1,18 +1,18 @@
 -- Where a summary shows that a change leaves a term as it is.
-use Rattle.std.proofs.Common.{◌≡◌, ℕ, ◌+◌, ◌<◌, ◌≤◌, nat_lt, List, false, refl, ap, ◌∙◌, arith, if◌then◌else◌}
+use Rattle.std.proofs.Common.{◌≡◌, ℕ, ◌+◌, ◌<◌, ◌≤◌, nat_lt, List, false, refl, ap, ◌∙◌, arith, if◌then◌else◌, true≢false, Bool, true}
 use Rattle.std.proofs.lemmas.Bool.Decides.{nat_tests}
 use Rattle.dk_model.specs.Trees.{Tree, star, kind, symbol, variable, rule_variable, apply, bare, annotated, product}
 use Rattle.dk_model.specs.Erasure.{erased}
-use Rattle.dk_model.specs.Selection.{Captures, filled, renamed}
-use Rattle.dk_model.specs.Bounds.{IsClosedAt, HasNoRuleVariable, HasNoAnnotation}
+use Rattle.dk_model.specs.Captures.{Captures, filled, renamed}
+use Rattle.dk_model.specs.Bounds.{IsClosedAt}
 use Rattle.shared_term.specs.declared.id.TermId.{TermId}
-use Rattle.shared_term.specs.declared.change.Change.TheVariants.{Shift, Substitute, Erase, Fill, Rename}
+use Rattle.shared_term.specs.declared.change.Change.TheVariants.{Shift, Substitute, Erase, Fill, Rename, Raise}
 use Rattle.shared_term.specs.declared.change.Goal.{Goal}
 use Rattle.shared_term.specs.declared.change.Given.{Given}
 use Rattle.shared_term.specs.declared.summary.Summary.{Summary}
 use Rattle.shared_term.specs.Pools.{Node, term}
-use Rattle.shared_term.specs.Summaries.{IsSummary}
-use Rattle.shared_term.specs.Changes.{changed, wanted, captured_terms}
+use Rattle.shared_term.specs.Summaries.{IsSummary, HasNoRuleVariable, HasNoAnnotation}
+use Rattle.shared_term.specs.Changes.{changed, wanted, captured_terms, is_other, others_raised}
 use Rattle.dk_model.proofs.Closed.{closed_further, shift_closed, substitute_closed}
 
 pub erased_plain : (t : Tree) → HasNoAnnotation t → erased t ≡ t
@@ -51,6 +51,24 @@ renamed_closed u d xs (bare b) h = ap bare (renamed_closed (u + 1) d xs b h)
 renamed_closed u d xs (annotated n b) h = λ i. annotated (renamed_closed u d xs n h.0 i) (renamed_closed (u + 1) d xs b h.1 i)
 renamed_closed u d xs (product a b) h = λ i. product (renamed_closed u d xs a h.0 i) (renamed_closed (u + 1) d xs b h.1 i)
 
+no_other : (u d : ℕ) (xs : List ℕ) (k : ℕ) → k < u → is_other u d xs k ≡ false
+no_other u d xs k l = grind (arith, nat_tests)
+
+stays_below : (b : Bool) (k : ℕ) → b ≡ false → variable (if b then k + 1 else k) ≡ variable k
+stays_below true k e = absurd (true≢false e)
+stays_below false k e = refl
+
+pub raised_closed : (u d : ℕ) (xs : List ℕ) (t : Tree) → IsClosedAt u t → others_raised u d xs t ≡ t
+raised_closed u d xs star h = refl
+raised_closed u d xs kind h = refl
+raised_closed u d xs (symbol k) h = refl
+raised_closed u d xs (variable k) h = stays_below (is_other u d xs k) k (no_other u d xs k h)
+raised_closed u d xs (rule_variable k) h = refl
+raised_closed u d xs (apply f a) h = λ i. apply (raised_closed u d xs f h.0 i) (raised_closed u d xs a h.1 i)
+raised_closed u d xs (bare b) h = ap bare (raised_closed (u + 1) d xs b h)
+raised_closed u d xs (annotated n b) h = λ i. annotated (raised_closed u d xs n h.0 i) (raised_closed (u + 1) d xs b h.1 i)
+raised_closed u d xs (product a b) h = λ i. product (raised_closed u d xs a h.0 i) (raised_closed (u + 1) d xs b h.1 i)
+
 module _ (ns : List Node) (g : Given) (goal : Goal) (s : Summary) (h : IsSummary s (term ns goal.id)) where
   pub unchanged_shift : (by : ℕ) → goal.change ≡ Shift by → s.bound ≤ goal.depth → wanted ns g goal ≡ term ns goal.id
   unchanged_shift by e l = ap (λ c. changed ns g c goal.depth (term ns goal.id)) e
@@ -70,3 +88,7 @@ module _ (ns : List Node) (g : Given) (goal : Goal) (s : Summary) (h : IsSummary
   pub unchanged_rename : goal.change ≡ Rename → s.bound ≤ goal.depth → wanted ns g goal ≡ term ns goal.id
   unchanged_rename e l = ap (λ c. changed ns g c goal.depth (term ns goal.id)) e
       ∙ renamed_closed goal.depth g.bound g.arguments.now (term ns goal.id) (closed_further s.bound goal.depth (term ns goal.id) l h.closed)
+
+  pub unchanged_raise : goal.change ≡ Raise → s.bound ≤ goal.depth → wanted ns g goal ≡ term ns goal.id
+  unchanged_raise e l = ap (λ c. changed ns g c goal.depth (term ns goal.id)) e
+      ∙ raised_closed goal.depth g.bound g.arguments.now (term ns goal.id) (closed_further s.bound goal.depth (term ns goal.id) l h.closed)

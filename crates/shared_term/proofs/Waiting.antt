@@ -3,7 +3,7 @@ use Rattle.std.proofs.Common.{◌≡◌, ℕ, ◌+◌, ◌<◌, List, [], ◌∷
 use Rattle.dk_model.specs.Trees.{Tree, star, kind, symbol, variable, rule_variable, apply, bare, annotated, product}
 use Rattle.shared_term.specs.declared.id.TermId.{TermId}
 use Rattle.shared_term.specs.declared.change.Change.{Change}
-use Rattle.shared_term.specs.declared.change.Change.TheVariants.{Shift, Substitute, Erase, Fill, Rename}
+use Rattle.shared_term.specs.declared.change.Change.TheVariants.{Shift, Substitute, Erase, Fill, Rename, Raise}
 use Rattle.shared_term.specs.declared.change.Goal.{Goal}
 use Rattle.shared_term.specs.declared.change.Given.{Given}
 use Rattle.shared_term.specs.declared.change.Pair.{Pair}
@@ -161,6 +161,7 @@ module _ (old new : List Node) (g : Given) (e : Extends old new) where
   more_grown Erase h = refl
   more_grown Fill h = captures_grown g.captures.now h
   more_grown Rename h = refl
+  more_grown Raise h = refl
 
   weight_grown : (c : Change) (x : TermId) → IsKnown (length old) g c → x.0 < length old → weight new g (more new g c) (term new x) ≡ weight old g (more old g c) (term old x)
   weight_grown c x h l = (λ i. weight new g (more_grown c h i) (e.keeps x.0 l i)) ∙ same_weight (more old g c) (term old x)

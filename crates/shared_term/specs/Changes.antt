@@ -1,13 +1,13 @@
 -- What a walk makes of a term: each change is a function of trees, by the number of binders above.
-use Rattle.std.specs.Prelude.{ℕ, ◌+◌, ◌<◌, List, [], ◌∷◌, slice_get, Option, Some, None}
-use Rattle.dk_model.specs.Trees.{Tree, apply, annotated, product}
+use Rattle.std.specs.Prelude.{ℕ, ◌+◌, ◌<◌, List, [], ◌∷◌, slice_get, Option, Some, None, Bool, nat_lt, not, ◌&&◌, ◌-◌, if◌then◌else◌}
+use Rattle.dk_model.specs.Trees.{Tree, apply, annotated, product, variable, bare}
 use Rattle.dk_model.specs.Substitution.{shift, substitute}
 use Rattle.dk_model.specs.Erasure.{erased}
-use Rattle.dk_model.specs.Selection.{filled, renamed}
+use Rattle.dk_model.specs.Captures.{filled, renamed, is_in}
 use Rattle.dk_model.specs.declared.NodeOf.TheVariants.{App, Abs, Prod}
 use Rattle.shared_term.specs.declared.id.TermId.{TermId}
 use Rattle.shared_term.specs.declared.change.Change.{Change}
-use Rattle.shared_term.specs.declared.change.Change.TheVariants.{Shift, Substitute, Erase, Fill, Rename}
+use Rattle.shared_term.specs.declared.change.Change.TheVariants.{Shift, Substitute, Erase, Fill, Rename, Raise}
 use Rattle.shared_term.specs.declared.change.Goal.{Goal}
 use Rattle.shared_term.specs.declared.change.Given.{Given}
 use Rattle.shared_term.specs.declared.change.Pair.{Pair}
@@ -30,6 +30,19 @@ AreCaptures n (Some i ∷ cs) = (i.0 < n) × AreCaptures n cs
 abbrev pub capture_id : List (Option TermId) → ℕ → Option TermId
 capture_id cs k = elim (slice_get cs k) [ None ↦ None | Some o ↦ o ]
 
+-- whether the variable under `u` binders is one of the `d` that the pattern binds, and no argument
+abbrev pub is_other : ℕ → ℕ → List ℕ → ℕ → Bool
+is_other u d xs k = (not (nat_lt k u) && nat_lt (k - u) d) && not (is_in (k - u) xs)
+
+-- the term with each such variable one more: another term exactly where there is one
+abbrev pub others_raised : ℕ → ℕ → List ℕ → Tree → Tree
+others_raised u d xs (variable k) = variable (if is_other u d xs k then k + 1 else k)
+others_raised u d xs (apply f a) = apply (others_raised u d xs f) (others_raised u d xs a)
+others_raised u d xs (bare b) = bare (others_raised (u + 1) d xs b)
+others_raised u d xs (annotated n b) = annotated (others_raised u d xs n) (others_raised (u + 1) d xs b)
+others_raised u d xs (product a b) = product (others_raised u d xs a) (others_raised (u + 1) d xs b)
+others_raised u d xs t = t
+
 -- what becomes of a tree that stands under `d` binders
 abbrev pub changed : List Node → Given → Change → ℕ → Tree → Tree
 changed ns g (Shift by) d t = shift d by t
@@ -37,6 +50,7 @@ changed ns g (Substitute u) d t = substitute d (term ns u) t
 changed ns g Erase d t = erased t
 changed ns g Fill d t = filled (captured_terms ns g.captures.now) d t
 changed ns g Rename d t = renamed d g.bound g.arguments.now t
+changed ns g Raise d t = others_raised d g.bound g.arguments.now t
 
 -- the terms that the change looks up are in the pool
 abbrev pub IsKnown : ℕ → Given → Change → Type 0
@@ -48,6 +62,7 @@ IsKnown n g c = Unit {0}
 abbrev pub IsLasting : Change → Type 0
 IsLasting Fill = ⊥
 IsLasting Rename = ⊥
+IsLasting Raise = ⊥
 IsLasting c = Unit {0}
 
 abbrev pub IsErase : Change → Type 0

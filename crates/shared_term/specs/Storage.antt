@@ -1,5 +1,5 @@
 -- A term in a list of its own nodes.
-use Rattle.std.specs.Prelude.{◌≡◌, ℕ, ◌<◌, List, length, get_or, slice_get, Option, Some, None}
+use Rattle.std.specs.Prelude.{◌≡◌, ℕ, ◌<◌, ◌≤◌, Bool, true, List, length, get_or, slice_get, Some, None}
 use Rattle.dk_model.specs.Trees.{Tree, star}
 use Rattle.dk_model.specs.declared.NodeOf.TheVariants.{Star, Kind, Sym, Var, Rvar, App, Abs, Prod}
 use Rattle.shared_term.specs.declared.id.TermId.{TermId}
@@ -35,7 +35,26 @@ pub record AreLoaded (stored pool : List Node) (ps : List TermId) : Type 0 where
   pub there : (i : ℕ) (d : TermId) → i < length ps → (get_or ps i d).0 < length pool
   pub same : (i : ℕ) (d : TermId) → i < length ps → get_or (terms pool) (get_or ps i d).0 star ≡ get_or (terms stored) i star
 
--- the places in a list of those nodes of a pool that it has
-pub record AreCopied (pool out : List Node) (ps : List (Option TermId)) : Type 0 where
-  pub there : (i : ℕ) (p : TermId) → slice_get ps i ≡ Some (Some p) → p.0 < length out
-  pub same : (i : ℕ) (p : TermId) → slice_get ps i ≡ Some (Some p) → get_or (terms out) p.0 star ≡ get_or (terms pool) i star
+-- the place is marked
+abbrev pub IsNeeded : List Bool → ℕ → Type 0
+IsNeeded marks i = slice_get marks i ≡ Some true
+
+abbrev pub PartsNeeded : List Bool → Node → Type 0
+PartsNeeded marks Star = Unit {0}
+PartsNeeded marks Kind = Unit {0}
+PartsNeeded marks (Sym k) = Unit {0}
+PartsNeeded marks (Var k) = Unit {0}
+PartsNeeded marks (Rvar k) = Unit {0}
+PartsNeeded marks (App f a) = IsNeeded marks f.0 × IsNeeded marks a.0
+PartsNeeded marks (Abs None b) = IsNeeded marks b.0
+PartsNeeded marks (Abs (Some n) b) = IsNeeded marks n.0 × IsNeeded marks b.0
+PartsNeeded marks (Prod a b) = IsNeeded marks a.0 × IsNeeded marks b.0
+
+-- the parts of each marked node from a place on are marked
+pub record AreMarked (pool : List Node) (marks : List Bool) (from : ℕ) : Type 0 where
+  pub parts : (i : ℕ) (n : Node) → from ≤ i → slice_get pool i ≡ Some n → IsNeeded marks i → PartsNeeded marks n
+
+-- the places in a list of those nodes of a pool that are marked
+pub record ArePlaced (pool out : List Node) (marks : List Bool) (ps : List TermId) : Type 0 where
+  pub there : (i : ℕ) (d : TermId) → i < length ps → IsNeeded marks i → (get_or ps i d).0 < length out
+  pub same : (i : ℕ) (d : TermId) → i < length ps → IsNeeded marks i → get_or (terms out) (get_or ps i d).0 star ≡ get_or (terms pool) i star

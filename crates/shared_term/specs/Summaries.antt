@@ -1,11 +1,35 @@
 -- What is known of a term without a look at its parts.
 use Rattle.std.specs.Prelude.{◌≡◌, ℕ, ◌+◌, ◌-◌, ◌<◌, max, true, false, ◌||◌, List, length, get_or, Some, None}
-use Rattle.dk_model.specs.Trees.{Tree, star}
-use Rattle.dk_model.specs.Bounds.{IsClosedAt, HasNoRuleVariable, HasNoAnnotation}
+use Rattle.dk_model.specs.Trees.{Tree, star, kind, symbol, variable, rule_variable, apply, bare, annotated, product}
+use Rattle.dk_model.specs.Bounds.{IsClosedAt}
 use Rattle.dk_model.specs.declared.NodeOf.TheVariants.{Star, Kind, Sym, Var, Rvar, App, Abs, Prod}
 use Rattle.shared_term.specs.declared.id.TermId.{TermId}
 use Rattle.shared_term.specs.declared.summary.Summary.{Summary}
 use Rattle.shared_term.specs.Pools.{Node, terms}
+
+-- no rule variable stands in the tree
+abbrev pub HasNoRuleVariable : Tree → Type 0
+HasNoRuleVariable star = Unit {0}
+HasNoRuleVariable kind = Unit {0}
+HasNoRuleVariable (symbol k) = Unit {0}
+HasNoRuleVariable (variable k) = Unit {0}
+HasNoRuleVariable (rule_variable k) = ⊥
+HasNoRuleVariable (apply f a) = HasNoRuleVariable f × HasNoRuleVariable a
+HasNoRuleVariable (bare b) = HasNoRuleVariable b
+HasNoRuleVariable (annotated n b) = HasNoRuleVariable n × HasNoRuleVariable b
+HasNoRuleVariable (product a b) = HasNoRuleVariable a × HasNoRuleVariable b
+
+-- no abstraction of the tree has an annotation
+abbrev pub HasNoAnnotation : Tree → Type 0
+HasNoAnnotation star = Unit {0}
+HasNoAnnotation kind = Unit {0}
+HasNoAnnotation (symbol k) = Unit {0}
+HasNoAnnotation (variable k) = Unit {0}
+HasNoAnnotation (rule_variable k) = Unit {0}
+HasNoAnnotation (apply f a) = HasNoAnnotation f × HasNoAnnotation a
+HasNoAnnotation (bare b) = HasNoAnnotation b
+HasNoAnnotation (annotated n b) = ⊥
+HasNoAnnotation (product a b) = HasNoAnnotation a × HasNoAnnotation b
 
 pub record IsSummary (s : Summary) (t : Tree) : Type 0 where
   pub closed : IsClosedAt s.bound t

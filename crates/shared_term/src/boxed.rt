@@ -11,7 +11,7 @@ use std::alloc::Global;
 const LAST: usize = 0xFFFF_FFFF;
 
 // A node goes last, with its parts before it.
-fn pushed(nodes: &mut Vec<Node>, node: Node) -> Result<TermId, NoMemory>
+pub(crate) fn pushed(nodes: &mut Vec<Node>, node: Node) -> Result<TermId, NoMemory>
     requires within { IsWithin (length nodes.old.items) node }
     requires spelt { IsSpelt nodes.old.items }
     ensures there { IfOk result (λ r. r.0 < length nodes.new.items) }

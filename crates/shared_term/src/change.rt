@@ -15,6 +15,8 @@ pub(crate) enum Change {
     Fill,
     /// Its variables are those of a capture, as its arguments bind them.
     Rename,
+    /// Its variables that the pattern binds, and that are no arguments, are one more.
+    Raise,
 }
 
 /// What is asked for: a term under a number of binders, changed.

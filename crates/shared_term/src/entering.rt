@@ -1,9 +1,9 @@
 //! What a walk does when it comes to a term.
 ghost use Rattle.std.specs.Prelude.{◌≡◌, ◌+◌, ◌<◌, ◌≤◌, length, IsTrue, ◌↔◌, IfOk};
 ghost use Rattle.dk_model.specs.Trees.{variable, rule_variable};
-ghost use Rattle.dk_model.specs.Selection.{place};
+ghost use Rattle.dk_model.specs.Captures.{is_in, index_of};
 ghost use Rattle.shared_term.specs.Pools.{term, terms, denoted, Extends, IsWithin};
-ghost use Rattle.shared_term.specs.Changes.{IsAsked, IsErase, capture_id, wanted};
+ghost use Rattle.shared_term.specs.Changes.{IsAsked, IsErase, capture_id, is_other, wanted};
 ghost use Rattle.shared_term.specs.Memos.{AreDone, AreLasting};
 ghost use Rattle.shared_term.specs.Walks.{IsStep, IsPlaced};
 
@@ -35,18 +35,34 @@ pub(crate) fn sum(a: u64, b: u64) -> Result<u64, NoMemory>
     }
 }
 
-// The place of a variable among the arguments, from the end.
-fn place(variable: u64, arguments: &[u32]) -> u64
-    ensures { result ≡ place variable arguments.now }
+// The number of an argument's variable under the binders of the capture.
+fn index_of(variable: u64, arguments: &[u32]) -> u64
+    ensures { result ≡ index_of variable arguments.now }
 {
     match arguments {
         [] => 0,
         [first, rest @ ..] => if variable == u64::from(*first) {
             rest.len() as u64
         } else {
-            place(variable, rest)
+            index_of(variable, rest)
         },
     }
+}
+
+fn is_in(variable: u64, arguments: &[u32]) -> bool
+    ensures { result ≡ is_in variable arguments.now }
+{
+    match arguments {
+        [] => false,
+        [first, rest @ ..] => variable == u64::from(*first) || is_in(variable, rest),
+    }
+}
+
+// Whether the variable is one of those that the pattern binds, and no argument.
+fn is_other(given: &Given<'_>, depth: u64, k: u64) -> bool
+    ensures { result ≡ is_other depth given.now.bound given.now.arguments.now k }
+{
+    k >= depth && k - depth < given.bound && !is_in(k - depth, given.arguments)
 }
 
 // Whether the change leaves the term as it is, as its summary shows.
@@ -61,6 +77,7 @@ fn stays(nodes: &Nodes, given: &Given<'_>, goal: Goal) -> bool
         Change::Erase => !summary.annotations,
         Change::Fill => !summary.rule_variables,
         Change::Rename => summary.bound <= goal.depth,
+        Change::Raise => summary.bound <= goal.depth,
     }
 }
 
@@ -101,10 +118,15 @@ fn variable(nodes: &mut Nodes, given: &Given<'_>, goal: Goal, k: u64) -> Result<
         Change::Rename => if k < goal.depth {
             Ok(Step::Answer(goal.id))
         } else if k - goal.depth < given.bound {
-            let place = place(k - goal.depth, given.arguments);
-            placed(nodes, sum(place, goal.depth)?)
+            let index = index_of(k - goal.depth, given.arguments);
+            placed(nodes, sum(index, goal.depth)?)
         } else {
             placed(nodes, sum(k - given.bound, given.arguments.len() as u64)?)
+        },
+        Change::Raise => if is_other(given, goal.depth, k) {
+            placed(nodes, sum(k, 1)?)
+        } else {
+            Ok(Step::Answer(goal.id))
         },
     }
 }
@@ -139,6 +161,7 @@ fn rule_variable(nodes: &Nodes, given: &Given<'_>, goal: Goal, k: u32) -> Step
             }),
         },
         Change::Rename => same,
+        Change::Raise => same,
     }
 }
 
@@ -152,6 +175,7 @@ fn is_erase(change: Change) -> bool
         Change::Erase => true,
         Change::Fill => false,
         Change::Rename => false,
+        Change::Raise => false,
     }
 }
 

@@ -7,7 +7,7 @@ use crate::{Node, Pool, Stored, TermId};
 use dk_model::{NoMemory, NodeOf};
 
 // The node with its parts at their places in the pool.
-fn renamed(places: &[TermId], node: Node) -> Node
+pub(crate) fn renamed(places: &[TermId], node: Node) -> Node
     requires { IsWithin (length places.now) node }
     ensures { result ≡ renamed places.now node }
 {

@@ -49,6 +49,7 @@ fn slot_of(goal: Goal, count: usize) -> usize {
         Change::Erase => 0,
         Change::Fill => 0,
         Change::Rename => 0,
+        Change::Raise => 0,
     };
     let key = (goal.id.0 as u64)
         .wrapping_add(change.wrapping_mul(0x9e37_79b9))

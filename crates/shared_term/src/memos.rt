@@ -30,6 +30,7 @@ fn is_lasting(change: Change) -> bool
         Change::Erase => true,
         Change::Fill => false,
         Change::Rename => false,
+        Change::Raise => false,
     }
 }
 

@@ -2,7 +2,7 @@
 ghost use Rattle.std.specs.Prelude.{◌≡◌, ◌<◌, ◌↔◌, [], length, slice_get, Some, IfOk, IsTrue};
 ghost use Rattle.dk_model.specs.Substitution.{shift, substitute};
 ghost use Rattle.dk_model.specs.Erasure.{erased};
-ghost use Rattle.dk_model.specs.Selection.{filled, renamed};
+ghost use Rattle.dk_model.specs.Captures.{filled, renamed, captured, mentions_others};
 ghost use Rattle.shared_term.specs.Storage.{stored_term};
 ghost use Rattle.shared_term.specs.Pools.{term, terms, denoted, Extends, IsWithin, Moves};
 ghost use Rattle.shared_term.specs.Changes.{AreCaptures, captured_terms};
@@ -13,7 +13,7 @@ use crate::memos::Memos;
 use crate::storing::stored;
 use crate::walk::walked;
 use crate::{Node, Nodes, Stored, TermId};
-use dk_model::NoMemory;
+use dk_model::{NoMemory, NodeOf};
 use std::alloc::Global;
 use std::marker::Model;
 
@@ -220,6 +220,57 @@ impl Pool {
             &given,
             goal,
         )
+    }
+
+    /// A part at a rule variable as the variable captures it: over its arguments, and abstracted over them, the first
+    /// one outermost.
+    pub fn captured(
+        &mut self,
+        id: TermId,
+        bound: u64,
+        arguments: &[u32],
+    ) -> Result<TermId, NoMemory>
+        requires { id.0 < length self.old }
+        ensures moves { IfOk result (λ r. Moves (captured bound arguments.now) self.old self.new id r) }
+        ensures keeps { Extends self.old self.new }
+    {
+        let mut part = self.renamed(id, bound, arguments)?;
+        for _binder in 0..arguments.len() {
+            part = self.intern(NodeOf::Abs(None, part))?;
+        }
+        Ok(part)
+    }
+
+    /// Whether the term mentions one of the `bound` variables that the pattern binds where it stands that is no argument.
+    pub fn mentions_others(
+        &mut self,
+        id: TermId,
+        bound: u64,
+        arguments: &[u32],
+    ) -> Result<bool, NoMemory>
+        requires { id.0 < length self.old }
+        ensures mentions { IfOk result (λ b. b ≡ mentions_others 0 bound arguments.now (term self.old id)) }
+        ensures keeps { Extends self.old self.new }
+    {
+        let given = Given {
+            captures: &[],
+            bound,
+            arguments,
+        };
+        let goal = Goal {
+            change: Change::Raise,
+            id,
+            depth: 0,
+        };
+        // Raised by one, the others make another term exactly where there are any.
+        let raised = walked(
+            &mut self.nodes,
+            &mut self.memos,
+            &mut self.frames,
+            &given,
+            goal,
+        )?;
+        Ok(!self.nodes.same(raised, id))
     }
 
     /// A term in a list of its own, which has each node once.

@@ -1,98 +1,98 @@
-//! Storing a term of a pool in a list of its own.
-ghost use Rattle.std.specs.Prelude.{◌≡◌, ◌<◌, ◌⊎◌, ℕ, length, slice_get, Some, IfOk, OnOk};
-ghost use Rattle.shared_term.specs.declared.id.TermId.{TermId};
-ghost use Rattle.shared_term.specs.Pools.{term, terms, denoted, Extends, IsWithin};
-ghost use Rattle.shared_term.specs.Storage.{stored_term, IsSpelt, AreCopied};
+//! Storing a term of a pool in a list of its own: one pass down marks what belongs to it, one pass up copies that.
+ghost use Rattle.std.specs.Prelude.{◌≡◌, ◌+◌, ◌<◌, ◌≤◌, ℕ, true, length, slice_get, Some, IfOk, OnOk};
+ghost use Rattle.shared_term.specs.Pools.{term, IsWithin};
+ghost use Rattle.shared_term.specs.Storage.{stored_term, IsSpelt, IsNeeded, PartsNeeded, AreMarked, ArePlaced};
 
+use crate::boxed::pushed;
+use crate::loading::renamed;
 use crate::{Node, Pool, Stored, TermId};
 use dk_model::{NoMemory, NodeOf};
 
-const LAST: usize = 0xFFFF_FFFF;
-
-// The place of `id`, if there is room for it.
-fn noted(places: &mut Vec<Option<TermId>>, id: TermId, place: TermId)
-    ensures { (i : ℕ) (p : TermId) → slice_get places.new.items i ≡ Some (Some p)
-        → ((i ≡ id.0) × (p ≡ place)) ⊎ (slice_get places.old.items i ≡ Some (Some p)) }
+// Marks one place.
+fn mark(marks: &mut Vec<bool>, id: TermId)
+    requires { id.0 < length marks.old.items }
+    ensures count { length marks.new.items ≡ length marks.old.items }
+    ensures marked { IsNeeded marks.new.items id.0 }
+    ensures kept { (i : ℕ) → IsNeeded marks.old.items i → IsNeeded marks.new.items i }
+    ensures only { (i : ℕ) → id.0 < i → IsNeeded marks.new.items i → IsNeeded marks.old.items i }
 {
-    if let Some(known) = places.get_mut(id.0 as usize) {
-        *known = Some(place);
-    }
+    marks[id.0 as usize] = true;
 }
 
-// The node of `id` goes last in the list, with its parts there.
-fn added(
-    pool: &Pool,
-    out: &mut Vec<Node>,
-    places: &mut Vec<Option<TermId>>,
-    id: TermId,
-    node: Node,
-) -> Result<TermId, NoMemory>
-    requires id { id.0 < length pool.now }
-    requires within { IsWithin (length out.old.items) node }
-    requires denotes { denoted (terms out.old.items) node ≡ term pool.now id }
-    requires spelt { IsSpelt out.old.items }
-    requires copied { AreCopied pool.now out.old.items places.old.items }
-    ensures there { IfOk result (λ r. r.0 < length out.new.items) }
-    ensures same { IfOk result (λ r. term out.new.items r ≡ term pool.now id) }
-    ensures keeps { OnOk result (Extends out.old.items out.new.items) }
-    ensures spelt { OnOk result (IsSpelt out.new.items) }
-    ensures copied { OnOk result (AreCopied pool.now out.new.items places.new.items) }
+// Marks the parts of a node that stands at place `at`.
+fn mark_parts(marks: &mut Vec<bool>, at: usize, node: Node)
+    requires within { IsWithin at node }
+    requires at { at < length marks.old.items }
+    ensures count { length marks.new.items ≡ length marks.old.items }
+    ensures marked { PartsNeeded marks.new.items node }
+    ensures kept { (i : ℕ) → IsNeeded marks.old.items i → IsNeeded marks.new.items i }
+    ensures only { (i : ℕ) → at ≤ i → IsNeeded marks.new.items i → IsNeeded marks.old.items i }
 {
-    let place = out.len();
-    if place >= LAST {
-        return Err(NoMemory);
-    }
-    out.push(node)?;
-    let place = TermId(place as u32);
-    noted(places, id, place);
-    Ok(place)
-}
-
-// The parts go first.
-fn copied(
-    pool: &Pool,
-    out: &mut Vec<Node>,
-    places: &mut Vec<Option<TermId>>,
-    id: TermId,
-) -> Result<TermId, NoMemory>
-    requires id { id.0 < length pool.now }
-    requires spelt { IsSpelt out.old.items }
-    requires copied { AreCopied pool.now out.old.items places.old.items }
-    ensures there { IfOk result (λ r. r.0 < length out.new.items) }
-    ensures same { IfOk result (λ r. term out.new.items r ≡ term pool.now id) }
-    ensures keeps { OnOk result (Extends out.old.items out.new.items) }
-    ensures spelt { OnOk result (IsSpelt out.new.items) }
-    ensures copied { OnOk result (AreCopied pool.now out.new.items places.new.items) }
-{
-    if let Some(Some(known)) = places.get(id.0 as usize) {
-        return Ok(*known);
-    }
-    match pool.get(id) {
-        NodeOf::Star => added(pool, out, places, id, NodeOf::Star),
-        NodeOf::Kind => added(pool, out, places, id, NodeOf::Kind),
-        NodeOf::Sym(k) => added(pool, out, places, id, NodeOf::Sym(k)),
-        NodeOf::Var(k) => added(pool, out, places, id, NodeOf::Var(k)),
-        NodeOf::Rvar(k) => added(pool, out, places, id, NodeOf::Rvar(k)),
+    match node {
+        NodeOf::Star => {}
+        NodeOf::Kind => {}
+        NodeOf::Sym(_) => {}
+        NodeOf::Var(_) => {}
+        NodeOf::Rvar(_) => {}
         NodeOf::App(f, a) => {
-            let x = copied(pool, out, places, f)?;
-            let y = copied(pool, out, places, a)?;
-            added(pool, out, places, id, NodeOf::App(x, y))
+            mark(marks, f);
+            mark(marks, a);
         }
-        NodeOf::Abs(None, b) => {
-            let y = copied(pool, out, places, b)?;
-            added(pool, out, places, id, NodeOf::Abs(None, y))
-        }
-        NodeOf::Abs(Some(a), b) => {
-            let x = copied(pool, out, places, a)?;
-            let y = copied(pool, out, places, b)?;
-            added(pool, out, places, id, NodeOf::Abs(Some(x), y))
+        NodeOf::Abs(None, b) => mark(marks, b),
+        NodeOf::Abs(Some(n), b) => {
+            mark(marks, n);
+            mark(marks, b);
         }
         NodeOf::Prod(a, b) => {
-            let x = copied(pool, out, places, a)?;
-            let y = copied(pool, out, places, b)?;
-            added(pool, out, places, id, NodeOf::Prod(x, y))
+            mark(marks, a);
+            mark(marks, b);
         }
     }
+}
+
+// The places up to `id` that belong to its term.
+fn needed(pool: &Pool, id: TermId) -> Result<Vec<bool>, NoMemory>
+    requires { id.0 < length pool.now }
+    ensures count { IfOk result (λ marks. length marks.items ≡ id.0 + 1) }
+    ensures root { IfOk result (λ marks. IsNeeded marks.items id.0) }
+    ensures closed { IfOk result (λ marks. AreMarked pool.now marks.items 0) }
+{
+    let alloc = pool.alloc();
+    let count = id.0 as usize + 1;
+    let mut marks = vec![in alloc; false; count]?;
+    mark(&mut marks, id);
+    let mut at = count;
+    while at > 0 {
+        at -= 1;
+        if marks[at] {
+            mark_parts(&mut marks, at, pool.get(TermId(at as u32)));
+        }
+    }
+    Ok(marks)
+}
+
+// Copies the node at place `at`, whose parts have been.
+fn copied(
+    pool: &Pool,
+    marks: &[bool],
+    nodes: &mut Vec<Node>,
+    places: &mut Vec<TermId>,
+    at: TermId,
+) -> Result<(), NoMemory>
+    requires at { at.0 < length pool.now }
+    requires marked { IsNeeded marks.now at.0 }
+    requires closed { AreMarked pool.now marks.now 0 }
+    requires count { length places.old.items ≡ at.0 }
+    requires spelt { IsSpelt nodes.old.items }
+    requires placed { ArePlaced pool.now nodes.old.items marks.now places.old.items }
+    ensures count { OnOk result (length places.new.items ≡ at.0 + 1) }
+    ensures spelt { OnOk result (IsSpelt nodes.new.items) }
+    ensures placed { OnOk result (ArePlaced pool.now nodes.new.items marks.now places.new.items) }
+{
+    let node = pool.get(at);
+    let place = pushed(nodes, renamed(places.as_slice(), node))?;
+    places.push(place)?;
+    Ok(())
 }
 
 /// A term of a pool in a list of its own, which has each node once.
@@ -101,8 +101,22 @@ pub(crate) fn stored(pool: &Pool, id: TermId) -> Result<Stored, NoMemory>
     ensures { IfOk result (λ s. stored_term s ≡ term pool.now id) }
 {
     let alloc = pool.alloc();
-    let mut places = vec![in alloc; None; pool.len()]?;
+    let marks = needed(pool, id)?;
     let mut nodes = Vec::new(alloc);
-    let root = copied(pool, &mut nodes, &mut places, id)?;
+    let mut places = Vec::new(alloc);
+    for at in 0..marks.len() {
+        if marks[at] {
+            copied(
+                pool,
+                marks.as_slice(),
+                &mut nodes,
+                &mut places,
+                TermId(at as u32),
+            )?;
+        } else {
+            places.push(TermId(0))?;
+        }
+    }
+    let root = places[id.0 as usize];
     Ok(Stored { nodes, root })
 }

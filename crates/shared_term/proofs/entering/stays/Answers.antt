@@ -2,7 +2,7 @@
 use Rattle.std.proofs.Common.{arith}
 use Rattle.std.proofs.lemmas.Bool.{not-true}
 use Rattle.std.proofs.lemmas.Bool.Decides.{nat_tests}
-use Rattle.shared_term.proofs.Unchanged.{unchanged_shift, unchanged_substitute, unchanged_erase, unchanged_fill, unchanged_rename}
+use Rattle.shared_term.proofs.Unchanged.{unchanged_shift, unchanged_substitute, unchanged_erase, unchanged_fill, unchanged_rename, unchanged_raise}
 use Rattle.shared_term.proofs.entering.stays.Goals as goal
 
 pub returns-in-Shift : goal.returns-in-Shift
@@ -19,3 +19,6 @@ returns-in-Fill c = λ h. unchanged_fill c.args.nodes.now c.args.given.now c.arg
 
 pub returns-in-Rename : goal.returns-in-Rename
 returns-in-Rename c = λ h. unchanged_rename c.args.nodes.now c.args.given.now c.args.goal c.summary-summary.result c.summary-summary.ensures c.in-Rename.is (grind (arith, nat_tests))
+
+pub returns-in-Raise : goal.returns-in-Raise
+returns-in-Raise c = λ h. unchanged_raise c.args.nodes.now c.args.given.now c.args.goal c.summary-summary.result c.summary-summary.ensures c.in-Raise.is (grind (arith, nat_tests))
