@@ -6,9 +6,9 @@ use Rattle.dk_model.specs.declared.code.Verdict.TheVariants as verdict
 use Rattle.dk_model.specs.declared.limits.Limits.{Limits}
 use Rattle.dk_parser.specs.Written.{WrittenForm}
 use Rattle.scope_terms.specs.Scopes.{names_after, scope_of}
-use Rattle.dk_model.specs.Signatures.{PlainEntry, plain_signature}
+use Rattle.dk_model.specs.Signatures.{PlainEntry}
+use Rattle.signature_log.specs.Versions.{entries_of}
 use Rattle.typing_model.specs.Laws.{IsNumbered}
-use Rattle.plain_evaluation.specs.Rules.{AreRuled}
 use Rattle.dk_check_run.specs.declared.theory.Theory.{Theory as Kept}
 use Rattle.dk_check_run.specs.Outcomes.{Theory, no_theory, scoped_entry, theory_after, verdict_after, verdict_at, shown_name}
 
@@ -19,7 +19,7 @@ pub record Checked : Type 0 where
 
 -- what the program's value shows
 abbrev pub checked_of : Kept → Checked
-checked_of t = record { theory = record { names = t.names; signature = plain_signature t.signature }; shown = t.shown.items }
+checked_of t = record { theory = record { names = t.names; signature = entries_of t.version }; shown = t.shown.items }
 
 abbrev pub nothing_checked : Checked
 nothing_checked = record { theory = no_theory; shown = [] }
@@ -29,10 +29,9 @@ pub record IsSound (c : Checked) : Type 0 where
   pub counted : c.theory.names.count ≡ length c.shown
   pub numbered : IsNumbered c.theory.signature
 
--- a theory that is sound, and knows the places of its rule commands
+-- a theory that is sound
 pub record IsKept (t : Kept) : Type 0 where
   pub sound : IsSound (checked_of t)
-  pub ruled : AreRuled t.signature t.ruled.items
 
 abbrev pub checked_after : Checked → ℕ → WrittenForm → Checked
 checked_after c budget form = record { theory = theory_after c.theory budget form; shown = c.shown ++ shown_name form ∷ [] }

@@ -1,25 +1,26 @@
 //! The theory of the commands accepted so far, and the check of the next one.
 ghost use Rattle.std.specs.Prelude.{◌≡◌, ◌<◌, ◌≤◌, ◌∷◌, ◌++◌, [], IfOk, IfErr, OnOk, OnErr, length, map};
-ghost use Rattle.dk_model.specs.Signatures.{plain_entry};
 ghost use Rattle.dk_parser.specs.Written.{written_rules};
 ghost use Rattle.dk_parser.specs.RawViews.{written_form, written_pattern, written_rule};
-ghost use Rattle.plain_evaluation.specs.Rules.{AreRuled};
+ghost use Rattle.signature_log.specs.Versions.{stored_entry};
 ghost use Rattle.dk_check_run.specs.Outcomes.{head_name, shown_name, verdict_after};
 ghost use Rattle.dk_check_run.specs.Theories.{AcceptsWith, Adds, IsKept, IsOtherVerdict, Judges, checked_of, nothing_checked};
 
-use dk_model::{Code, Entry, Fault, Limits, Listed, NoMemory, Signature, Verdict};
+use command_check::enter_command;
+use dk_model::{Code, Entry, Fault, Limits, Listed, NoMemory, Verdict};
 use dk_parser::{Raw, RawForm, RawPat, RawRule};
-use plain_check::{add_entry, enter_plain};
 use scope_terms::Names;
+use shared_term::Stored;
+use signature_log::Version;
 use std::alloc::Global;
+use std::sync::Arc;
+use tree_evaluation::Trees;
 
 /// What the commands accepted so far declare, and the names of their `ok` lines.
 #[derive(Drop)]
 pub struct Theory {
     names: Names,
-    signature: Signature,
-    // The places of the rule commands in the signature.
-    ruled: Vec<usize>,
+    version: Version,
     shown: Vec<Listed<u8>>,
 }
 
@@ -62,10 +63,7 @@ impl Theory {
         let names = Names::new(alloc)?;
         Ok(Theory {
             names,
-            signature: Signature {
-                entries: Listed::new(alloc),
-            },
-            ruled: Vec::new(alloc),
+            version: Version::empty(alloc)?,
             shown: Vec::new(alloc),
         })
     }
@@ -94,7 +92,7 @@ impl Theory {
         }
         match self.checked_entry(alloc, budget, &raw) {
             Ok(entry) => match shown_name(alloc, raw.form) {
-                Ok(name) => match self.add(entry, name) {
+                Ok(name) => match self.add(alloc, entry, name) {
                     Ok(()) => Verdict::Accepted,
                     Err(_) => Verdict::Memory,
                 },
@@ -106,43 +104,38 @@ impl Theory {
 
     // The entry of the next command where it is accepted; else its verdict. Its name is declared once scoping accepts it, also
     // where the check then refuses: after such a verdict the theory is let go.
-    fn checked_entry(&mut self, alloc: Global, budget: u64, raw: &Raw) -> Result<Entry, Verdict>
-        requires few { (checked_of self.old).theory.names.count < 4294967295 }
-        requires ruled { AreRuled self.old.signature self.old.ruled.items }
+    fn checked_entry(
+        &mut self,
+        alloc: Global,
+        budget: u64,
+        raw: &Raw,
+    ) -> Result<Entry<Stored>, Verdict>
+        requires { (checked_of self.old).theory.names.count < 4294967295 }
         ensures ok { IfOk result
             (λ e. AcceptsWith (checked_of self.old) budget (written_form raw.now.form)
-            (plain_entry e) (checked_of self.new)) }
+            (stored_entry e) (checked_of self.new)) }
         ensures err { IfErr result
             (λ v. IsOtherVerdict (verdict_after (checked_of self.old).theory budget
             (written_form raw.now.form)) v) }
         ensures kept { (checked_of self.new).shown ≡ (checked_of self.old).shown }
-        ensures ruled { AreRuled self.new.signature self.new.ruled.items }
     {
         match self.names.scope(alloc, raw) {
-            Ok(scoped) => match enter_plain(
-                alloc,
-                &self.signature,
-                self.ruled.as_slice(),
-                &scoped,
-                budget,
-            ) {
-                Ok(entry) => Ok(entry),
-                Err(verdict) => Err(verdict),
-            },
+            Ok(scoped) => enter_command(&mut Trees::new(alloc), &self.version, &scoped, budget),
             Err(Fault::Refused(code)) => Err(Verdict::Refused(code)),
             Err(Fault::NoMemory) => Err(Verdict::Memory),
         }
     }
 
     // Adds the entry of an accepted command, and its name.
-    fn add(&mut self, entry: Entry, name: Listed<u8>) -> Result<(), NoMemory>
-        requires { AreRuled self.old.signature self.old.ruled.items }
+    fn add(&mut self, alloc: Global, entry: Entry<Stored>, name: Listed<u8>) -> Result<(), NoMemory>
         ensures ok { OnOk result
-            (Adds (checked_of self.old) (plain_entry entry) name (checked_of self.new)) }
+            (Adds (checked_of self.old) (stored_entry entry) name (checked_of self.new)) }
         ensures err { OnErr result ((checked_of self.new).shown ≡ (checked_of self.old).shown) }
-        ensures ruled { OnOk result (AreRuled self.new.signature self.new.ruled.items) }
     {
-        add_entry(&mut self.signature, &mut self.ruled, entry)?;
+        self.version = match self.version.append(Arc::new(alloc, entry)?) {
+            Ok(version) => version,
+            Err(_) => return Err(NoMemory),
+        };
         self.shown.push(name)?;
         Ok(())
     }

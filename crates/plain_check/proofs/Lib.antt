@@ -1,6 +1,0 @@
-mod Contexts
-mod Judging
-mod Spines
-mod Verdict
-mod Shaping
-mod Mentioning

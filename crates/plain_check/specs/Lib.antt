@@ -1,5 +1,1 @@
-pub mod Given
-pub mod Contexts
-pub mod Spine
-pub mod Mentions
 pub mod Clauses

@@ -4,14 +4,9 @@
 #![tactic(auto)]
 
 mod check;
-mod context;
-mod expect;
-mod fault;
-mod infer;
-mod instance;
 pub mod laws;
 
-pub use check::{add_entry, check_plain, enter_plain, infer_plain, is_untyped};
+pub use check::{check_plain, infer_plain};
 
 #[cfg(test)]
 mod tests;

@@ -1,11 +1,16 @@
 //! Small files, as the commands that scoping makes of them.
-use crate::{add_entry, enter_plain};
+use crate::{check_plain, infer_plain};
+use command_check::enter_command;
 use dk_model::{
-    Code, Listed, NoMemory, Scoped, Signature, SymSort, Term, Verdict, make_annotated, make_app,
-    make_bare, make_product,
+    Code, Entry, Listed, NoMemory, Scoped, Signature, SymSort, Term, Verdict, make_annotated,
+    make_app, make_bare, make_product,
 };
+use shared_term::Stored;
+use signature_log::Version;
 use std::alloc::Global;
+use std::sync::Arc;
 use std::test::Fail;
+use tree_evaluation::Trees;
 
 fn symbol(typ: Term) -> Scoped {
     Scoped::Declare {
@@ -39,15 +44,19 @@ fn two(alloc: Global) -> Result<Vec<Scoped>, NoMemory> {
     Ok(commands)
 }
 
+fn appended(alloc: Global, version: &Version, entry: Entry<Stored>) -> Result<Version, NoMemory> {
+    match version.append(Arc::new(alloc, entry)?) {
+        Ok(version) => Ok(version),
+        Err(_) => Err(NoMemory),
+    }
+}
+
 /// The number of the first command that isn't accepted, and its verdict; or how many there are.
 fn outcome(alloc: Global, commands: &[Scoped], budget: u64) -> Result<(usize, Verdict), NoMemory> {
-    let mut signature = Signature {
-        entries: Listed::new(alloc),
-    };
-    let mut ruled = Vec::new(alloc);
+    let mut version = Version::empty(alloc)?;
     for (i, command) in commands.iter().enumerate() {
-        match enter_plain(alloc, &signature, ruled.as_slice(), command, budget) {
-            Ok(entry) => add_entry(&mut signature, &mut ruled, entry)?,
+        match enter_command(&mut Trees::new(alloc), &version, command, budget) {
+            Ok(entry) => version = appended(alloc, &version, entry)?,
             Err(verdict) => return Ok((i + 1, verdict)),
         }
     }
@@ -234,5 +243,58 @@ fn terms_at_the_limits_are_checked(rt: HostRuntime) -> Result<(), Fail> {
         outcome(alloc, binders(alloc, 1000)?.as_slice(), 1_000_000)?,
         accepted
     );
+    Ok(())
+}
+
+/// `nat : Type. z : nat.`, as a signature.
+fn signature_of_two(alloc: Global) -> Result<Signature, NoMemory> {
+    let mut entries = Listed::new(alloc);
+    for typ in [Term::Star, Term::Sym(0)] {
+        entries.push(Entry::Symbol {
+            sort: SymSort::Static,
+            typ,
+            body: None,
+        })?;
+    }
+    Ok(Signature { entries })
+}
+
+#[test]
+fn a_plain_signature_gives_the_same_verdicts(rt: HostRuntime) -> Result<(), Fail> {
+    let alloc = rt.alloc();
+    let signature = signature_of_two(alloc)?;
+    for (row, verdict) in [
+        (0, Verdict::Refused(Code::E20)),
+        (4, Verdict::Refused(Code::E23)),
+        (5, Verdict::Refused(Code::E24)),
+        (8, Verdict::Refused(Code::E21)),
+        (9, Verdict::Accepted),
+        (11, Verdict::Accepted),
+    ] {
+        let command = third(alloc, row)?;
+        assert_eq!(rt;
+            check_plain(alloc, &signature, &command, 1000),
+            verdict,
+            "at {row}"
+        );
+    }
+    Ok(())
+}
+
+/// `def y := z.` has the type `nat`; `def y := Type.` has none.
+#[test]
+fn the_type_of_a_definition_is_inferred(rt: HostRuntime) -> Result<(), Fail> {
+    let alloc = rt.alloc();
+    let signature = signature_of_two(alloc)?;
+    let given = definition(None, Some(Term::Sym(1)));
+    match infer_plain(alloc, &signature, &given, 1000) {
+        Ok(typ) => assert!(rt; typ.equal(&Term::Sym(0))),
+        Err(verdict) => assert_eq!(rt; verdict, Verdict::Accepted),
+    }
+    let refused = definition(None, Some(Term::Star));
+    match infer_plain(alloc, &signature, &refused, 1000) {
+        Ok(_) => assert!(rt; false, "Type has a type"),
+        Err(verdict) => assert_eq!(rt; verdict, Verdict::Refused(Code::E25)),
+    }
     Ok(())
 }

@@ -1,8 +1,0 @@
-use Rattle.std.proofs.Common.{◌≡◌, ◌++◌, map, drop}
-use Rattle.dk_model.specs.Trees.{tree}
-use Rattle.dk_model.specs.Matrix.{refined_rows}
-use Rattle.plain_evaluation.specs.Matrix.{row}
-use Rattle.plain_evaluation.proofs.matrix.refined_rows.Given as goal
-
-abbrev pub invariant-loop-row : goal.invariant-loop-row
-invariant-loop-row l = map row l.kept.items ++ refined_rows (tree l.value) l.count l.at (map row (drop l.row-index l.fn.rows.items)) ≡ refined_rows (tree l.value) l.count l.at (map row l.fn.rows.items)
