@@ -316,7 +316,8 @@ fn terms_are_taken_apart_and_built(rt: HostRuntime) -> Result<(), Fail> {
     let built = trees.build(node)?;
     let node = trees.open(built)?;
     let built = trees.build(node)?;
-    let erased = trees.erase(&trees.put_erased_in(&built, &Term::Sym(C))?)?;
+    let put = trees.put_erased_in(&built, &Term::Sym(C))?;
+    let erased = trees.erase(&put)?;
     let stored = trees.send(&erased)?;
     let brought = trees.bring(&stored)?;
     let loaded = trees.load(&brought)?;
