@@ -10,3 +10,6 @@ mod worker;
 
 pub use crew::run_crew;
 pub use worker::work;
+
+#[cfg(test)]
+mod tests;

@@ -1,0 +1,11 @@
+//! The made theory: a file of any length for measurements, whose every theorem holds by computation.
+//!
+//! Its text is `theory_of` of specs/Theory.antt (docs/generator.md). Begin at `make`.
+#![tactic(auto)]
+
+mod theory;
+
+#[cfg(test)]
+mod tests;
+
+pub use theory::make;
