@@ -1,4 +1,6 @@
 //! The text for small numbers, and how long it is for large ones.
+ghost use Rattle.std.specs.Prelude.{◌<◌};
+
 use crate::make;
 use dk_io::MemSink;
 use std::alloc::Global;
