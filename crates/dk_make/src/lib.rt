@@ -5,7 +5,4 @@
 
 mod theory;
 
-#[cfg(test)]
-mod tests;
-
 pub use theory::make;
