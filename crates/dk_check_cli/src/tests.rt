@@ -43,7 +43,13 @@ fn answers_the_words_it_is_given(rt: HostRuntime) -> Result<(), Fail> {
         let mut shelf = shelf_of(alloc)?;
         let mut sink = MemSink::new(alloc, 100, 4096, Vec::new(alloc))?;
         let got = answer_call(alloc, &given, &mut shelf, &mut sink);
-        assert_eq!(rt; sink.bytes(), report.as_bytes(), "{} {}", words[1], words[2]);
+        assert_eq!(rt;
+            sink.bytes(),
+            report.as_bytes(),
+            "{} {}",
+            words[1],
+            words[2]
+        );
         assert_eq!(rt; got, status, "{} {}", words[1], words[2]);
     }
     Ok(())

@@ -245,7 +245,11 @@ fn gives_the_same_tokens_where_fronts_are_taken_at_once(rt: HostRuntime) -> Resu
     ] {
         let one = lex(alloc, Limits::standard(), text, true)?;
         let fronts = lex_by_fronts(alloc, text)?;
-        assert_eq!(rt; fronts.tokens.as_str(), one.tokens.as_str(), "the tokens of {text:?}");
+        assert_eq!(rt;
+            fronts.tokens.as_str(),
+            one.tokens.as_str(),
+            "the tokens of {text:?}"
+        );
         assert_eq!(rt; fronts.fault, one.fault, "the fault of {text:?}");
         assert_eq!(rt; fronts.line, one.line, "the line of {text:?}");
     }
@@ -268,7 +272,11 @@ fn takes_a_whole_front(rt: HostRuntime) -> Result<(), Fail> {
         for byte in before.as_bytes() {
             let _fed = lexer.feed(alloc, *byte)?;
         }
-        assert_eq!(rt; lexer.pass(text.as_bytes())?, count, "at {text} behind {before}");
+        assert_eq!(rt;
+            lexer.pass(text.as_bytes())?,
+            count,
+            "at {text} behind {before}"
+        );
     }
     Ok(())
 }

@@ -8,8 +8,8 @@ ghost use Rattle.dk_lexer.specs.Steps.{lexer_after};
 ghost use Rattle.dk_lexer.specs.Tokens.{broken, tokens};
 
 use super::Lexer;
-use crate::class::{Class, classify};
 use crate::Place;
+use crate::class::{Class, classify};
 use crate::part::Part;
 use dk_model::{Listed, NoMemory};
 use std::mem::replace;
