@@ -38,7 +38,7 @@ pub types_kept : {R T : Type 0} {owns : R → T → Type 0} {denotes : R → T �
 types_kept old new [] k h = refl
 types_kept {R} {T} {owns} {denotes} old new (t ∷ ts) k h = ap (λ x. x ∷ map (denotes new) ts) (k.same t h.0) ∙ ap (λ (xs : List Tree). denotes old t ∷ xs) (types_kept old new ts k h.1)
 
-innermost_kept : {R T : Type 0} {owns : R → T → Type 0} {denotes : R → T → Tree} (old new : R) (ts : List T) → Keeps owns denotes old new → AreOwned owns old ts
+pub innermost_kept : {R T : Type 0} {owns : R → T → Type 0} {denotes : R → T → Tree} (old new : R) (ts : List T) → Keeps owns denotes old new → AreOwned owns old ts
     → innermost_first denotes new ts ≡ innermost_first denotes old ts
 innermost_kept old new [] k h = refl
 innermost_kept {R} {T} {owns} {denotes} old new (t ∷ ts) k h =

@@ -1,0 +1,5 @@
+pub mod Judging
+pub mod Founds
+pub mod Moving
+pub mod Guarding
+pub mod Sizes

@@ -1,0 +1,19 @@
+use Rattle.std.proofs.Common.{◌≡◌, length, map}
+use Rattle.dk_model.specs.RuleTyping.{guards_fit}
+use Rattle.signature_log.specs.Versions.{entries_of}
+use Rattle.signature_log.specs.Reducers.{Keeps}
+use Rattle.rule_check.specs.Founds.{guards_of, OwnsGuards}
+use Rattle.rule_check.specs.Clauses.{guards_due}
+use Rattle.rule_check.proofs.guards.check_guards.Given as goal
+
+abbrev pub invariant-loop-guard : goal.invariant-loop-guard
+invariant-loop-guard g l = record {
+  same : guards_due g.R.Reducer.denotes (entries_of l.fn.v) l.fn.r l.fn.types l.rest l.left ≡ guards_due g.R.Reducer.denotes (entries_of l.fn.v) l.fn.r l.fn.types l.fn.guards l.fn.left;
+  rest : OwnsGuards g.R.Reducer.owns l.fn.r l.rest;
+  types : l.types ≡ l.fn.types;
+  keeps : Keeps g.R.Reducer.owns g.R.Reducer.denotes l.fn.r l.r;
+  serves : g.R.Reducer.serves (entries_of l.fn.v) l.r;
+}
+
+abbrev pub decreases-loop-guard : goal.decreases-loop-guard
+decreases-loop-guard g l = length l.rest

@@ -1,0 +1,20 @@
+use Rattle.std.proofs.Common.{◌∙◌, ap, sym as flip}
+use Rattle.dk_model.specs.Typing.{answer}
+use Rattle.signature_log.specs.Versions.{entries_of}
+use Rattle.infer_check.specs.Contexts.{bound_types}
+use Rattle.rule_check.specs.Founds.{found_of}
+use Rattle.rule_check.proofs.Judging.{meet_first_given}
+use Rattle.rule_check.proofs.Moving.{set_found}
+use Rattle.rule_check.proofs.variables.meet_first.Goals as goal
+
+pub returns-clause-gives : goal.returns-clause-gives
+returns-clause-gives g c =
+    let D = g.R.Reducer.denotes in
+    let r = c.args.r.now in
+    let end = c.first_type.new.r in
+    let given = c.in_ok-typ.ensures.gives in
+    let w = c.args.found.now in
+    let found = set_found (entries_of c.args.v.now) r end c.args.context.now c.in_ok-typ.ensures.keeps c.requires.context w c.set.new.self c.requires.found c.args.number c.in_ok-typ.typ
+        c.set.ensures.types c.set.ensures.guards given.1 in
+    (meet_first_given (entries_of c.args.v.now) (bound_types D r c.args.context.now) c.args.number c.args.arguments.now (D r c.args.expected.now) (D end c.in_ok-typ.typ) (found_of D r w)
+        c.args.left.now c.first_type.new.left given.0 ∙ ap (λ y. answer y c.first_type.new.left) (flip found.0), found.1)

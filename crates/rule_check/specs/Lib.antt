@@ -1,0 +1,4 @@
+pub mod Founds
+pub mod Steps
+pub mod Given
+pub mod Clauses

@@ -1,0 +1,121 @@
+//! Guards: as terms below the variables bound at their place, kept until the left side is walked, and checked then.
+ghost use Rattle.std.specs.Prelude.{◌≡◌, IfOk};
+ghost use Rattle.dk_model.specs.Trees.{tree};
+ghost use Rattle.dk_model.specs.Erasure.{erased};
+ghost use Rattle.dk_model.specs.Substitution.{shift};
+ghost use Rattle.dk_model.specs.Signatures.{PlainSignature};
+ghost use Rattle.signature_log.specs.Versions.{entries_of};
+ghost use Rattle.signature_log.specs.Reducers.{Keeps, Makes};
+ghost use Rattle.infer_check.specs.Contexts.{AreOwned, OwnsContext};
+ghost use Rattle.rule_check.specs.Founds.{OwnsGuard, OwnsGuards};
+ghost use Rattle.rule_check.specs.Given.{IsCopied, IsGuardAt, GivesTypes};
+ghost use Rattle.rule_check.specs.Clauses.{guard_due, guards_due};
+
+use crate::found::Guard;
+use dk_model::{Listed, NoMemory, Term, TypeFault};
+use infer_check::{Context, check};
+use signature_log::{Reducer, Version};
+
+/// The term of a guard without annotations, below this many bound variables.
+#[tactic(auto, using(signature_log::proofs::Keeping::keeps_further))]
+pub(crate) fn guard_term<R: Reducer>(
+    r: &mut R,
+    depth: u64,
+    term: &Term,
+) -> Result<R::T, NoMemory>
+    ensures makes { IfOk result (Makes R.owns R.denotes r.new (shift 0 depth (erased (tree term.now)))) }
+    ensures keeps { Keeps R.owns R.denotes r.old r.new }
+    ensures serves { (S : PlainSignature) → R.serves S r.old → R.serves S r.new }
+{
+    let loaded = r.load(term)?;
+    let erased = r.erase(&loaded)?;
+    r.shift(&erased, depth)
+}
+
+/// Second values for these types.
+#[tactic(auto, using(signature_log::proofs::Keeping::keeps_none))]
+fn copies<R: Reducer>(r: &mut R, types: &[R::T]) -> Result<Listed<R::T>, NoMemory>
+    requires { AreOwned R.owns r.old types.now }
+    ensures copies { IfOk result (IsCopied R.owns R.denotes r.old types.now r.new) }
+    ensures keeps { Keeps R.owns R.denotes r.old r.new }
+    ensures serves { (S : PlainSignature) → R.serves S r.old → R.serves S r.new }
+{
+    let mut copies = Listed::new(r.alloc());
+    let mut rest = types;
+    while let Some((first, others)) = rest.split_first() {
+        let copy = r.copy(first)?;
+        copies.push(copy)?;
+        rest = others;
+    }
+    Ok(copies)
+}
+
+/// The guard of this term at a place.
+pub(crate) fn guard_at<R: Reducer>(
+    r: &mut R,
+    context: &Context<R::T>,
+    term: &R::T,
+    typ: &R::T,
+) -> Result<Guard<R::T>, NoMemory>
+    requires context { OwnsContext R.owns r.old context.now }
+    requires term { R.owns r.old term.now }
+    requires typ { R.owns r.old typ.now }
+    ensures guard { IfOk result (IsGuardAt R.owns R.denotes r.old context.now term.now typ.now r.new) }
+    ensures keeps { Keeps R.owns R.denotes r.old r.new }
+    ensures serves { (S : PlainSignature) → R.serves S r.old → R.serves S r.new }
+{
+    let bound = copies(r, context.bound.as_slice())?;
+    let term = r.copy(term)?;
+    let typ = r.copy(typ)?;
+    Ok(Guard { bound, term, typ })
+}
+
+/// That a guard fits the type at its place, where the rule variables have these types. Gives them back.
+fn check_guard<R: Reducer>(
+    r: &mut R,
+    v: &Version,
+    types: Listed<R::T>,
+    guard: &Guard<R::T>,
+    left: &mut u64,
+) -> Result<Listed<R::T>, TypeFault>
+    requires types { AreOwned R.owns r.old types }
+    requires guard { OwnsGuard R.owns r.old guard.now }
+    requires serves { R.serves (entries_of v.now) r.old }
+    ensures gives { GivesTypes types
+        (guard_due R.denotes (entries_of v.now) r.old types guard.now left.old) result left.new }
+    ensures keeps { Keeps R.owns R.denotes r.old r.new }
+    ensures serves { R.serves (entries_of v.now) r.new }
+{
+    let bound = copies(r, guard.bound.as_slice())?;
+    let mut context = Context {
+        rule_vars: types,
+        bound,
+    };
+    check(r, v, &mut context, &guard.term, &guard.typ, left)?;
+    Ok(context.rule_vars)
+}
+
+/// The same for each guard, from left to right.
+pub(crate) fn check_guards<R: Reducer>(
+    r: &mut R,
+    v: &Version,
+    types: Listed<R::T>,
+    guards: &[Guard<R::T>],
+    left: &mut u64,
+) -> Result<Listed<R::T>, TypeFault>
+    requires types { AreOwned R.owns r.old types }
+    requires guards { OwnsGuards R.owns r.old guards.now }
+    requires serves { R.serves (entries_of v.now) r.old }
+    ensures gives { GivesTypes types
+        (guards_due R.denotes (entries_of v.now) r.old types guards.now left.old) result left.new }
+    ensures keeps { Keeps R.owns R.denotes r.old r.new }
+    ensures serves { R.serves (entries_of v.now) r.new }
+{
+    let mut types = types;
+    let mut rest = guards;
+    while let Some((guard, others)) = rest.split_first() {
+        types = check_guard(r, v, types, guard, left)?;
+        rest = others;
+    }
+    Ok(types)
+}

@@ -1,0 +1,14 @@
+//! The types of rules: whether both sides of a rule have one type.
+//!
+//! The meaning is `rule_checked` of dk_model (docs/typing.md). Begin at `check_rule`.
+#![tactic(auto)]
+
+mod compare;
+mod found;
+mod guards;
+mod occurrence;
+mod sides;
+mod variables;
+mod walk;
+
+pub use sides::check_rule;
