@@ -1,5 +1,5 @@
 -- What is found, from one call of a reducer to the next, and with one thing more.
-use Rattle.std.proofs.Common.{List, [], ◌∷◌, ◌++◌, ◌≡◌, ◌∙◌, ◌+◌, ℕ, zero, suc, Option, Some, None, map, ap, refl, sym as flip}
+use Rattle.std.proofs.Common.{List, [], ◌∷◌, ◌++◌, ◌≡◌, ◌∙◌, ℕ, zero, suc, Option, Some, None, ap, refl}
 use Rattle.std.specs.Prelude.{slice_set}
 use Rattle.dk_model.specs.Trees.{Tree}
 use Rattle.dk_model.specs.Signatures.{maybe_by}
@@ -16,7 +16,7 @@ module _ {R T : Type 0} {owns : R → T → Type 0} {denotes : R → T → Tree}
   some_kept None h = tt
   some_kept (Some t) h = k.own t h
 
-  maybe_kept : (o : Option T) → OwnsSome owns old o → maybe_by (denotes new) o ≡ maybe_by (denotes old) o
+  pub maybe_kept : (o : Option T) → OwnsSome owns old o → maybe_by (denotes new) o ≡ maybe_by (denotes old) o
   maybe_kept None h = refl
   maybe_kept (Some t) h = ap (λ (x : Tree). Some x) (k.same t h)
 

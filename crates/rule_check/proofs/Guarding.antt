@@ -5,16 +5,16 @@ use Rattle.dk_model.specs.Trees.{Tree}
 use Rattle.dk_model.specs.Substitution.{shift}
 use Rattle.dk_model.specs.Erasure.{erased}
 use Rattle.dk_model.specs.Signatures.{PlainSignature}
-use Rattle.dk_model.specs.Typing.{Judged, answer, next, checked}
-use Rattle.dk_model.specs.RuleTyping.{Guard as PlainGuard, Found as PlainFound, guards_fit, guard_walked}
+use Rattle.dk_model.specs.Typing.{answer, next, checked}
+use Rattle.dk_model.specs.RuleTyping.{Guard as PlainGuard, guard_walked}
 use Rattle.dk_model.specs.declared.stop.TypeFault.{TypeFault}
 use Rattle.signature_log.specs.Reducers.{Keeps, Makes}
 use Rattle.signature_log.proofs.Keeping.{keeps_further}
 use Rattle.infer_check.specs.declared.context.Context.{Context}
-use Rattle.infer_check.specs.Contexts.{innermost_first, rule_types, bound_types, AreOwned, OwnsContext}
+use Rattle.infer_check.specs.Contexts.{innermost_first, bound_types, AreOwned, OwnsContext}
 use Rattle.infer_check.specs.Given.{Fails}
 use Rattle.infer_check.proofs.Contexts.{innermost_kept, bound_types_kept, length_bound_types, types_kept as values_kept}
-use Rattle.infer_check.proofs.Judging.{fails_next, fails_is}
+use Rattle.infer_check.proofs.Judging.{fails_next}
 use Rattle.infer_check.proofs.Moving.{checked_same}
 use Rattle.rule_check.specs.declared.found.Guard.{Guard}
 use Rattle.rule_check.specs.declared.found.Found.{Found}
@@ -70,11 +70,12 @@ module _ {R T : Type 0} {owns : R → T → Type 0} {denotes : R → T → Tree}
       let term : denotes end t ≡ shift 0 (length (bound_types denotes old c)) (erased u) = l.same t made.1 ∙ made.0 ∙ ap (λ j. shift 0 j (erased u)) depth in
       let types : types_of denotes end found.types.items ≡ types_of denotes old w.types.items = ap (types_of denotes end) x ∙ types_of_kept old end kept w.types.items q.types in
       let guard : guard_of denotes end g ≡ (let p : PlainGuard = record { context = bound_types denotes old c; term = shift 0 (length (bound_types denotes old c)) (erased u); typ = denotes old A } in p) =
-          same_guard (at.context ∙ bound_types_kept old mid c k h) (at.term ∙ made.0 ∙ ap (λ j. shift 0 j (erased u)) depth) (at.typ ∙ k.same A a) in
+      same_guard (at.context ∙ bound_types_kept old mid c k h) (at.term ∙ made.0 ∙ ap (λ j. shift 0 j (erased u)) depth) (at.typ ∙ k.same A a) in
       let guards : guards_of denotes end found.guards.items ≡ guards_of denotes old w.guards.items ++ (let p : PlainGuard = record { context = bound_types denotes old c; term = shift 0 (length (bound_types denotes old c)) (erased u); typ = denotes old A } in p) ∷ [] =
-          ap (guards_of denotes end) y ∙ guards_pushed owns denotes end w.guards.items g
-          ∙ ap (λ (gs : List PlainGuard). gs ++ guard_of denotes end g ∷ []) (guards_of_kept old end kept w.guards.items q.guards)
-          ∙ ap (λ (p : PlainGuard). guards_of denotes old w.guards.items ++ p ∷ []) guard in
-      (ap (λ a. answer a n) (same_walked (flip term) (same_found (flip types) (flip guards))),
-       l.own t made.1,
-       record { types = subst (OwnsTypes owns end) (flip x) owned.types; guards = subst (OwnsGuards owns end) (flip y) (owned_guard_pushed owns denotes end w.guards.items g owned.guards at.own) })
+      ap (guards_of denotes end) y ∙ guards_pushed owns denotes end w.guards.items g
+      ∙ ap (λ (gs : List PlainGuard). gs ++ guard_of denotes end g ∷ []) (guards_of_kept old end kept w.guards.items q.guards)
+      ∙ ap (λ (p : PlainGuard). guards_of denotes old w.guards.items ++ p ∷ []) guard in (
+        ap (λ a. answer a n) (same_walked (flip term) (same_found (flip types) (flip guards))),
+        l.own t made.1,
+        record { types = subst (OwnsTypes owns end) (flip x) owned.types; guards = subst (OwnsGuards owns end) (flip y) (owned_guard_pushed owns denotes end w.guards.items g owned.guards at.own) },
+      )

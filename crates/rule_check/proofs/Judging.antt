@@ -1,10 +1,10 @@
 -- What rule typing gives, from what its parts gave.
-use Rattle.std.proofs.Common.{List, [], ◌∷◌, ◌++◌, ◌≡◌, ◌+◌, ℕ, length, Option, Some, None, refl, ap, ◌∙◌, sym as flip, subst}
-use Rattle.dk_model.specs.Trees.{Tree, symbol, variable, apply, bare, product}
+use Rattle.std.proofs.Common.{List, [], ◌∷◌, ◌++◌, ◌≡◌, ℕ, length, Option, Some, None, refl, ap, ◌∙◌, sym as flip, subst}
+use Rattle.dk_model.specs.Trees.{Tree, variable, apply, bare, product}
 use Rattle.dk_model.specs.Substitution.{shift, substitute}
-use Rattle.dk_model.specs.Signatures.{Pattern, Patterns, no_patterns, more_patterns, abstraction_pattern, symbol_pattern, variable_pattern, PlainSignature}
+use Rattle.dk_model.specs.Signatures.{Pattern, Patterns, more_patterns, abstraction_pattern, PlainSignature}
 use Rattle.dk_model.specs.Captures.{renamed}
-use Rattle.dk_model.specs.Typing.{Judged, answer, refused, ended, next, as_product, symbol_type, variable_type}
+use Rattle.dk_model.specs.Typing.{Judged, answer, refused, ended, next, as_product, variable_type}
 use Rattle.dk_model.specs.RuleTyping.{Found, Walked, with_type, with_wildcard, occurrence, outermost_first, as_convertible, confined, bound_type, first_type, later_type, first_occurrence, later_occurrence, rule_variable_walked, wildcard_walked, walked, spine_walked, as_expected}
 use Rattle.dk_model.specs.declared.code.Code.TheVariants.{E34}
 use Rattle.dk_model.specs.declared.stop.TypeFault.{TypeFault}

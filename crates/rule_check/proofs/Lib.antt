@@ -3,3 +3,5 @@ pub mod Founds
 pub mod Moving
 pub mod Guarding
 pub mod Sizes
+pub mod Walking
+pub mod Terms

@@ -1,5 +1,5 @@
 -- What rule typing gives after a call of a reducer is what it gave before it.
-use Rattle.std.proofs.Common.{List, [], ◌∷◌, ◌++◌, ◌≡◌, ◌+◌, ◌<◌, ℕ, Option, Some, None, map, ap, ◌∙◌, sym as flip, subst, refl, arith}
+use Rattle.std.proofs.Common.{List, [], ◌∷◌, ◌++◌, ◌≡◌, ℕ, Option, Some, None, map, ap, ◌∙◌, sym as flip, subst, refl, arith}
 use Rattle.std.specs.Prelude.{Result, Ok, Err, slice_set, length, zero, suc}
 use Rattle.dk_model.specs.Trees.{Tree, variable, product}
 use Rattle.dk_model.specs.Substitution.{shift, substitute}
@@ -12,15 +12,14 @@ use Rattle.signature_log.specs.Reducers.{Keeps}
 use Rattle.infer_check.specs.declared.context.Context.{Context}
 use Rattle.infer_check.specs.Contexts.{innermost_first, bound_types, AreOwned, OwnsContext}
 use Rattle.infer_check.specs.Given.{GivesType, GivesFit, Fails}
-use Rattle.infer_check.proofs.Contexts.{context_kept, bound_types_kept, length_bound_types, owned_pushed, owned_kept, types_kept as values_kept}
+use Rattle.infer_check.proofs.Contexts.{bound_types_kept, length_bound_types, types_kept as values_kept}
 use Rattle.infer_check.proofs.Spines.{map_pushed}
-use Rattle.rule_check.specs.Clauses.{Binds, GivesFirst, GivesStep, GivesLater, later_due, MeetsFirst, Meets}
-use Rattle.rule_check.specs.declared.found.Guard.{Guard}
+use Rattle.rule_check.specs.Clauses.{Binds, GivesFirst, GivesStep, later_due, MeetsFirst, Meets}
 use Rattle.rule_check.specs.declared.found.Found.{Found}
 use Rattle.rule_check.specs.Founds.{types_of, guards_of, found_of, OwnsSome, OwnsTypes, OwnsGuards, OwnsFound}
 use Rattle.rule_check.specs.Given.{GivesFound, IsKnown}
 use Rattle.rule_check.specs.Steps.{found_at, applied_type, met_first, later_fits, met}
-use Rattle.rule_check.proofs.Judging.{first_domain_fails, first_codomain_fails, first_given, meet_later_given, meet_later_fails}
+use Rattle.rule_check.proofs.Judging.{first_codomain_fails, first_given, meet_later_given, meet_later_fails}
 use Rattle.rule_check.proofs.Founds.{found_kept, found_same, types_set, types_of_kept, guards_of_kept, owned_set, types_pushed, owned_type_pushed}
 use Rattle.infer_check.proofs.Judging.{fails_next, fails_is, next_next}
 
@@ -30,7 +29,7 @@ same_walked {t} {u} {A} {w} {v} e f = ap (λ (x : Tree). (let a : Walked = recor
 pub same_found : {ts us : List (Option Tree)} {gs hs : List PlainGuard} → ts ≡ us → gs ≡ hs → (let f : PlainFound = record { types = ts; guards = gs } in f) ≡ (let f : PlainFound = record { types = us; guards = hs } in f)
 same_found {ts} {us} {gs} {hs} e g = ap (λ (x : List (Option Tree)). (let f : PlainFound = record { types = x; guards = gs } in f)) e ∙ ap (λ (x : List PlainGuard). (let f : PlainFound = record { types = us; guards = x } in f)) g
 
-moved_over : (xs : List Tree) (y : Tree) (ys : List Tree) → (xs ++ y ∷ []) ++ ys ≡ xs ++ y ∷ ys
+pub moved_over : (xs : List Tree) (y : Tree) (ys : List Tree) → (xs ++ y ∷ []) ++ ys ≡ xs ++ y ∷ ys
 moved_over [] y ys = refl
 moved_over (x ∷ xs) y ys = ap (λ (zs : List Tree). x ∷ zs) (moved_over xs y ys)
 
@@ -161,7 +160,7 @@ module _ {R T : Type 0} {owns : R → T → Type 0} {denotes : R → T → Tree}
       let len : length c.bound ≡ length (bound_types denotes old c) = flip (length_bound_types denotes old c) in
       let shifted : denotes mid u ≡ shift 0 (length (bound_types denotes old c)) F = known.2 ∙ ap (λ d. shift 0 d F) len in
       let fits : GivesFit (later_fits S (bound_types denotes old c) xs (shift 0 (length (bound_types denotes old c)) F) B n) o m =
-          (let P : Tree → Type 0 = λ X. GivesFit (later_fits S (bound_types denotes old c) xs X B n) o m in subst P shifted (later_moved xs (denotes mid u) A B n m o e g)) in
+      (let P : Tree → Type 0 = λ X. GivesFit (later_fits S (bound_types denotes old c) xs X B n) o m in subst P shifted (later_moved xs (denotes mid u) A B n m o e g)) in
       let P : Option Tree → Type 0 = λ y. GivesFound owns denotes (met S (bound_types denotes old c) x xs y B (found_of denotes old w) n) new w o m in
       subst P (flip known.1) (found_later w q x xs F B n m new l o fits)
 
@@ -171,14 +170,15 @@ module _ {R T : Type 0} {owns : R → T → Type 0} {denotes : R → T → Tree}
   set_found w found q x t e g o =
       let kept : OwnsFound owns mid w = found_kept old mid k w q in
       let types : types_of denotes mid found.types.items ≡ slice_set (types_of denotes old w.types.items) x (Some (denotes mid t)) =
-          ap (types_of denotes mid) e ∙ types_set owns denotes mid w.types.items x t ∙ ap (λ (ys : List (Option Tree)). slice_set ys x (Some (denotes mid t))) (types_of_kept old mid k w.types.items q.types) in
+      ap (types_of denotes mid) e ∙ types_set owns denotes mid w.types.items x t ∙ ap (λ (ys : List (Option Tree)). slice_set ys x (Some (denotes mid t))) (types_of_kept old mid k w.types.items q.types) in
       let guards : guards_of denotes mid found.guards.items ≡ guards_of denotes old w.guards.items =
-          ap (guards_of denotes mid) g ∙ guards_of_kept old mid k w.guards.items q.guards in
-      (same_found types guards,
-      record {
-        types = subst (OwnsTypes owns mid) (flip e) (owned_set owns denotes mid w.types.items x t kept.types o);
-        guards = subst (OwnsGuards owns mid) (flip g) kept.guards;
-      })
+      ap (guards_of denotes mid) g ∙ guards_of_kept old mid k w.guards.items q.guards in (
+        same_found types guards,
+        record {
+          types = subst (OwnsTypes owns mid) (flip e) (owned_set owns denotes mid w.types.items x t kept.types o);
+          guards = subst (OwnsGuards owns mid) (flip g) kept.guards;
+        },
+      )
 
 module _ {R T : Type 0} {owns : R → T → Type 0} {denotes : R → T → Tree} (old mid : R) (k : Keeps owns denotes old mid) where
   pub wildcard_found : (w found : Found T) (q : OwnsFound owns old w) (t : T) → found.types.items ≡ w.types.items ++ Some t ∷ [] → found.guards.items ≡ w.guards.items → owns mid t
@@ -186,14 +186,15 @@ module _ {R T : Type 0} {owns : R → T → Type 0} {denotes : R → T → Tree}
   wildcard_found w found q t e g o =
       let kept : OwnsFound owns mid w = found_kept old mid k w q in
       let types : types_of denotes mid found.types.items ≡ types_of denotes old w.types.items ++ Some (denotes mid t) ∷ [] =
-          ap (types_of denotes mid) e ∙ types_pushed owns denotes mid w.types.items t ∙ ap (λ (ys : List (Option Tree)). ys ++ Some (denotes mid t) ∷ []) (types_of_kept old mid k w.types.items q.types) in
+      ap (types_of denotes mid) e ∙ types_pushed owns denotes mid w.types.items t ∙ ap (λ (ys : List (Option Tree)). ys ++ Some (denotes mid t) ∷ []) (types_of_kept old mid k w.types.items q.types) in
       let guards : guards_of denotes mid found.guards.items ≡ guards_of denotes old w.guards.items =
-          ap (guards_of denotes mid) g ∙ guards_of_kept old mid k w.guards.items q.guards in
-      (same_found types guards,
-      record {
-        types = subst (OwnsTypes owns mid) (flip e) (owned_type_pushed owns denotes mid w.types.items t kept.types o);
-        guards = subst (OwnsGuards owns mid) (flip g) kept.guards;
-      })
+      ap (guards_of denotes mid) g ∙ guards_of_kept old mid k w.guards.items q.guards in (
+        same_found types guards,
+        record {
+          types = subst (OwnsTypes owns mid) (flip e) (owned_type_pushed owns denotes mid w.types.items t kept.types o);
+          guards = subst (OwnsGuards owns mid) (flip g) kept.guards;
+        },
+      )
 
 length_types : {R T : Type 0} (denotes : R → T → Tree) (r : R) (os : List (Option T)) → length (types_of denotes r os) ≡ length os
 length_types denotes r [] = refl

@@ -1,5 +1,5 @@
 -- The size of a pattern, by which a walk ends, and patterns as the program holds them.
-use Rattle.std.proofs.Common.{List, [], ◌∷◌, ◌≡◌, ◌∙◌, ◌+◌, ◌≤◌, ◌<◌, ◌*◌, ℕ, map, ap, refl, sym as flip, subst, arith}
+use Rattle.std.proofs.Common.{List, ◌∷◌, ◌≡◌, ◌∙◌, ◌+◌, ◌≤◌, ℕ, map, ap, refl, sym as flip, arith}
 use Rattle.dk_model.specs.Signatures.{Pattern, Patterns, no_patterns, more_patterns, rule_variable_pattern, wildcard_pattern, guard_pattern, symbol_pattern, variable_pattern, abstraction_pattern, pattern, patterns}
 use Rattle.dk_model.specs.RuleTyping.{patterns_of}
 use Rattle.dk_model.specs.declared.signature.Pat.{Pat, Row_of-Pat, end_of-Pat, more_of-Pat, items-the_row-Pat}

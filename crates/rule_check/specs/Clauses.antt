@@ -1,5 +1,5 @@
 -- What each step of rule typing gives in a context.
-use Rattle.std.specs.Prelude.{ℕ, List, [], Option, Result, map}
+use Rattle.std.specs.Prelude.{ℕ, List, [], Result, map}
 use Rattle.dk_model.specs.Trees.{Tree}
 use Rattle.dk_model.specs.Signatures.{Pattern, Patterns, PlainRule, PlainSignature}
 use Rattle.dk_model.specs.Typing.{Judged, next, checked}

@@ -3,7 +3,7 @@ use Rattle.std.specs.Prelude.{ℕ, ◌≡◌, Option, Some, None, Result, Ok, Er
 use Rattle.dk_model.specs.Trees.{Tree, apply}
 use Rattle.dk_model.specs.Typing.{Judged, answer}
 use Rattle.dk_model.specs.Substitution.{shift, substitute}
-use Rattle.dk_model.specs.RuleTyping.{Guard as PlainGuard, Found as PlainFound, Walked, found_type}
+use Rattle.dk_model.specs.RuleTyping.{Found as PlainFound, Walked, found_type}
 use Rattle.dk_model.specs.declared.stop.TypeFault.{TypeFault}
 use Rattle.infer_check.specs.declared.context.Context.{Context}
 use Rattle.infer_check.specs.Contexts.{innermost_first, bound_types, AreOwned}
@@ -12,7 +12,7 @@ use Rattle.rule_check.specs.declared.found.Found.{Found}
 use Rattle.rule_check.specs.declared.found.Guard.{Guard}
 use Rattle.rule_check.specs.declared.found.Headed.{Headed}
 use Rattle.rule_check.specs.declared.found.Left.{Left}
-use Rattle.rule_check.specs.Founds.{types_of, guard_of, found_of, OwnsGuard, OwnsFound}
+use Rattle.rule_check.specs.Founds.{types_of, found_of, OwnsGuard, OwnsFound}
 
 -- a head whose term and type are the reducer's
 pub record OwnsHeaded {R T : Type 0} (owns : R → T → Type 0) (r : R) (h : Headed T) : Type 0 where

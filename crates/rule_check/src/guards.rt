@@ -18,11 +18,7 @@ use signature_log::{Reducer, Version};
 
 /// The term of a guard without annotations, below this many bound variables.
 #[tactic(auto, using(signature_log::proofs::Keeping::keeps_further))]
-pub(crate) fn guard_term<R: Reducer>(
-    r: &mut R,
-    depth: u64,
-    term: &Term,
-) -> Result<R::T, NoMemory>
+pub(crate) fn guard_term<R: Reducer>(r: &mut R, depth: u64, term: &Term) -> Result<R::T, NoMemory>
     ensures makes { IfOk result (Makes R.owns R.denotes r.new (shift 0 depth (erased (tree term.now)))) }
     ensures keeps { Keeps R.owns R.denotes r.old r.new }
     ensures serves { (S : PlainSignature) → R.serves S r.old → R.serves S r.new }

@@ -87,11 +87,29 @@ fn walk<R: Reducer>(
         Pat::Guard(term) => walk_guard(r, v, context, term, expected, found, left),
         Pat::Sym(number, arguments) => {
             let head = symbol_head(r, v, *number)?;
-            walk_headed(r, v, context, head, arguments.as_slice(), expected, found, left)
+            walk_headed(
+                r,
+                v,
+                context,
+                head,
+                arguments.as_slice(),
+                expected,
+                found,
+                left,
+            )
         }
         Pat::Var(number, arguments) => {
             let head = variable_head(r, context, *number)?;
-            walk_headed(r, v, context, head, arguments.as_slice(), expected, found, left)
+            walk_headed(
+                r,
+                v,
+                context,
+                head,
+                arguments.as_slice(),
+                expected,
+                found,
+                left,
+            )
         }
         Pat::Abs(body) => walk_abstraction(r, v, context, body, expected, found, left),
     }

@@ -1,4 +1,4 @@
-use Rattle.std.proofs.Common.{rules, ◌∙◌, ap, sym as flip, subst}
+use Rattle.std.proofs.Common.{rules, ◌∙◌, sym as flip, subst}
 use Rattle.signature_log.specs.Versions.{entries_of}
 use Rattle.signature_log.proofs.Keeping.{keeps_further}
 use Rattle.infer_check.specs.Contexts.{AreOwned}

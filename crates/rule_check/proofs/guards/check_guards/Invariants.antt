@@ -1,8 +1,7 @@
-use Rattle.std.proofs.Common.{◌≡◌, length, map}
-use Rattle.dk_model.specs.RuleTyping.{guards_fit}
+use Rattle.std.proofs.Common.{◌≡◌, length}
 use Rattle.signature_log.specs.Versions.{entries_of}
 use Rattle.signature_log.specs.Reducers.{Keeps}
-use Rattle.rule_check.specs.Founds.{guards_of, OwnsGuards}
+use Rattle.rule_check.specs.Founds.{OwnsGuards}
 use Rattle.rule_check.specs.Clauses.{guards_due}
 use Rattle.rule_check.proofs.guards.check_guards.Given as goal
 

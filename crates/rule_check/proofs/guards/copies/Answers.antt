@@ -1,4 +1,4 @@
-use Rattle.std.proofs.Common.{◌∙◌, ap, sym as flip, subst}
+use Rattle.std.proofs.Common.{◌∙◌, sym as flip, subst}
 use Rattle.signature_log.proofs.Keeping.{keeps_further}
 use Rattle.infer_check.specs.Contexts.{AreOwned}
 use Rattle.infer_check.proofs.Contexts.{owned_pushed, owned_kept}

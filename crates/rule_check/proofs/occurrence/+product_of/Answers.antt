@@ -25,9 +25,9 @@ returns-in_err-codomain-in-Some-clause-gives g t c =
     let k = c.in_ok-domain-in-Some.ensures.keeps in
     let f = c.in_err-codomain-in-Some.field-0.0 in
     let moved = first_moved S r mid x k c.requires.context c.product_of.new.r c.push.new.self c.in-Some.others.now (D mid c.args.expected) (D r c.args.expected)
-        c.argument_type.new.left c.product_of.new.left (Err f) (k.same c.args.expected c.requires.expected) c.in_err-codomain-in-Some.ensures.gives in
+    c.argument_type.new.left c.product_of.new.left (Err f) (k.same c.args.expected c.requires.expected) c.in_err-codomain-in-Some.ensures.gives in
     let p = product_fails S (bound_types D r x) f c.args.before c.args.rest.now c.in-Some.others.now c.as_slice-in-Some.result.now c.push.new.self c.in-Some.first.now (D r c.args.expected) (D mid c.in_ok-domain-in-Some.domain)
-        c.args.left.now c.argument_type.new.left c.in-Some.ensures.cases.0 c.in_ok-push-in-Some.ensures.ok c.as_slice-in-Some.ensures c.in_ok-domain-in-Some.ensures.gives.0 moved in
+    c.args.left.now c.argument_type.new.left c.in-Some.ensures.cases.0 c.in_ok-push-in-Some.ensures.ok c.as_slice-in-Some.ensures c.in_ok-domain-in-Some.ensures.gives.0 moved in
     search rules
 
 pub returns-in_ok-build-in-Some-clause-gives : goal.returns-in_ok-build-in-Some-clause-gives
@@ -42,9 +42,9 @@ returns-in_ok-build-in-Some-clause-gives g t c =
     let domain = c.in_ok-domain-in-Some.domain in
     let codomain = c.in_ok-codomain-in-Some.codomain in
     let moved = first_moved S r mid x k c.requires.context end c.push.new.self c.in-Some.others.now (D mid c.args.expected) (D r c.args.expected)
-        c.argument_type.new.left c.product_of.new.left (Ok codomain) (k.same c.args.expected c.requires.expected) c.in_ok-codomain-in-Some.ensures.gives in
+    c.argument_type.new.left c.product_of.new.left (Ok codomain) (k.same c.args.expected c.requires.expected) c.in_ok-codomain-in-Some.ensures.gives in
     let p = product_given S (bound_types D r x) c.args.before c.args.rest.now c.in-Some.others.now c.as_slice-in-Some.result.now c.push.new.self c.in-Some.first.now (D r c.args.expected) (D mid domain) (D end codomain)
-        c.args.left.now c.argument_type.new.left c.product_of.new.left c.in-Some.ensures.cases.0 c.in_ok-push-in-Some.ensures.ok c.as_slice-in-Some.ensures c.in_ok-domain-in-Some.ensures.gives.0 moved.0 in
+    c.args.left.now c.argument_type.new.left c.product_of.new.left c.in-Some.ensures.cases.0 c.in_ok-push-in-Some.ensures.ok c.as_slice-in-Some.ensures c.in_ok-domain-in-Some.ensures.gives.0 moved.0 in
     let made = c.in_ok-build-in-Some.ensures.makes in
     let e = c.in_ok-codomain-in-Some.ensures.keeps.same domain c.in_ok-domain-in-Some.ensures.gives.1 in
     (p ∙ ap (λ u. answer u c.product_of.new.left) (flip (made.0 ∙ ap (λ u. product u (D end codomain)) e)), made.1)

@@ -1,4 +1,4 @@
-use Rattle.std.proofs.Common.{rules, refl, ◌∙◌, ap, sym as flip}
+use Rattle.std.proofs.Common.{rules, ◌∙◌, ap, sym as flip}
 use Rattle.std.specs.Prelude.{Ok, Err}
 use Rattle.dk_model.specs.Trees.{variable}
 use Rattle.dk_model.specs.Substitution.{substitute}
@@ -37,7 +37,7 @@ returns-clause-gives g c =
     let fn = c.in_ok-function.function in
     let moved = fit_moved S r q x k c.requires.context c.args.variable (D q fn.domain) c.as_product.new.left c.fit_variable.new.left (Ok tt) c.in_ok-fit_variable.ensures.gives in
     let p = applied_given S (bound_types D r x) c.args.variable (D r c.args.typ) (D q fn.domain) (D q fn.codomain) c.args.left.now c.as_product.new.left c.fit_variable.new.left
-        c.in_ok-function.ensures.gives.0 moved in
+    c.in_ok-function.ensures.gives.0 moved in
     let made = c.in_ok-put_variable.ensures.makes in
     let e = c.in_ok-fit_variable.ensures.keeps.same fn.codomain c.in_ok-function.ensures.gives.2 in
     (p ∙ ap (λ u. answer u c.fit_variable.new.left) (flip (made.0 ∙ ap (substitute 0 (variable c.args.variable)) e)), made.1)

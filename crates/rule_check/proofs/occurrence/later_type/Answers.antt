@@ -1,4 +1,4 @@
-use Rattle.std.proofs.Common.{rules, refl, ◌∙◌, ap, sym as flip}
+use Rattle.std.proofs.Common.{rules, refl, ◌∙◌, sym as flip}
 use Rattle.std.specs.Prelude.{Ok, Err}
 use Rattle.signature_log.specs.Versions.{entries_of}
 use Rattle.signature_log.proofs.Keeping.{keeps_further}

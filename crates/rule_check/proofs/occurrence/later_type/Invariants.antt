@@ -2,7 +2,7 @@ use Rattle.std.proofs.Common.{◌≡◌, length}
 use Rattle.dk_model.specs.RuleTyping.{later_type}
 use Rattle.signature_log.specs.Versions.{entries_of}
 use Rattle.signature_log.specs.Reducers.{Keeps}
-use Rattle.infer_check.specs.Contexts.{bound_types, OwnsContext}
+use Rattle.infer_check.specs.Contexts.{bound_types}
 use Rattle.rule_check.proofs.occurrence.later_type.Given as goal
 
 abbrev pub invariant-loop-first : goal.invariant-loop-first

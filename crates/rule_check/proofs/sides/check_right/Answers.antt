@@ -1,7 +1,5 @@
-use Rattle.std.proofs.Common.{subst, sym as flip, ◌∙◌, refl, [], map}
-use Rattle.dk_model.specs.Trees.{tree}
+use Rattle.std.proofs.Common.{sym as flip}
 use Rattle.signature_log.specs.Versions.{entries_of}
-use Rattle.infer_check.specs.Contexts.{AreOwned, innermost_first}
 use Rattle.infer_check.proofs.Contexts.{owned_kept, types_kept}
 use Rattle.infer_check.proofs.Moving.{checked_same, fit_is}
 use Rattle.rule_check.proofs.Moving.{none_owned, none_bound}
@@ -17,6 +15,6 @@ pub returns-clause-gives : goal.returns-clause-gives
 returns-clause-gives g c =
     let k = c.in_ok-right.ensures.keeps in
     fit_is c.check.result c.check.new.left
-        (flip (checked_same (entries_of c.args.v.now) c.args.left.now (types_kept c.args.r.now c.load.new.self c.args.types k c.requires.types)
-            (none_bound g.R.Reducer.denotes c.load.new.self c.new.result c.new.ensures) c.in_ok-right.ensures.makes.0 (k.same c.args.typ.now c.requires.typ)))
-        c.check.ensures.gives
+    (flip (checked_same (entries_of c.args.v.now) c.args.left.now (types_kept c.args.r.now c.load.new.self c.args.types k c.requires.types)
+    (none_bound g.R.Reducer.denotes c.load.new.self c.new.result c.new.ensures) c.in_ok-right.ensures.makes.0 (k.same c.args.typ.now c.requires.typ)))
+    c.check.ensures.gives

@@ -15,6 +15,8 @@ returns-clause-gives g c =
     let given = c.in_ok-typ.ensures.gives in
     let w = c.args.found.now in
     let found = set_found (entries_of c.args.v.now) r end c.args.context.now c.in_ok-typ.ensures.keeps c.requires.context w c.set.new.self c.requires.found c.args.number c.in_ok-typ.typ
-        c.set.ensures.types c.set.ensures.guards given.1 in
-    (meet_first_given (entries_of c.args.v.now) (bound_types D r c.args.context.now) c.args.number c.args.arguments.now (D r c.args.expected.now) (D end c.in_ok-typ.typ) (found_of D r w)
-        c.args.left.now c.first_type.new.left given.0 ∙ ap (λ y. answer y c.first_type.new.left) (flip found.0), found.1)
+    c.set.ensures.types c.set.ensures.guards given.1 in (
+      meet_first_given (entries_of c.args.v.now) (bound_types D r c.args.context.now) c.args.number c.args.arguments.now (D r c.args.expected.now) (D end c.in_ok-typ.typ) (found_of D r w)
+          c.args.left.now c.first_type.new.left given.0 ∙ ap (λ y. answer y c.first_type.new.left) (flip found.0),
+      found.1,
+    )

@@ -21,8 +21,8 @@ returns-in-None-clause-gives g c =
     let mid = c.known_type.new.r in
     let k = c.in_ok-known_type.ensures.keeps in
     meets_first (entries_of c.args.v.now) r mid c.args.context.now k c.requires.context c.args.found.now c.requires.found c.args.number c.args.arguments.now
-        (D mid c.args.expected.now) (D r c.args.expected.now) c.args.left.now c.meet_first.new.left c.meet_first.new.r c.meet_first.new.found c.meet_first.result
-        c.in_ok-known_type.field-0 c.in-None.is c.in_ok-known_type.ensures.known (k.same c.args.expected.now c.requires.expected) c.meet_first.ensures.gives
+    (D mid c.args.expected.now) (D r c.args.expected.now) c.args.left.now c.meet_first.new.left c.meet_first.new.r c.meet_first.new.found c.meet_first.result
+    c.in_ok-known_type.field-0 c.in-None.is c.in_ok-known_type.ensures.known (k.same c.args.expected.now c.requires.expected) c.meet_first.ensures.gives
 
 pub returns-in-Some-clause-gives : goal.returns-in-Some-clause-gives
 returns-in-Some-clause-gives g c =
@@ -31,6 +31,6 @@ returns-in-Some-clause-gives g c =
     let mid = c.known_type.new.r in
     let k = c.in_ok-known_type.ensures.keeps in
     meets_later (entries_of c.args.v.now) r mid c.args.context.now k c.requires.context c.args.found.now c.requires.found c.args.number c.args.arguments.now
-        (D mid c.args.expected.now) (D r c.args.expected.now) c.args.left.now c.fit_later.new.left c.fit_later.new.r c.fit_later.result
-        c.in_ok-known_type.field-0 c.in-Some.typ c.in-Some.is c.in_ok-known_type.ensures.known (k.same c.args.expected.now c.requires.expected)
-        (keeps_further r mid c.fit_later.new.r k c.fit_later.ensures.keeps) c.fit_later.ensures.gives
+    (D mid c.args.expected.now) (D r c.args.expected.now) c.args.left.now c.fit_later.new.left c.fit_later.new.r c.fit_later.result
+    c.in_ok-known_type.field-0 c.in-Some.typ c.in-Some.is c.in_ok-known_type.ensures.known (k.same c.args.expected.now c.requires.expected)
+    (keeps_further r mid c.fit_later.new.r k c.fit_later.ensures.keeps) c.fit_later.ensures.gives

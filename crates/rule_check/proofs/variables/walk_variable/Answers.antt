@@ -1,5 +1,5 @@
 use Rattle.std.proofs.Common.{◌∙◌, ap, sym as flip}
-use Rattle.dk_model.specs.RuleTyping.{Found, Walked, found_type}
+use Rattle.dk_model.specs.RuleTyping.{found_type}
 use Rattle.dk_model.specs.Typing.{answer}
 use Rattle.signature_log.specs.Versions.{entries_of}
 use Rattle.infer_check.specs.Contexts.{bound_types}
@@ -20,7 +20,10 @@ returns-clause-gives g c =
     let n = c.meet_variable.new.left in
     let given = c.in_ok-meet_variable.ensures.gives in
     let k = c.in_ok-occurrence.ensures.keeps in
-    let made = c.in_ok-occurrence.ensures.makes in
-    (meeting_given (entries_of c.args.v.now) (bound_types D r c.args.context.now) c.args.number c.args.arguments.now (found_type (types_of D r w.types.items) c.args.number) (D r c.args.expected.now)
-        (found_of D r w) (found_of D mid after) c.args.left.now n given.0
-     ∙ ap (λ y. answer y n) (same_walked (flip made.0) (flip (found_same mid end k after given.1))), made.1, found_kept mid end k after given.1)
+    let made = c.in_ok-occurrence.ensures.makes in (
+      meeting_given (entries_of c.args.v.now) (bound_types D r c.args.context.now) c.args.number c.args.arguments.now (found_type (types_of D r w.types.items) c.args.number) (D r c.args.expected.now)
+          (found_of D r w) (found_of D mid after) c.args.left.now n given.0
+          ∙ ap (λ y. answer y n) (same_walked (flip made.0) (flip (found_same mid end k after given.1))),
+      made.1,
+      found_kept mid end k after given.1,
+    )

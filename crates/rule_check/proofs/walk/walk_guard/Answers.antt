@@ -1,9 +1,4 @@
-use Rattle.std.proofs.Common.{◌∙◌, ap, sym as flip}
 use Rattle.dk_model.specs.Trees.{tree}
-use Rattle.dk_model.specs.Typing.{answer}
-use Rattle.signature_log.specs.Versions.{entries_of}
-use Rattle.signature_log.proofs.Keeping.{keeps_further}
-use Rattle.infer_check.specs.Contexts.{bound_types}
 use Rattle.infer_check.proofs.Contexts.{context_kept}
 use Rattle.rule_check.proofs.Guarding.{guard_found}
 use Rattle.rule_check.proofs.walk.walk_guard.Goals as goal
@@ -17,5 +12,5 @@ returns-clause-gives g c =
     let one = c.guard_term.new.r in
     let two = c.guard_at.new.r in
     guard_found r one two c.in_ok-term.ensures.keeps c.in_ok-guard.ensures.keeps c.args.context.now c.requires.context c.args.found.now c.push_guard.new.self c.requires.found
-        c.args.expected.now c.requires.expected c.in_ok-term.term (tree c.args.term.now) c.len.result c.in_ok-guard.guard c.len.ensures
-        c.in_ok-term.ensures.makes c.in_ok-guard.ensures.guard c.in_ok-push_guard.ensures.types c.in_ok-push_guard.ensures.guards c.args.left.now
+    c.args.expected.now c.requires.expected c.in_ok-term.term (tree c.args.term.now) c.len.result c.in_ok-guard.guard c.len.ensures
+    c.in_ok-term.ensures.makes c.in_ok-guard.ensures.guard c.in_ok-push_guard.ensures.types c.in_ok-push_guard.ensures.guards c.args.left.now

@@ -1,0 +1,25 @@
+use Rattle.std.proofs.Common.{sym as flip, subst}
+use Rattle.signature_log.proofs.Keeping.{keeps_further}
+use Rattle.infer_check.specs.Contexts.{AreOwned}
+use Rattle.infer_check.proofs.Contexts.{owned_pushed, owned_kept}
+use Rattle.rule_check.specs.Founds.{OwnsTypes}
+use Rattle.rule_check.proofs.Walking.{all_more}
+use Rattle.rule_check.proofs.sides.all_types.Goals as goal
+
+pub loop-typ-preserved : goal.loop-typ-preserved
+loop-typ-preserved g c =
+    let r = c.args.r.now in
+    let at = c.loop-typ.r in
+    let new = c.type_or_kind.new.r in
+    let i = c.loop-typ.invariant in
+    let k = c.in_ok-typ.ensures.keeps in
+    let e = c.in-Some.ensures.cases.0 in
+    let made = c.in_ok-typ.ensures.makes in
+    record {
+      same = all_more r at new c.args.types.now c.loop-typ.all c.push.new.self c.loop-typ.rest.now c.in-Some.others.now c.in-Some.typ.now c.in_ok-typ.typ i.keeps k i.own i.rest i.same e made.0
+          c.in_ok-push.ensures.ok;
+      own = subst (AreOwned g.R.Reducer.owns new) (flip c.in_ok-push.ensures.ok) (owned_pushed g.R.Reducer.owns new c.loop-typ.all c.in_ok-typ.typ (owned_kept at new c.loop-typ.all k i.own) made.1);
+      rest = (subst (OwnsTypes g.R.Reducer.owns r) e i.rest).1;
+      keeps = keeps_further r at new i.keeps k;
+      serves = λ S h. c.in_ok-typ.ensures.serves S (i.serves S h);
+    }
