@@ -27,7 +27,8 @@ pub(crate) struct Goal {
     pub(crate) depth: u64,
 }
 
-/// What the changes of one call look up: the captures; how many variables the pattern binds, and which of them are the
+/// What the changes of one call look up: the captures; how many variables the pattern binds, and
+/// which of them are the
 /// arguments of the capture.
 #[derive(Clone, Copy)]
 pub(crate) struct Given<'a> {

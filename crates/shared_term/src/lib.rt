@@ -1,4 +1,5 @@
-//! Terms as numbers of nodes that are shared: two numbers of one pool denote equal terms exactly where they are equal.
+//! Terms as numbers of nodes that are shared: two numbers of one pool denote equal terms exactly
+//! where they are equal.
 //!
 //! Begin at `Pool`, then specs/Pools.antt, which says what a number denotes.
 #![tactic(auto)]

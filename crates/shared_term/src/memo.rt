@@ -31,7 +31,8 @@ const UNUSED: Slot = Slot {
     },
 };
 
-/// Results by a slot that their goal picks. A later one takes an earlier one's place, and those of an earlier era
+/// Results by a slot that their goal picks. A later one takes an earlier one's place, and those of
+/// an earlier era
 /// don't count.
 #[derive(Drop)]
 pub(crate) struct Memo {

@@ -46,7 +46,8 @@ impl Memos {
     /// The result that is remembered for the goal, if one is.
     #[inline(always)]
     pub(crate) fn find(&self, goal: Goal) -> Option<TermId>
-        ensures { IfSome result (λ r. Remembers self.now.lasting (Is goal r) ⊎ Remembers self.now.passing (Is goal r)) }
+        ensures { IfSome result
+            (λ r. Remembers self.now.lasting (Is goal r) ⊎ Remembers self.now.passing (Is goal r)) }
     {
         if is_lasting(goal.change) {
             self.lasting.find(goal)
@@ -60,7 +61,8 @@ impl Memos {
     pub(crate) fn put(&mut self, done: Done)
         ensures lasting { (d : Done) → Remembers self.new.lasting d
             → ((d ≡ done) × IsLasting done.goal.change) ⊎ Remembers self.old.lasting d }
-        ensures passing { (d : Done) → Remembers self.new.passing d → (d ≡ done) ⊎ Remembers self.old.passing d }
+        ensures passing { (d : Done) → Remembers self.new.passing d
+            → (d ≡ done) ⊎ Remembers self.old.passing d }
     {
         if is_lasting(done.goal.change) {
             self.lasting.put(done);

@@ -114,7 +114,8 @@ impl Pool {
     pub fn substitute(&mut self, id: TermId, depth: u64, by: TermId) -> Result<TermId, NoMemory>
         requires id { id.0 < length self.old }
         requires by { by.0 < length self.old }
-        ensures moves { IfOk result (λ r. Moves (substitute depth (term self.old by)) self.old self.new id r) }
+        ensures moves { IfOk result
+            (λ r. Moves (substitute depth (term self.old by)) self.old self.new id r) }
         ensures keeps { Extends self.old self.new }
     {
         let goal = Goal {
@@ -175,7 +176,8 @@ impl Pool {
     pub fn filled(&mut self, id: TermId, captures: &[Option<TermId>]) -> Result<TermId, NoMemory>
         requires id { id.0 < length self.old }
         requires captures { AreCaptures (length self.old) captures.now }
-        ensures moves { IfOk result (λ r. Moves (filled (captured_terms self.old captures.now) 0) self.old self.new id r) }
+        ensures moves { IfOk result
+            (λ r. Moves (filled (captured_terms self.old captures.now) 0) self.old self.new id r) }
         ensures keeps { Extends self.old self.new }
     {
         let given = Given {
@@ -197,10 +199,12 @@ impl Pool {
         )
     }
 
-    /// The term over the arguments of a capture, in place of the `bound` variables that the pattern binds where it stands.
+    /// The term over the arguments of a capture, in place of the `bound` variables that the pattern
+    /// binds where it stands.
     pub fn renamed(&mut self, id: TermId, bound: u64, arguments: &[u32]) -> Result<TermId, NoMemory>
         requires { id.0 < length self.old }
-        ensures moves { IfOk result (λ r. Moves (renamed 0 bound arguments.now) self.old self.new id r) }
+        ensures moves { IfOk result
+            (λ r. Moves (renamed 0 bound arguments.now) self.old self.new id r) }
         ensures keeps { Extends self.old self.new }
     {
         let given = Given {
@@ -222,7 +226,8 @@ impl Pool {
         )
     }
 
-    /// A part at a rule variable as the variable captures it: over its arguments, and abstracted over them, the first
+    /// A part at a rule variable as the variable captures it: over its arguments, and abstracted
+    /// over them, the first
     /// one outermost.
     pub fn captured(
         &mut self,
@@ -231,7 +236,8 @@ impl Pool {
         arguments: &[u32],
     ) -> Result<TermId, NoMemory>
         requires { id.0 < length self.old }
-        ensures moves { IfOk result (λ r. Moves (captured bound arguments.now) self.old self.new id r) }
+        ensures moves { IfOk result
+            (λ r. Moves (captured bound arguments.now) self.old self.new id r) }
         ensures keeps { Extends self.old self.new }
     {
         let mut part = self.renamed(id, bound, arguments)?;
@@ -241,7 +247,8 @@ impl Pool {
         Ok(part)
     }
 
-    /// Whether the term mentions one of the `bound` variables that the pattern binds where it stands that is no argument.
+    /// Whether the term mentions one of the `bound` variables that the pattern binds where it
+    /// stands that is no argument.
     pub fn mentions_others(
         &mut self,
         id: TermId,
@@ -249,7 +256,8 @@ impl Pool {
         arguments: &[u32],
     ) -> Result<bool, NoMemory>
         requires { id.0 < length self.old }
-        ensures mentions { IfOk result (λ b. b ≡ mentions_others 0 bound arguments.now (term self.old id)) }
+        ensures mentions { IfOk result
+            (λ b. b ≡ mentions_others 0 bound arguments.now (term self.old id)) }
         ensures keeps { Extends self.old self.new }
     {
         let given = Given {

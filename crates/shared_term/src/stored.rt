@@ -6,7 +6,8 @@ use dk_model::{NoMemory, NodeOf};
 use std::alloc::Global;
 use std::marker::Model;
 
-/// A term's nodes, each after its parts, and the place of the outermost one. Its drop doesn't nest with the term.
+/// A term's nodes, each after its parts, and the place of the outermost one. Its drop doesn't nest
+/// with the term.
 #[derive(Drop)]
 pub struct Stored {
     pub(crate) nodes: Vec<Node>,

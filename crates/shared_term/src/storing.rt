@@ -1,4 +1,5 @@
-//! Storing a term of a pool in a list of its own: one pass down marks what belongs to it, one pass up copies that.
+//! Storing a term of a pool in a list of its own: one pass down marks what belongs to it, one pass
+//! up copies that.
 ghost use Rattle.std.specs.Prelude.{◌≡◌, ◌+◌, ◌<◌, ◌≤◌, ℕ, true, length, slice_get, Some, IfOk, OnOk};
 ghost use Rattle.shared_term.specs.Pools.{term, IsWithin};
 ghost use Rattle.shared_term.specs.Storage.{stored_term, IsSpelt, IsNeeded, PartsNeeded, AreMarked, ArePlaced};

@@ -71,7 +71,8 @@ fn down(
     requires lasting { AreLasting nodes.old memos.now.lasting }
     requires passing { AreDone nodes.old given.now memos.now.passing }
     ensures turns { (root : Tree) → Stands nodes.old given.now root frames.old.items (Down goal)
-        → IfOk result (λ s. Turns nodes.old nodes.new given.now root frames.old.items (Down goal) frames.new.items s) }
+        → IfOk result (λ s. Turns nodes.old nodes.new given.now root
+        frames.old.items (Down goal) frames.new.items s) }
     ensures keeps { Extends nodes.old nodes.new }
 {
     match entered(nodes, memos, given, goal)? {
@@ -110,8 +111,10 @@ fn up(
     requires waits { Waits nodes.old given.now frame (term nodes.old id) }
     requires lasting { AreLasting nodes.old memos.old.lasting }
     requires passing { AreDone nodes.old given.now memos.old.passing }
-    ensures turns { (root : Tree) → Stands nodes.old given.now root (frames.old.items ++ frame ∷ []) (Up id)
-        → IfOk result (λ s. Turns nodes.old nodes.new given.now root (frames.old.items ++ frame ∷ []) (Up id) frames.new.items s) }
+    ensures turns { (root : Tree) → let before = frames.old.items ++ frame ∷ [] in
+        Stands nodes.old given.now root before (Up id)
+        → IfOk result (λ s. Turns nodes.old nodes.new given.now root
+        before (Up id) frames.new.items s) }
     ensures keeps { Extends nodes.old nodes.new }
     ensures lasting { AreLasting nodes.new memos.new.lasting }
     ensures passing { AreDone nodes.new given.now memos.new.passing }
