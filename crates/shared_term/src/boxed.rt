@@ -101,6 +101,7 @@ impl Stored {
     {
         let mut nodes = Vec::new(alloc);
         let root = spelt(&mut nodes, it)?;
+        nodes.shrink_to_fit();
         Ok(Stored { nodes, root })
     }
 

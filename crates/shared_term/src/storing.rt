@@ -119,5 +119,6 @@ pub(crate) fn stored(pool: &Pool, id: TermId) -> Result<Stored, NoMemory>
         }
     }
     let root = places[id.0 as usize];
+    nodes.shrink_to_fit();
     Ok(Stored { nodes, root })
 }
