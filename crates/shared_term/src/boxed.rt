@@ -1,14 +1,18 @@
 //! Between stored terms and terms of boxes.
-ghost use Rattle.std.specs.Prelude.{◌≡◌, ◌<◌, length, IfOk, OnOk};
+ghost use Rattle.std.specs.Prelude.{◌≡◌, ◌<◌, length, IfOk, IfSome, OnOk};
 ghost use Rattle.dk_model.specs.Trees.{tree};
 ghost use Rattle.shared_term.specs.Pools.{term, terms, denoted, Extends, IsWithin};
 ghost use Rattle.shared_term.specs.Storage.{stored_term, IsSpelt};
 
+use crate::id::exact;
 use crate::{Node, Stored, TermId};
 use dk_model::{NoMemory, NodeOf, Term, make_annotated, make_app, make_bare, make_product};
 use std::alloc::Global;
 
 const LAST: usize = 0xFFFF_FFFF;
+
+// How many nodes at the end of a list are looked at for an equal one.
+const NEAR: usize = 24;
 
 // A node goes last, with its parts before it.
 pub(crate) fn pushed(nodes: &mut Vec<Node>, node: Node) -> Result<TermId, NoMemory>
@@ -27,6 +31,51 @@ pub(crate) fn pushed(nodes: &mut Vec<Node>, node: Node) -> Result<TermId, NoMemo
     Ok(TermId(place as u32))
 }
 
+// The place, where an equal node stands there.
+fn found_at(nodes: &[Node], place: usize, node: Node) -> Option<TermId>
+    requires { IsSpelt nodes.now }
+    ensures there { IfSome result (λ r. r.0 < length nodes.now) }
+    ensures is { IfSome result (λ r. term nodes.now r ≡ denoted (terms nodes.now) node) }
+{
+    exact();
+    let Ok(at) = u32::try_from(place) else {
+        return None;
+    };
+    match nodes.get(place) {
+        Some(found) if *found == node => Some(TermId(at)),
+        _ => None,
+    }
+}
+
+// The place of an equal node among the last few, so that the parts of a numeral are shared.
+fn near(nodes: &[Node], node: Node) -> Option<TermId>
+    requires { IsSpelt nodes.now }
+    ensures there { IfSome result (λ r. r.0 < length nodes.now) }
+    ensures is { IfSome result (λ r. term nodes.now r ≡ denoted (terms nodes.now) node) }
+{
+    for place in nodes.len().saturating_sub(NEAR)..nodes.len() {
+        if let Some(id) = found_at(nodes, place, node) {
+            return Some(id);
+        }
+    }
+    None
+}
+
+// A node that is among the last few, or else goes last.
+fn shared(nodes: &mut Vec<Node>, node: Node) -> Result<TermId, NoMemory>
+    requires within { IsWithin (length nodes.old.items) node }
+    requires spelt { IsSpelt nodes.old.items }
+    ensures there { IfOk result (λ r. r.0 < length nodes.new.items) }
+    ensures is { IfOk result (λ r. term nodes.new.items r ≡ denoted (terms nodes.old.items) node) }
+    ensures keeps { OnOk result (Extends nodes.old.items nodes.new.items) }
+    ensures spelt { OnOk result (IsSpelt nodes.new.items) }
+{
+    match near(nodes.as_slice(), node) {
+        Some(id) => Ok(id),
+        None => pushed(nodes, node),
+    }
+}
+
 // The parts go first.
 fn spelt(nodes: &mut Vec<Node>, it: &Term) -> Result<TermId, NoMemory>
     requires { IsSpelt nodes.old.items }
@@ -36,29 +85,29 @@ fn spelt(nodes: &mut Vec<Node>, it: &Term) -> Result<TermId, NoMemory>
     ensures spelt { OnOk result (IsSpelt nodes.new.items) }
 {
     match it {
-        Term::Star => pushed(nodes, NodeOf::Star),
-        Term::Kind => pushed(nodes, NodeOf::Kind),
-        Term::Sym(k) => pushed(nodes, NodeOf::Sym(*k)),
-        Term::Var(k) => pushed(nodes, NodeOf::Var(*k)),
-        Term::Rvar(k) => pushed(nodes, NodeOf::Rvar(*k)),
+        Term::Star => shared(nodes, NodeOf::Star),
+        Term::Kind => shared(nodes, NodeOf::Kind),
+        Term::Sym(k) => shared(nodes, NodeOf::Sym(*k)),
+        Term::Var(k) => shared(nodes, NodeOf::Var(*k)),
+        Term::Rvar(k) => shared(nodes, NodeOf::Rvar(*k)),
         Term::App(f, a) => {
             let x = spelt(nodes, f)?;
             let y = spelt(nodes, a)?;
-            pushed(nodes, NodeOf::App(x, y))
+            shared(nodes, NodeOf::App(x, y))
         }
         Term::Abs(None, b) => {
             let y = spelt(nodes, b)?;
-            pushed(nodes, NodeOf::Abs(None, y))
+            shared(nodes, NodeOf::Abs(None, y))
         }
         Term::Abs(Some(n), b) => {
             let x = spelt(nodes, n)?;
             let y = spelt(nodes, b)?;
-            pushed(nodes, NodeOf::Abs(Some(x), y))
+            shared(nodes, NodeOf::Abs(Some(x), y))
         }
         Term::Prod(a, b) => {
             let x = spelt(nodes, a)?;
             let y = spelt(nodes, b)?;
-            pushed(nodes, NodeOf::Prod(x, y))
+            shared(nodes, NodeOf::Prod(x, y))
         }
     }
 }
@@ -95,7 +144,7 @@ fn grown(alloc: Global, nodes: &[Node], id: TermId) -> Result<Term, NoMemory>
 }
 
 impl Stored {
-    /// A term's nodes. Equal parts of it aren't shared.
+    /// A term's nodes. An equal part is found again where its node is near.
     pub fn from_term(alloc: Global, it: &Term) -> Result<Stored, NoMemory>
         ensures { IfOk result (λ s. stored_term s ≡ tree it.now) }
     {
