@@ -1,5 +1,5 @@
 //! Lists in blocks of at most 32 places, which the lists made of them share.
-ghost use Rattle.std.specs.Prelude.{◌≡◌, ℕ, ◌+◌, ◌*◌, ◌<◌, ◌≤◌, List, [], ◌∷◌, ◌++◌, length, slice_get, IfOk};
+ghost use Rattle.std.specs.Prelude.{◌≡◌, ℕ, ◌+◌, ◌*◌, ◌<◌, ◌≤◌, List, [], ◌∷◌, ◌++◌, length, slice_get, IfOk, OnOk};
 ghost use Rattle.std.specs.Option.{option_copied};
 
 use crate::Steps;
@@ -81,6 +81,7 @@ pub fn with<T: Share, L: Ledger>(
     steps: &mut Steps<L>,
 ) -> Result<Vec<T>, NoMemory>
     ensures places { IfOk result (λ v. v.items ≡ places.now ++ last ∷ []) }
+    ensures counted { OnOk result (steps.new ≡ steps.old + (length places.now + 1)) }
     ensures cost { steps.new ≤ steps.old + (length places.now + 1) }
 {
     let mut all = Vec::with_capacity(alloc, places.len())?;
