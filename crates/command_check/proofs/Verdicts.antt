@@ -12,19 +12,22 @@ use Rattle.dk_model.specs.declared.code.Verdict.TheVariants.{Accepted}
 use Rattle.dk_model.specs.declared.signature.SymSort.{SymSort}
 use Rattle.dk_model.specs.declared.stop.TypeFault.{TypeFault}
 use Rattle.dk_model.specs.declared.stop.TypeFault.TheVariants.{Refused, Ended, NoMemory}
-use Rattle.infer_check.specs.Given.{Fails}
+use Rattle.infer_check.specs.Given.{Fails, GivesFit}
+use Rattle.dk_model.specs.RuleTyping.{rules_typed}
 use Rattle.shared_term.specs.Storage.{stored_term}
 use Rattle.shared_term.specs.declared.stored.Stored.{Stored}
-use Rattle.typing_model.specs.Laws.{AcceptedHasDerivation, IsNumbered}
-use Rattle.command_check.specs.Given.{fault_verdict, FailsShapes, HasBodyType, IsDerived}
+use Rattle.typing_model.specs.Derivations.{HasDerivation}
+use Rattle.typing_model.specs.Laws.{AcceptedHasDerivation, HasNoAnnotations, IsNumbered}
+use Rattle.command_check.specs.Given.{fault_verdict, FailsShapes, HasBodyType}
 
-pub shapes_fit : (due : Result (List PlainRule) Code) (rs : List PlainRule) (n : ℕ) → due ≡ Ok rs → rules_checked due n ≡ answer tt n
-shapes_fit due rs n e = ap (λ (x : Result (List PlainRule) Code). rules_checked x n) e
+pub shapes_typed : (S : PlainSignature) (due : Result (List PlainRule) Code) (rs : List PlainRule) (n : ℕ) (o : Result Unit TypeFault) (m : ℕ) → due ≡ Ok rs
+    → GivesFit (rules_typed S rs n) o m → GivesFit (rules_checked S due n) o m
+shapes_typed S due rs n o m e h = subst (λ (x : Judged (Unit {0})). GivesFit x o m) (flip (ap (λ (x : Result (List PlainRule) Code). rules_checked S x n) e)) h
 
-pub shapes_fail : (due : Result (List PlainRule) Code) (f : TypeFault) (n : ℕ) → FailsShapes due f → Fails f (rules_checked due n)
-shapes_fail due (Refused c) n e = ap (λ (x : Result (List PlainRule) Code). rules_checked x n) e
-shapes_fail due Ended n e = absurd e
-shapes_fail due NoMemory n e = tt
+pub shapes_fail : (S : PlainSignature) (due : Result (List PlainRule) Code) (f : TypeFault) (n : ℕ) → FailsShapes due f → Fails f (rules_checked S due n)
+shapes_fail S due (Refused c) n e = ap (λ (x : Result (List PlainRule) Code). rules_checked S x n) e
+shapes_fail S due Ended n e = absurd e
+shapes_fail S due NoMemory n e = tt
 
 pub fit_verdict : {A : Type 0} (x : Judged A) (a : A) (n : ℕ) → x ≡ answer a n → verdict x ≡ Accepted
 fit_verdict x a n e = ap verdict e
@@ -39,10 +42,9 @@ fault_refuses (Refused c) e = cc
 fault_refuses Ended e = cc
 fault_refuses NoMemory e = cc
 
-pub derived : (S : PlainSignature) (c : PlainCommand) (budget : ℕ) → ((T : PlainSignature) → IsNumbered T → AcceptedHasDerivation T) → verdict_of S c budget ≡ Accepted
-    → IsNumbered S → IsDerived S c
-derived S (declare s A b) budget law e h = law S h s A b budget e
-derived S (rule_command rs) budget law e h = tt
+pub derived : (S : PlainSignature) (c : PlainCommand) (budget : ℕ) → ((T : PlainSignature) → IsNumbered T → HasNoAnnotations T → AcceptedHasDerivation T) → verdict_of S c budget ≡ Accepted
+    → IsNumbered S → HasNoAnnotations S → HasDerivation S c
+derived S c budget law e h p = law S h p c budget e
 
 abbrev untyped_fits : Tree → ℕ → Judged (Unit {0})
 untyped_fits T m = answer tt m
@@ -62,9 +64,9 @@ module _ (S : PlainSignature) (s : SymSort) (b : Tree) (budget : ℕ) where
   pub body_due : (v : Verdict) → IsVerdictOrMemory (verdict (body_type S b budget)) v → IsVerdictOrMemory (verdict_of S (declare s None (Some b)) budget) v
   body_due v h = subst (λ (d : Verdict). IsVerdictOrMemory d v) (flip (same_verdict (body_type S b budget))) h
 
-  pub untyped_derives : ((T : PlainSignature) → IsNumbered T → AcceptedHasDerivation T) → (c : PlainCommand) → c ≡ declare s None (Some b) → (o : Result Stored Verdict)
-      → IfOk o (λ t. HasBodyType S b budget (stored_term t)) → IfOk o (λ t. IsNumbered S → IsDerived S c)
-  untyped_derives law c e (Ok t) h = λ n. subst (IsDerived S) (flip e) (derived S (declare s None (Some b)) budget law (body_verdict (stored_term t) h) n)
+  pub untyped_derives : ((T : PlainSignature) → IsNumbered T → HasNoAnnotations T → AcceptedHasDerivation T) → (c : PlainCommand) → c ≡ declare s None (Some b) → (o : Result Stored Verdict)
+      → IfOk o (λ t. HasBodyType S b budget (stored_term t)) → IfOk o (λ t. IsNumbered S → HasNoAnnotations S → HasDerivation S c)
+  untyped_derives law c e (Ok t) h = λ n p. subst (HasDerivation S) (flip e) (derived S (declare s None (Some b)) budget law (body_verdict (stored_term t) h) n p)
   untyped_derives law c e (Err v) h = tt
 
   pub untyped_due : (c : PlainCommand) → c ≡ declare s None (Some b) → (o : Result Stored Verdict)

@@ -16,7 +16,6 @@ use Rattle.dk_model.specs.declared.stop.TypeFault.TheVariants.{Refused, Ended, N
 use Rattle.dk_model.specs.declared.term.Term.{Term}
 use Rattle.shared_term.specs.Storage.{stored_term}
 use Rattle.shared_term.specs.declared.stored.Stored.{Stored}
-use Rattle.typing_model.specs.Derivations.{HasDerivation}
 
 -- the verdict of a fault, which isn't that the command is accepted
 abbrev pub fault_verdict : TypeFault → Verdict
@@ -38,11 +37,6 @@ GivesShapes due (Err f) = FailsShapes due f
 -- the shapes of the rules of a command
 abbrev pub command_shapes : PlainSignature → List ScopedRule → Result (List PlainRule) Code
 command_shapes S rs = shapes_of S (map plain_scoped_rule rs)
-
--- what acceptance means: a declaration, definition or theorem has a derivation; of rules nothing is said
-abbrev pub IsDerived : PlainSignature → PlainCommand → Type 0
-IsDerived S (declare s A b) = HasDerivation S (declare s A b)
-IsDerived S (rule_command rs) = Unit {0}
 
 -- the rules that an entry keeps, or the first code of their shapes
 abbrev pub GivesRules : Result (List PlainRule) Code → Result (List (Rule Stored)) TypeFault → Type 0

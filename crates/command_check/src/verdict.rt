@@ -1,20 +1,23 @@
 //! The verdict on a command, and the type of a definition without one.
-ghost use Rattle.std.specs.Prelude.{◌≡◌, IfErr, IfOk, IsTrue, Some};
+ghost use Rattle.std.specs.Prelude.{◌≡◌, IfErr, IfOk, IsTrue, Some, map};
 ghost use Rattle.dk_model.specs.Trees.{tree};
-ghost use Rattle.dk_model.specs.Signatures.{maybe_by};
+ghost use Rattle.dk_model.specs.Signatures.{maybe_by, plain_rule};
+ghost use Rattle.dk_model.specs.RuleTyping.{rules_typed};
 ghost use Rattle.dk_model.specs.Scoping.{plain_command};
 ghost use Rattle.dk_model.specs.Verdicts.{body_type, command_checked, entry_of, inferred_type, is_untyped, rules_checked, verdict, verdict_of, IsVerdictOrMemory};
 ghost use Rattle.shared_term.specs.Storage.{stored_term};
 ghost use Rattle.signature_log.specs.Versions.{entries_of, stored_entry};
 ghost use Rattle.signature_log.specs.Reducers.{Keeps};
 ghost use Rattle.infer_check.specs.Given.{GivesFit};
-ghost use Rattle.typing_model.specs.Laws.{IsNumbered};
-ghost use Rattle.command_check.specs.Given.{command_shapes, fault_verdict, HasBodyType, IsDerived};
+ghost use Rattle.typing_model.specs.Laws.{HasNoAnnotations, IsNumbered};
+ghost use Rattle.typing_model.specs.Derivations.{HasDerivation};
+ghost use Rattle.command_check.specs.Given.{command_shapes, fault_verdict, HasBodyType};
 
 use crate::declaration::{check_declaration, infer_body};
 use crate::entry::{entry_of, is_untyped};
 use crate::shapes::shapes_of;
-use dk_model::{Entry, Listed, Scoped, ScopedRule, Term, TypeFault, Verdict};
+use dk_model::{Entry, Listed, Rule, Scoped, ScopedRule, Term, TypeFault, Verdict};
+use rule_check::check_rule;
 use shared_term::Stored;
 use signature_log::{Reducer, Version};
 use typing_model::laws::accepted_has_derivation;
@@ -29,8 +32,8 @@ fn fault_verdict(fault: TypeFault) -> Verdict
     }
 }
 
-/// That the rules of a command have their shapes, which takes no unit; their types aren't looked at.
-#[tactic(auto, using(crate::proofs::Verdicts::shapes_fit, crate::proofs::Verdicts::shapes_fail))]
+/// That the rules of a command have their shapes, which takes no unit, and that each is typed.
+#[tactic(auto, using(crate::proofs::Verdicts::shapes_fail))]
 fn check_rules<R: Reducer>(
     r: &mut R,
     v: &Version,
@@ -38,13 +41,33 @@ fn check_rules<R: Reducer>(
     left: &mut u64,
 ) -> Result<(), TypeFault>
     requires { R.serves (entries_of v.now) r.old }
-    ensures gives { GivesFit (rules_checked (command_shapes (entries_of v.now) rules.now) left.old)
-        result left.new }
+    ensures gives { GivesFit (rules_checked (entries_of v.now)
+        (command_shapes (entries_of v.now) rules.now) left.old) result left.new }
     ensures keeps { Keeps R.owns R.denotes r.old r.new }
     ensures serves { R.serves (entries_of v.now) r.new }
 {
-    let _left = *left;
-    let _shapes = shapes_of(r.alloc(), v, rules)?;
+    let shapes = shapes_of(r.alloc(), v, rules)?;
+    type_rules(r, v, shapes.as_slice(), left)
+}
+
+/// That each rule is typed, in file order, over the commands before: none is used in its own command.
+fn type_rules<R: Reducer>(
+    r: &mut R,
+    v: &Version,
+    rules: &[Rule],
+    left: &mut u64,
+) -> Result<(), TypeFault>
+    requires { R.serves (entries_of v.now) r.old }
+    ensures gives { GivesFit
+        (rules_typed (entries_of v.now) (map plain_rule rules.now) left.old) result left.new }
+    ensures keeps { Keeps R.owns R.denotes r.old r.new }
+    ensures serves { R.serves (entries_of v.now) r.new }
+{
+    let mut rest = rules;
+    while let Some((rule, others)) = rest.split_first() {
+        check_rule(r, v, rule, left)?;
+        rest = others;
+    }
     Ok(())
 }
 
@@ -70,14 +93,14 @@ fn judge<R: Reducer>(
 /// The verdict on a command over the version of the commands before it (docs/typing.md).
 ///
 /// The check may take `budget` units; `Ended` says that it needs more. `Memory` says nothing of the command. What is
-/// accepted has a derivation, where the version numbers the rule variables of its rules as shapes do.
+/// accepted has a derivation, where the version numbers the rule variables of its rules as shapes do and has no annotations.
 #[tactic(auto, using(crate::proofs::Verdicts::fit_verdict, crate::proofs::Verdicts::fault_due, crate::proofs::Verdicts::fault_refuses, crate::proofs::Verdicts::derived))]
 pub fn check_command<R: Reducer>(reducer: &mut R, v: &Version, c: &Scoped, budget: u64) -> Verdict
     requires { R.serves (entries_of v.now) reducer.old }
     ensures due { IsVerdictOrMemory
         (verdict_of (entries_of v.now) (plain_command c.now) budget) result }
     ensures derivation { result ≡ Verdict.Accepted → IsNumbered (entries_of v.now)
-        → IsDerived (entries_of v.now) (plain_command c.now) }
+        → HasNoAnnotations (entries_of v.now) → HasDerivation (entries_of v.now) (plain_command c.now) }
     ensures keeps { Keeps R.owns R.denotes reducer.old reducer.new }
     ensures serves { R.serves (entries_of v.now) reducer.new }
 {
@@ -130,7 +153,8 @@ pub fn infer_type<R: Reducer>(
     ensures accepted { IfOk result (λ _. verdict_of (entries_of v.now) (plain_command c.now) budget
         ≡ Verdict.Accepted) }
     ensures derivation { IfOk result (λ _. IsNumbered (entries_of v.now)
-        → IsDerived (entries_of v.now) (plain_command c.now)) }
+        → HasNoAnnotations (entries_of v.now)
+        → HasDerivation (entries_of v.now) (plain_command c.now)) }
     ensures err { IfErr result (IsVerdictOrMemory
         (verdict_of (entries_of v.now) (plain_command c.now) budget)) }
     ensures refused { IfErr result (λ v. ¬ (v ≡ Verdict.Accepted)) }

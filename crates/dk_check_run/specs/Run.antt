@@ -10,7 +10,7 @@ use Rattle.dk_parser.specs.FileReading.{read}
 use Rattle.dk_parser.specs.Steps.{read_tokens}
 use Rattle.dk_parser.specs.Written.{WrittenCommand}
 use Rattle.scope_terms.specs.Scopes.{Scoping, scoped, refused, scope_of}
-use Rattle.dk_model.specs.Scoping.{PlainCommand, declare, rule_command}
+use Rattle.dk_model.specs.Scoping.{PlainCommand}
 use Rattle.typing_model.specs.Derivations.{HasDerivation}
 use Rattle.command_line.specs.Requests.{Request}
 use Rattle.verdict_book.specs.Report.{concat, report_of, status_of, stop_line}
@@ -40,18 +40,17 @@ memory_at_once = stop_line 0 0 verdict.Memory 0
 
 -- ---- derivations
 
--- of rules no derivation is claimed: their types aren't looked at yet
+-- a command has a derivation over the commands before it
 abbrev pub IsDerived : Theory → Scoping PlainCommand → Type 0
-IsDerived T (scoped (declare sort typ body)) = HasDerivation T.signature (declare sort typ body)
-IsDerived T (scoped (rule_command rules)) = Unit {0}
+IsDerived T (scoped command) = HasDerivation T.signature command
 IsDerived T (refused code) = ⊥
 
--- each declared type and body has a derivation over the commands before it
+-- each declared type, body and rule has a derivation over the commands before it
 abbrev pub AllDerived : ℕ → Theory → List WrittenCommand → Type 0
 AllDerived budget T [] = Unit {0}
 AllDerived budget T (c ∷ cs) = IsDerived T (scope_of T.names c.form) × AllDerived budget (theory_after T budget c.form) cs
 
--- each declared type and body of the file has a derivation over the commands before it
+-- each declared type, body and rule of the file has a derivation over the commands before it
 abbrev pub IsFileDerived : Request → List ℕ → Type 0
 IsFileDerived q bytes = AllDerived q.budget no_theory (read standard bytes whole).commands
 

@@ -1,11 +1,11 @@
-//! Reports of theories whose rules have abstractions, repeated variables or guards.
+//! Reports of theories whose rules have abstractions, repeated variables or guards, and of rules that aren't typed.
 use crate::run;
 use crate::tests::{shelf_of, words_of};
 use dk_io::MemSink;
 use std::test::Fail;
 
-// A file's text, the budget, the status and the report. The budgets are counts of units by hand (docs/evaluation.md).
-const RULES: [(&str, &str, u8, &str); 15] = [
+// A file's text, the budget, the status and the report. The budgets are counts of units by hand (docs/evaluation.md, docs/typing.md).
+const RULES: [(&str, &str, u8, &str); 22] = [
     (
         "o : Type. c : o. d : o. def sw : (o -> o -> o) -> o -> o -> o. [F] sw (x => y => F x y) --> a => b => F b a. p : o -> o -> o. eq : o -> o -> Type. r : x : o -> eq x x. thm t : eq (sw (x => y => p x y) c d) (p d c) := r (p d c).",
         "--budget=43",
@@ -95,6 +95,48 @@ const RULES: [(&str, &str, u8, &str); 15] = [
         "--budget=1000",
         1,
         "ok 1 o\nok 2 f\nrefused 3 line 1 E32\n",
+    ),
+    (
+        "nat : Type. z : nat. s : nat -> nat. def plus : nat -> nat -> nat. [n] plus z n --> n [m, n] plus (s m) n --> s (plus m n).",
+        "--budget=15",
+        0,
+        "ok 1 nat\nok 2 z\nok 3 s\nok 4 plus\nok 5 plus\naccepted 5\n",
+    ),
+    (
+        "nat : Type. z : nat. s : nat -> nat. def plus : nat -> nat -> nat. [n] plus z n --> n [m, n] plus (s m) n --> s (plus m n).",
+        "--budget=14",
+        6,
+        "ok 1 nat\nok 2 z\nok 3 s\nok 4 plus\nbudget 5 line 1 14\n",
+    ),
+    (
+        "o : Type. p : Type. c : p. def f : o -> o. [] f c --> f c.",
+        "--budget=1000",
+        1,
+        "ok 1 o\nok 2 p\nok 3 c\nok 4 f\nrefused 5 line 1 E34\n",
+    ),
+    (
+        "o : Type. P : o -> Type. def f : (x : o -> P x) -> o. c : o. [F] f (x => F) --> c.",
+        "--budget=1000",
+        1,
+        "ok 1 o\nok 2 P\nok 3 f\nok 4 c\nrefused 5 line 1 E35\n",
+    ),
+    (
+        "a : Type. b : Type. def f : a -> b. x : a. [] f x --> x.",
+        "--budget=1000",
+        1,
+        "ok 1 a\nok 2 b\nok 3 f\nok 4 x\nrefused 5 line 1 E21\n",
+    ),
+    (
+        "a : Type. x : a. def b : Type. def f : b -> a. [] b --> a [] f x --> x.",
+        "--budget=1000",
+        1,
+        "ok 1 a\nok 2 x\nok 3 b\nok 4 f\nrefused 5 line 1 E34\n",
+    ),
+    (
+        "a : Type. x : a. def b : Type. def f : b -> a. [] b --> a. [] f x --> x.",
+        "--budget=1000",
+        0,
+        "ok 1 a\nok 2 x\nok 3 b\nok 4 f\nok 5 b\nok 6 f\naccepted 6\n",
     ),
 ];
 

@@ -239,8 +239,8 @@ module _ (d : ℕ) where
     body_type_grows : (b : Tree) (n m : ℕ) → m ≡ n + d → Grows d (body_type S b n) (body_type S b m)
     body_type_grows b n m e = next_grows d (inferred S [] [] b n) (inferred S [] [] b m) _ _ (inferred_grows [] [] b n m e) not_kind_grows
 
-    rules_grow : (rs : Result (List PlainRule) Code) (n m : ℕ) → m ≡ n + d → Grows d (rules_checked rs n) (rules_checked rs m)
-    rules_grow (Ok rs) n m e = ap (λ k. answer tt k) e
+    rules_grow : (rs : Result (List PlainRule) Code) (n m : ℕ) → m ≡ n + d → Grows d (rules_checked S rs n) (rules_checked S rs m)
+    rules_grow (Ok rs) n m e = rules_typed_grow rs n m e
     rules_grow (Err c) n m e = refl
 
     pub command_grows : (c : PlainCommand) (n m : ℕ) → m ≡ n + d → Grows d (command_checked S c n) (command_checked S c m)

@@ -164,12 +164,15 @@ argument_twice = refl
 pub variable_missing : verdict_of numbers (rule_command (rule 2 (left_apply (left_symbol 3) (left_rule_variable 0)) (rule_variable 1) ∷ [])) 100 ≡ Refused E33
 variable_missing = refl
 
--- [m, n] plus (s m) n --> s (plus m n). takes no unit
+-- [m, n] plus (s m) n --> s (plus m n). takes 11
 abbrev successor : PlainCommand
 successor = rule_command (rule 2 (left_apply (left_apply (left_symbol 3) (left_apply (left_symbol 2) (left_rule_variable 0))) (left_rule_variable 1)) (apply (symbol 2) (plus (rule_variable 0) (rule_variable 1))) ∷ [])
 
-pub rule_accepted : verdict_of numbers successor 0 ≡ Accepted
+pub rule_accepted : verdict_of numbers successor 11 ≡ Accepted
 rule_accepted = refl
+
+pub rule_ends : verdict_of numbers successor 10 ≡ Ended
+rule_ends = refl
 
 pub rule_kept : entry_of numbers successor None ≡ rules_entry (record {
   head = 3;

@@ -6,6 +6,7 @@ use Rattle.dk_model.specs.Signatures.{PlainRule, PlainEntry, symbol_entry, rules
 use Rattle.dk_model.specs.Shapes.{shapes_of, kept_rules}
 use Rattle.dk_model.specs.Scoping.{PlainCommand, declare, rule_command}
 use Rattle.dk_model.specs.Typing.{Judged, answer, refused, ended, next, not_kind, inferred, checked, sort_of}
+use Rattle.dk_model.specs.RuleTyping.{rules_typed}
 use Rattle.dk_model.specs.declared.signature.SymSort.{SymSort}
 use Rattle.dk_model.specs.declared.signature.SymSort.TheVariants.{Static, Definable, Theorem}
 use Rattle.dk_model.specs.declared.code.Code.{Code}
@@ -32,15 +33,15 @@ declaration_checked S (Some A) b n = next (sort_of S [] [] A n) (λ s m. body_ch
 declaration_checked S None (Some b) n = next (body_type S b n) (λ T m. answer tt m)
 declaration_checked S None None n = answer tt n
 
--- the rules of a command have their shapes, which takes no unit; their types aren't looked at yet
-abbrev pub rules_checked : Result (List PlainRule) Code → ℕ → Judged (Unit {0})
-rules_checked (Ok rs) n = answer tt n
-rules_checked (Err c) n = refused c
+-- the rules of a command have their shapes, which takes no unit; then each is typed, in file order
+abbrev pub rules_checked : PlainSignature → Result (List PlainRule) Code → ℕ → Judged (Unit {0})
+rules_checked S (Ok rs) n = rules_typed S rs n
+rules_checked S (Err c) n = refused c
 
 -- the check of a command over a signature, with the units that are left of the budget
 abbrev pub command_checked : PlainSignature → PlainCommand → ℕ → Judged (Unit {0})
 command_checked S (declare s A b) n = declaration_checked S A b n
-command_checked S (rule_command rs) n = rules_checked (shapes_of S rs) n
+command_checked S (rule_command rs) n = rules_checked S (shapes_of S rs) n
 
 -- `Ended` exactly where the check needs more units than the budget
 abbrev pub verdict_of : PlainSignature → PlainCommand → ℕ → Verdict

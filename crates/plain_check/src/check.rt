@@ -4,8 +4,8 @@ ghost use Rattle.dk_model.specs.Trees.{tree};
 ghost use Rattle.dk_model.specs.Signatures.{plain_signature};
 ghost use Rattle.dk_model.specs.Scoping.{plain_command};
 ghost use Rattle.dk_model.specs.Verdicts.{is_untyped};
-ghost use Rattle.typing_model.specs.Laws.{IsNumbered};
-ghost use Rattle.command_check.specs.Given.{IsDerived};
+ghost use Rattle.typing_model.specs.Laws.{HasNoAnnotations, IsNumbered};
+ghost use Rattle.typing_model.specs.Derivations.{HasDerivation};
 ghost use Rattle.plain_check.specs.Clauses.{due, inferred_for, IsDue};
 
 use command_check::{check_command, infer_type};
@@ -18,13 +18,12 @@ use tree_evaluation::Trees;
 ///
 /// The check may take `budget` units; `Ended` says that it needs more. `Memory` says nothing of the command; it comes too
 /// where the signature has more entries than a version holds. What is accepted has a derivation, where the signature
-/// numbers the rule variables of its rules as shapes do.
-///
-/// Rules have the verdict of their shapes, which take no unit (docs/rules.md); their types aren't looked at.
+/// numbers the rule variables of its rules as shapes do, and has no annotations.
 pub fn check_plain(alloc: Global, signature: &Signature, command: &Scoped, budget: u64) -> Verdict
     ensures due { IsDue signature.now command.now budget result }
     ensures derivation { result ≡ Verdict.Accepted → IsNumbered (plain_signature signature.now)
-        → IsDerived (plain_signature signature.now) (plain_command command.now) }
+        → HasNoAnnotations (plain_signature signature.now)
+        → HasDerivation (plain_signature signature.now) (plain_command command.now) }
 {
     match version_of(alloc, signature) {
         Ok(version) => check_command(&mut Trees::new(alloc), &version, command, budget),

@@ -2,7 +2,7 @@
 use Rattle.std.proofs.Common.{List, [], ◌∷◌, Some, None, refl, arith}
 use Rattle.dk_model.specs.Trees.{Tree, star, kind, symbol, variable, rule_variable, apply, bare, product}
 use Rattle.dk_model.specs.Signatures.{rule_variable_pattern, PlainRule, symbol_entry, rules_entry, PlainSignature}
-use Rattle.dk_model.specs.Scoping.{left_symbol, left_rule_variable, left_wildcard, left_apply, PlainScopedRule, PlainCommand, declare}
+use Rattle.dk_model.specs.Scoping.{left_symbol, left_rule_variable, left_wildcard, left_apply, PlainScopedRule, PlainCommand, declare, rule_command}
 use Rattle.dk_model.specs.declared.signature.SymSort.TheVariants.{Static, Definable, Theorem}
 use Rattle.typing_model.specs.Steps.{at_rule_variable, no_arguments, one_argument, Step, beta, by_rule, no_step, one_step, AreMet, no_condition, one_condition}
 use Rattle.typing_model.specs.Derivations.{HasType, RuleHasDerivation, HasDerivation}
@@ -45,11 +45,11 @@ numbered = (((omega arith, (omega arith, tt)), tt), tt)
 abbrev theorem : PlainCommand
 theorem = declare Theorem (Some (apply (symbol 4) (same (symbol 1) (symbol 1)))) (Some (symbol 5))
 
-pub theorem_derives : HasDerivation repeated theorem
-theorem_derives = accepted_derives repeated (whnf_reduces repeated numbered) (comparison_joins repeated numbered) Theorem (Some (apply (symbol 4) (same (symbol 1) (symbol 1)))) (Some (symbol 5)) 100 refl
-
 unannotated : HasNoAnnotations repeated
 unannotated = ((tt, tt), ((tt, tt), (((tt, (tt, tt)), tt), ((tt, tt), (((tt, tt), tt), (((tt, tt), tt), tt))))))
+
+pub theorem_derives : HasDerivation repeated theorem
+theorem_derives = accepted_derives repeated (whnf_reduces repeated numbered) (normal_reduces repeated numbered) (comparison_joins repeated numbered) unannotated theorem 100 refl
 
 -- [x, y : nat] same x y --> y
 abbrev right_one : PlainScopedRule
@@ -74,3 +74,10 @@ past_wildcard = record {
 
 pub past_wildcard_derives : RuleHasDerivation repeated past_wildcard
 past_wildcard_derives = rule_derives repeated (whnf_reduces repeated numbered) (normal_reduces repeated numbered) (comparison_joins repeated numbered) unannotated past_wildcard _ 3 0 tt refl refl
+
+-- both in one command
+abbrev two_rules : PlainCommand
+two_rules = rule_command (right_one ∷ past_wildcard ∷ [])
+
+pub rules_have_derivation : HasDerivation repeated two_rules
+rules_have_derivation = accepted_derives repeated (whnf_reduces repeated numbered) (normal_reduces repeated numbered) (comparison_joins repeated numbered) unannotated two_rules 7 refl

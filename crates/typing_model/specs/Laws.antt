@@ -2,7 +2,7 @@
 use Rattle.std.specs.Prelude.{ℕ, ◌≡◌, ◌<◌, Option, Some, None, Ok, true, List, [], ◌∷◌, ◌++◌}
 use Rattle.dk_model.specs.Trees.{Tree}
 use Rattle.dk_model.specs.Signatures.{Pattern, Patterns, no_patterns, more_patterns, rule_variable_pattern, wildcard_pattern, guard_pattern, symbol_pattern, variable_pattern, abstraction_pattern, PlainRule, PlainEntry, symbol_entry, rules_entry, PlainSignature}
-use Rattle.dk_model.specs.Scoping.{PlainScopedRule, PlainCommand, declare}
+use Rattle.dk_model.specs.Scoping.{PlainScopedRule, PlainCommand}
 use Rattle.dk_model.specs.Shapes.{shape_of}
 use Rattle.dk_model.specs.RuleTyping.{rule_checked}
 use Rattle.dk_model.specs.Spines.{head_symbol}
@@ -11,7 +11,6 @@ use Rattle.dk_model.specs.Evaluation.{whnf_of, comparison_of, normal_of, selecti
 use Rattle.dk_model.specs.Typing.{answer, inferred, checked}
 use Rattle.dk_model.specs.Verdicts.{verdict_of, inferred_type, entry_of}
 use Rattle.dk_model.specs.declared.code.Verdict.TheVariants.{Accepted}
-use Rattle.dk_model.specs.declared.signature.SymSort.{SymSort}
 use Rattle.typing_model.specs.Steps.{IsPlain, ReducesTo, AreJoinable}
 use Rattle.typing_model.specs.Derivations.{Context, HasType, Fits, RuleHasDerivation, HasDerivation}
 
@@ -90,9 +89,9 @@ InferredHasType S = (types : List Tree) (context : Context) (n m : ℕ) (t T : T
 abbrev pub CheckedFits : PlainSignature → Type 0
 CheckedFits S = (types : List Tree) (context : Context) (n m : ℕ) (t T : Tree) (u : Unit {0}) → checked S types context t T n ≡ answer u m → Fits S types context t T
 
--- a declaration, definition or theorem that the plain check accepts has a derivation
+-- a command that the plain check accepts has a derivation
 abbrev pub AcceptedHasDerivation : PlainSignature → Type 0
-AcceptedHasDerivation S = (sort : SymSort) (typ body : Option Tree) (budget : ℕ) → verdict_of S (declare sort typ body) budget ≡ Accepted → HasDerivation S (declare sort typ body)
+AcceptedHasDerivation S = (command : PlainCommand) (budget : ℕ) → verdict_of S command budget ≡ Accepted → HasDerivation S command
 
 -- a rule whose shape is typed has a derivation
 abbrev pub TypedRuleHasDerivation : PlainSignature → Type 0

