@@ -18,9 +18,9 @@ numeral (suc k) = concat (codes "(s " ∷ numeral k ∷ codes ")" ∷ [])
 -- the line of the theorem of this number: a sum is its value
 abbrev pub theorem_of : ℕ → List ℕ
 theorem_of i = concat (
-  codes "thm t" ∷ decimal i ∷ codes " : eq (plus " ∷ numeral (i % 7) ∷ codes " " ∷ numeral (i % 5) ∷ codes ") " ∷ numeral (i % 7 + i % 5)
-  ∷ codes " := refl " ∷ numeral (i % 7 + i % 5) ∷ codes ".\n" ∷ []
-)
+    codes "thm t" ∷ decimal i ∷ codes " : eq (plus " ∷ numeral (i % 7) ∷ codes " " ∷ numeral (i % 5) ∷ codes ") " ∷ numeral (i % 7 + i % 5)
+    ∷ codes " := refl " ∷ numeral (i % 7 + i % 5) ∷ codes ".\n" ∷ []
+    )
 
 -- so many theorems, the first of them of this number
 abbrev pub theorems : ℕ → ℕ → List ℕ

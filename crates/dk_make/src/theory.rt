@@ -1,6 +1,6 @@
 //! Writes the made theory through one buffer.
 ghost use Rattle.std.specs.Prelude.{◌≡◌, ◌+◌, ◌<◌, ◌^◌};
-ghost use Rattle.dk_io.specs.Bytes.{Wrote};
+ghost use Rattle.dk_io.specs.Writing.{Wrote};
 ghost use Rattle.dk_io.specs.Causes.{HasCause};
 ghost use Rattle.dk_io.specs.Gathered.{Gathers};
 ghost use Rattle.dk_make.specs.Theory.{beginning, numeral, theorem_of, theorems, theory_of};
