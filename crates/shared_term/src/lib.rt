@@ -22,3 +22,6 @@ pub use id::{Node, TermId};
 pub use nodes::Nodes;
 pub use pool::Pool;
 pub use stored::Stored;
+
+#[cfg(test)]
+mod tests;

@@ -1,0 +1,394 @@
+//! Terms of a pool against terms that are written out, node by node.
+ghost use Rattle.std.specs.Prelude.{◌<◌, length, IfOk};
+ghost use Rattle.shared_term.specs.Pools.{Extends, IsWithin};
+
+use crate::{Node, Pool, Stored, TermId};
+use dk_model::{NoMemory, NodeOf, Term, make_annotated, make_app, make_bare, make_product};
+use std::alloc::Global;
+use std::test::Fail;
+
+// The term at a place of the list so far.
+fn part(pool: &Pool, places: &[TermId], at: usize) -> Result<TermId, NoMemory>
+    ensures { IfOk result (λ id. id.0 < length pool.now) }
+{
+    match places.get(at) {
+        Some(id) => if (id.0 as usize) < pool.len() {
+            Ok(*id)
+        } else {
+            Err(NoMemory)
+        },
+        None => Err(NoMemory),
+    }
+}
+
+fn node_of(pool: &Pool, places: &[TermId], node: NodeOf<usize>) -> Result<Node, NoMemory>
+    ensures { IfOk result (IsWithin (length pool.now)) }
+{
+    match node {
+        NodeOf::Star => Ok(NodeOf::Star),
+        NodeOf::Kind => Ok(NodeOf::Kind),
+        NodeOf::Sym(k) => Ok(NodeOf::Sym(k)),
+        NodeOf::Var(k) => Ok(NodeOf::Var(k)),
+        NodeOf::Rvar(k) => Ok(NodeOf::Rvar(k)),
+        NodeOf::App(f, a) => Ok(NodeOf::App(part(pool, places, f)?, part(pool, places, a)?)),
+        NodeOf::Abs(None, b) => Ok(NodeOf::Abs(None, part(pool, places, b)?)),
+        NodeOf::Abs(Some(n), b) => {
+            Ok(NodeOf::Abs(Some(part(pool, places, n)?), part(pool, places, b)?))
+        }
+        NodeOf::Prod(a, b) => Ok(NodeOf::Prod(part(pool, places, a)?, part(pool, places, b)?)),
+    }
+}
+
+// The last node of a list, whose parts go by their places in it.
+fn built(pool: &mut Pool, nodes: &[NodeOf<usize>]) -> Result<TermId, NoMemory>
+    ensures within { IfOk result (λ id. id.0 < length pool.new) }
+    ensures keeps { Extends pool.old pool.new }
+{
+    let mut places = Vec::new(pool.alloc());
+    let mut last = pool.intern(NodeOf::Star)?;
+    for node in nodes {
+        let whole = node_of(pool, places.as_slice(), *node)?;
+        last = pool.intern(whole)?;
+        places.push(last)?;
+    }
+    Ok(last)
+}
+
+// Whether the shifted term is the one written out.
+fn shifts(
+    pool: &mut Pool,
+    cut: u64,
+    by: u64,
+    from: &[NodeOf<usize>],
+    to: &[NodeOf<usize>],
+) -> Result<bool, NoMemory> {
+    let id = built(pool, from)?;
+    let made = pool.shift(id, cut, by)?;
+    let expected = built(pool, to)?;
+    Ok(pool.same(made, expected))
+}
+
+#[test]
+fn shifting_leaves_bound_variables(rt: HostRuntime) -> Result<(), Fail> {
+    let mut pool = Pool::new(rt.alloc())?;
+    // `x : 0 1 -> (y : 2 => 0 3) 0`, where under `x` and `y` 3 is the variable 1 around.
+    let from = [
+        NodeOf::Var(0),
+        NodeOf::Var(1),
+        NodeOf::App(0, 1),
+        NodeOf::Var(2),
+        NodeOf::Var(3),
+        NodeOf::App(0, 4),
+        NodeOf::Abs(Some(3), 5),
+        NodeOf::App(6, 0),
+        NodeOf::Prod(2, 7),
+    ];
+    let to = [
+        NodeOf::Var(0),
+        NodeOf::Var(6),
+        NodeOf::App(0, 1),
+        NodeOf::Var(7),
+        NodeOf::Var(8),
+        NodeOf::App(0, 4),
+        NodeOf::Abs(Some(3), 5),
+        NodeOf::App(6, 0),
+        NodeOf::Prod(2, 7),
+    ];
+    assert!(rt; shifts(&mut pool, 1, 5, &from, &to)?);
+    assert!(rt; shifts(&mut pool, 2, 5, &from, &from)?);
+    Ok(())
+}
+
+// Whether the substituted term is the one written out.
+fn substitutes(
+    pool: &mut Pool,
+    depth: u64,
+    by: Node,
+    from: &[NodeOf<usize>],
+    to: &[NodeOf<usize>],
+) -> Result<bool, NoMemory>
+    requires { IsWithin 0 by }
+{
+    let id = built(pool, from)?;
+    let by = pool.intern(by)?;
+    let made = pool.substitute(id, depth, by)?;
+    let expected = built(pool, to)?;
+    Ok(pool.same(made, expected))
+}
+
+#[test]
+fn substituting_lowers_the_variables_behind(rt: HostRuntime) -> Result<(), Fail> {
+    let mut pool = Pool::new(rt.alloc())?;
+    // `x : 0 1 -> 1 2` at variable 0.
+    let from = [
+        NodeOf::Var(0),
+        NodeOf::Var(1),
+        NodeOf::App(0, 1),
+        NodeOf::Var(2),
+        NodeOf::App(1, 3),
+        NodeOf::Prod(2, 4),
+    ];
+    let by_variable = [
+        NodeOf::Var(4),
+        NodeOf::Var(0),
+        NodeOf::App(0, 1),
+        NodeOf::Var(5),
+        NodeOf::Var(1),
+        NodeOf::App(3, 4),
+        NodeOf::Prod(2, 5),
+    ];
+    let by_type = [
+        NodeOf::Star,
+        NodeOf::Var(0),
+        NodeOf::App(0, 1),
+        NodeOf::Var(1),
+        NodeOf::App(0, 3),
+        NodeOf::Prod(2, 4),
+    ];
+    assert!(rt; substitutes(&mut pool, 0, NodeOf::Var(4), &from, &by_variable)?);
+    assert!(rt; substitutes(&mut pool, 0, NodeOf::Star, &from, &by_type)?);
+    Ok(())
+}
+
+// Whether the erased term is the one written out.
+fn erases(pool: &mut Pool, from: &[NodeOf<usize>], to: &[NodeOf<usize>]) -> Result<bool, NoMemory> {
+    let id = built(pool, from)?;
+    let made = pool.erased(id)?;
+    let expected = built(pool, to)?;
+    Ok(pool.same(made, expected))
+}
+
+#[test]
+fn erasing_removes_annotations_everywhere(rt: HostRuntime) -> Result<(), Fail> {
+    let mut pool = Pool::new(rt.alloc())?;
+    // `(x : Type => y : x => x) -> Kind`.
+    let from = [
+        NodeOf::Star,
+        NodeOf::Var(0),
+        NodeOf::Var(1),
+        NodeOf::Abs(Some(1), 2),
+        NodeOf::Abs(Some(0), 3),
+        NodeOf::Kind,
+        NodeOf::Prod(4, 5),
+    ];
+    let to = [
+        NodeOf::Var(1),
+        NodeOf::Abs(None, 0),
+        NodeOf::Abs(None, 1),
+        NodeOf::Kind,
+        NodeOf::Prod(2, 3),
+    ];
+    assert!(rt; erases(&mut pool, &from, &to)?);
+    assert!(rt; erases(&mut pool, &to, &to)?);
+    Ok(())
+}
+
+// Whether the filled term is the one written out, where the first rule variable has a capture and
+// the second has none.
+fn fills(
+    pool: &mut Pool,
+    capture: &[NodeOf<usize>],
+    from: &[NodeOf<usize>],
+    to: &[NodeOf<usize>],
+) -> Result<bool, NoMemory> {
+    let id = built(pool, from)?;
+    let capture = built(pool, capture)?;
+    let made = pool.filled(id, &[Some(capture), None])?;
+    let expected = built(pool, to)?;
+    Ok(pool.same(made, expected))
+}
+
+#[test]
+fn captures_take_the_place_of_rule_variables(rt: HostRuntime) -> Result<(), Fail> {
+    let mut pool = Pool::new(rt.alloc())?;
+    // `R0 (x => R0 R1)` with `0 1` for `R0`.
+    let capture = [NodeOf::Var(0), NodeOf::Var(1), NodeOf::App(0, 1)];
+    let from = [
+        NodeOf::Rvar(0),
+        NodeOf::Rvar(1),
+        NodeOf::App(0, 1),
+        NodeOf::Abs(None, 2),
+        NodeOf::App(0, 3),
+    ];
+    let to = [
+        NodeOf::Var(0),
+        NodeOf::Var(1),
+        NodeOf::App(0, 1),
+        NodeOf::Var(2),
+        NodeOf::App(1, 3),
+        NodeOf::Rvar(1),
+        NodeOf::App(4, 5),
+        NodeOf::Abs(None, 6),
+        NodeOf::App(2, 7),
+    ];
+    assert!(rt; fills(&mut pool, &capture, &from, &to)?);
+    Ok(())
+}
+
+// Whether the capture of the part is the one written out.
+fn captures(
+    pool: &mut Pool,
+    bound: u64,
+    arguments: &[u32],
+    from: &[NodeOf<usize>],
+    to: &[NodeOf<usize>],
+) -> Result<bool, NoMemory> {
+    let id = built(pool, from)?;
+    let made = pool.captured(id, bound, arguments)?;
+    let expected = built(pool, to)?;
+    Ok(pool.same(made, expected))
+}
+
+fn mentions(
+    pool: &mut Pool,
+    bound: u64,
+    arguments: &[u32],
+    from: &[NodeOf<usize>],
+) -> Result<bool, NoMemory> {
+    let id = built(pool, from)?;
+    pool.mentions_others(id, bound, arguments)
+}
+
+#[test]
+fn captures_are_abstracted_over_their_arguments(rt: HostRuntime) -> Result<(), Fail> {
+    let mut pool = Pool::new(rt.alloc())?;
+    // `0 (x => 2 4)`, where 2 and 4 are 1 and 3 around `x`; the pattern binds 3 variables, and 1
+    // and 0 are arguments.
+    let from = [
+        NodeOf::Var(0),
+        NodeOf::Var(2),
+        NodeOf::Var(4),
+        NodeOf::App(1, 2),
+        NodeOf::Abs(None, 3),
+        NodeOf::App(0, 4),
+    ];
+    let to = [
+        NodeOf::Var(0),
+        NodeOf::Var(2),
+        NodeOf::Var(3),
+        NodeOf::App(1, 2),
+        NodeOf::Abs(None, 3),
+        NodeOf::App(0, 4),
+        NodeOf::Abs(None, 5),
+        NodeOf::Abs(None, 6),
+    ];
+    assert!(rt; captures(&mut pool, 3, &[1, 0], &from, &to)?);
+    for (bound, arguments, told) in [(3, [1, 0], false), (3, [0, 0], true), (4, [1, 0], true)] {
+        assert_eq!(rt; mentions(&mut pool, bound, &arguments, &from)?, told);
+    }
+    Ok(())
+}
+
+// One node more, which is there.
+fn twice(pool: &mut Pool, node: Node) -> Result<bool, NoMemory>
+    requires { IsWithin 0 node }
+{
+    let first = pool.intern(node)?;
+    let second = pool.intern(node)?;
+    let applied = pool.intern(NodeOf::App(first, second))?;
+    Ok(pool.same(first, second) && !pool.same(applied, first))
+}
+
+#[test]
+fn equal_nodes_are_one(rt: HostRuntime) -> Result<(), Fail> {
+    let mut pool = Pool::new(rt.alloc())?;
+    assert!(rt; twice(&mut pool, NodeOf::Sym(0))?);
+    assert_eq!(rt; pool.len(), 2);
+    assert!(rt; twice(&mut pool, NodeOf::Sym(0))?);
+    assert_eq!(rt; pool.len(), 2);
+    pool.clear();
+    assert_eq!(rt; pool.len(), 0);
+    assert!(rt; pool.intern(NodeOf::Var(u64::MAX)).is_err());
+    Ok(())
+}
+
+// Whether a stored term is the same in this pool and in another, and how many nodes it has.
+fn carried(
+    pool: &mut Pool,
+    other: &mut Pool,
+    from: &[NodeOf<usize>],
+) -> Result<(bool, usize), NoMemory> {
+    let id = built(pool, from)?;
+    let stored = pool.store(id)?;
+    let back = pool.load(&stored)?;
+    let there = other.load(&stored)?;
+    let expected = built(other, from)?;
+    Ok((
+        pool.same(back, id) && other.same(there, expected),
+        stored.len(),
+    ))
+}
+
+#[test]
+fn a_stored_term_has_each_node_once(rt: HostRuntime) -> Result<(), Fail> {
+    let mut pool = Pool::new(rt.alloc())?;
+    let mut other = Pool::new(rt.alloc())?;
+    let from = [
+        NodeOf::Sym(7),
+        NodeOf::Sym(0),
+        NodeOf::App(1, 1),
+        NodeOf::Kind,
+        NodeOf::Abs(Some(2), 1),
+        NodeOf::Prod(4, 2),
+    ];
+    assert_eq!(rt; carried(&mut pool, &mut other, &from)?, (true, 4));
+    Ok(())
+}
+
+// `x : 0 1 -> (y => R2 0) (y : 1 => Type Kind)`.
+fn boxed(alloc: Global) -> Result<Term, NoMemory> {
+    let domain = make_app(alloc, Term::Var(0), Term::Var(1))?;
+    let bare = make_bare(alloc, make_app(alloc, Term::Rvar(2), Term::Var(0))?)?;
+    let body = make_app(alloc, Term::Star, Term::Kind)?;
+    let annotated = make_annotated(alloc, Term::Var(1), body)?;
+    make_product(alloc, domain, make_app(alloc, bare, annotated)?)
+}
+
+// Whether it comes back from a list of its own, by way of the pool too.
+fn unboxed(pool: &mut Pool, term: &Term) -> Result<bool, NoMemory> {
+    let alloc = pool.alloc();
+    let stored = Stored::from_term(alloc, term)?;
+    let id = pool.load(&stored)?;
+    let first = stored.copy(alloc)?.to_term(alloc)?;
+    let second = pool.store(id)?.to_term(alloc)?;
+    Ok(first.equal(term) && second.equal(term))
+}
+
+#[test]
+fn boxed_terms_are_stored_and_come_back(rt: HostRuntime) -> Result<(), Fail> {
+    let mut pool = Pool::new(rt.alloc())?;
+    let term = boxed(rt.alloc())?;
+    assert!(rt; unboxed(&mut pool, &term)?);
+    Ok(())
+}
+
+// A chain of applications, open at its end.
+fn chain(pool: &mut Pool, count: u32) -> Result<TermId, NoMemory>
+    ensures within { IfOk result (λ id. id.0 < length pool.new) }
+    ensures keeps { Extends pool.old pool.new }
+{
+    let mut id = pool.intern(NodeOf::Var(0))?;
+    for _step in 0..count {
+        let symbol = pool.intern(NodeOf::Sym(0))?;
+        id = pool.intern(NodeOf::App(symbol, id))?;
+    }
+    Ok(id)
+}
+
+// Whether it comes back from a shift and a substitution, and from a list of its own, and how many
+// nodes that has.
+fn returns(pool: &mut Pool, count: u32) -> Result<(bool, usize), NoMemory> {
+    let id = chain(pool, count)?;
+    let raised = pool.shift(id, 0, 1)?;
+    let lowered = pool.substitute(raised, 0, id)?;
+    let stored = pool.store(id)?;
+    let back = pool.load(&stored)?;
+    Ok((pool.same(lowered, id) && pool.same(back, id), stored.len()))
+}
+
+#[test]
+fn no_walk_nests_with_the_term(rt: HostRuntime) -> Result<(), Fail> {
+    let mut pool = Pool::new(rt.alloc())?;
+    assert_eq!(rt; returns(&mut pool, 70_000)?, (true, 70_002));
+    Ok(())
+}
