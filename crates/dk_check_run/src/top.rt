@@ -35,7 +35,7 @@ pub fn run<H: Shelf, K: Sink>(alloc: Global, words: &[String], shelf: &mut H, si
         ¬ (Rose (K.faults sink.old) (K.faults sink.new)) → result ≢ 4 →
         ReportsFile q bytes (K.taken sink.old) (K.taken sink.new) result }
 
-    // Where the file is accepted, each declared type and body has a derivation over the commands before it.
+    // Where the file is accepted, each declared type, body and rule has a derivation over the commands before it.
     ensures derived { (q : Request) (bytes : List ℕ) →
         AsksFor (request_of (map string_bytes words.now)) (H.books shelf.old) q (Some bytes) →
         result ≡ 0 → IsFileDerived q bytes }
