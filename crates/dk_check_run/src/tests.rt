@@ -476,19 +476,8 @@ fn answers_each_failure(rt: HostRuntime) -> Result<(), Fail> {
         failing.push(row.sink_call)?;
         let mut sink = MemSink::new(alloc, 1000, row.sink_piece, failing)?;
         let status = run(alloc, words.as_slice(), &mut shelf, &mut sink);
-        let (shelf_call, sink_call) = (row.shelf_call, row.sink_call);
-        assert_eq!(rt;
-            sink.bytes(),
-            row.taken.as_bytes(),
-            "calls {shelf_call} and {sink_call} fail at {}",
-            row.text
-        );
-        assert_eq!(rt;
-            status,
-            row.status,
-            "calls {shelf_call} and {sink_call} fail at {}",
-            row.text
-        );
+        assert_eq!(rt; sink.bytes(), row.taken.as_bytes());
+        assert_eq!(rt; status, row.status);
     }
     Ok(())
 }
