@@ -62,7 +62,7 @@ all_derived limits budget T n (c ∷ cs) tail numbered plain e =
     let first = accepted_first (verdict_at limits budget T n c.form) n c (report_from limits budget (theory_after T budget c.form) (n + 1) cs tail) e in (
       scoped_derives T.signature budget T (scope_of T.names c.form) refl numbered plain (accepted_after (nat_le limits.commands n) (verdict_after T budget c.form) first.0),
       all_derived limits budget (theory_after T budget c.form) (n + 1) cs tail (entries_more T.signature budget (scope_of T.names c.form) numbered)
-      (plain_after T.signature budget (scope_of T.names c.form) numbered plain) first.1,
+          (plain_after T.signature budget (scope_of T.names c.form) numbered plain) first.1,
     )
 
 pub derived : (request : Option Request) (old new : ShelfState) (before after : SinkState) (result : ℕ) → Answers request old new before after result

@@ -67,11 +67,13 @@ fn put_late<R: Wait + Abort>(
 {
     let job = Arc::new(alloc, job).expect(rt, "memory for a job");
     match board.put(rt, pass, job, false) {
-        Err(PutRefused::Stopped {
-            number,
-            verdict,
-            job,
-        }) => (number, verdict, *job),
+        Err(
+            PutRefused::Stopped {
+                number,
+                verdict,
+                job,
+            },
+        ) => (number, verdict, *job),
         _ => panic!(rt; "the job was put"),
     }
 }
@@ -94,11 +96,7 @@ fn must_claim<R: Wait + Abort>(
 }
 
 // Whether all is over, for a worker that is given no task.
-fn finds_nothing<R: Wait + Abort>(
-    rt: &R,
-    board: &Board<Told>,
-    pass: &mut WorkerPass<Told>,
-) -> bool
+fn finds_nothing<R: Wait + Abort>(rt: &R, board: &Board<Told>, pass: &mut WorkerPass<Told>) -> bool
     requires own { pass.old.seat.table_id ≡ board.now }
     requires idle { IsIdle pass.old.seat.me.0 }
     ensures own { pass.new.seat.table_id ≡ board.now }
@@ -168,7 +166,10 @@ fn pass_back<R: Abort>(
 fn keeps_two_workers_apart_and_stops_at_a_fault(rt: HostRuntime) {
     let alloc = rt.alloc();
     let fault = Verdict::Refused(Code::E21);
-    let (board, mut reader, passes) = Board::<Told>::new(alloc, 2).expect(&rt, "memory for a board");
+    let (board, mut reader, passes) = Board::<Told>::new(alloc, 2).expect(
+        &rt,
+        "memory for a board",
+    );
     let mut passes = passes.into_vec();
     let mut second = last_pass(&rt, &board, &mut passes);
     let mut first = last_pass(&rt, &board, &mut passes);
