@@ -1,2 +1,4 @@
+pub mod Answered
+pub mod Exists
 pub mod Lines
 pub mod Puts

@@ -1,3 +1,4 @@
+pub mod Books
 pub mod Pieces
 pub mod Report
 pub mod Stops

@@ -45,6 +45,11 @@ last_line (Unread number) budget = concat (codes "unread " ∷ decimal number �
 abbrev pub report_of : List (List ℕ) → Outcome → ℕ → Bool → List ℕ
 report_of names outcome budget quiet = shown_lines quiet names ++ last_line outcome budget
 
+-- the names of the `ok` lines and the outcome
+pub record FileReport : Type 0 where
+  pub names : List (List ℕ)
+  pub outcome : Outcome
+
 -- the status where a file stops with that verdict
 abbrev pub stop_status : Verdict → ℕ
 stop_status verdict.Accepted = 0

@@ -1,7 +1,9 @@
 -- For proofs: how a file may stop.
-use Rattle.std.specs.Prelude.{◌≢◌}
+use Rattle.std.specs.Prelude.{◌≢◌, Option, Some, None}
 use Rattle.dk_model.specs.declared.code.Verdict.{Verdict}
 use Rattle.dk_model.specs.declared.code.Verdict.TheVariants as verdict
+use Rattle.board_core.specs.declared.event.End.{End}
+use Rattle.board_core.specs.declared.event.End.TheVariants as end
 use Rattle.verdict_book.specs.declared.outcome.Outcome.{Outcome}
 use Rattle.verdict_book.specs.declared.outcome.Outcome.TheVariants.{Accepted, Stopped, Unread}
 
@@ -14,3 +16,11 @@ abbrev pub StopsAtFault : Outcome → Type 0
 StopsAtFault (Accepted count) = Unit {0}
 StopsAtFault (Stopped number line v) = IsFault v
 StopsAtFault (Unread number) = Unit {0}
+
+-- the reader of a finished history ended by itself: at the end of the input, at a failed read, or at its own verdict
+abbrev pub EndsByItself : Option End → Type 0
+EndsByItself (Some end.Whole) = Unit {0}
+EndsByItself (Some end.Unread) = Unit {0}
+EndsByItself (Some (end.Fault line v)) = IsFault v
+EndsByItself (Some end.Stopped) = ⊥
+EndsByItself None = ⊥

@@ -1,10 +1,16 @@
-//! The report of a file, line by line (docs/report.md). Begin at `write_outcome`.
+//! The report of a file, line by line (docs/report.md). Begin at `write_report`.
 #![tactic(auto)]
 
+mod book;
+mod laws;
 mod outcome;
 mod pieces;
 mod report;
+mod title;
 
+pub use book::{first_fault, outcome_of, write_report};
+pub use laws::{history_has_one_report, history_has_report};
 pub use outcome::Outcome;
 pub use pieces::{Piece, put_pieces};
 pub use report::write_outcome;
+pub use title::Title;

@@ -10,7 +10,8 @@ use crate::{Outcome, Piece, put_pieces};
 use dk_io::{Buffer, Failed, Sink};
 use dk_model::{Listed, Verdict};
 
-fn put_ok<K: Sink>(
+/// The line of an accepted command.
+pub fn put_ok<K: Sink>(
     buffer: &mut Buffer,
     sink: &mut K,
     number: u64,
@@ -105,7 +106,8 @@ fn put_stop<K: Sink>(
     }
 }
 
-fn put_last<K: Sink>(
+/// The last line.
+pub fn put_last<K: Sink>(
     buffer: &mut Buffer,
     sink: &mut K,
     outcome: Outcome,
