@@ -8,6 +8,7 @@ use Rattle.board_core.specs.declared.book.Posted.{Posted}
 use Rattle.board_core.specs.Events.{IsFirstFault, answered_verdict, verdict_at, is_settled}
 use Rattle.board_core.specs.Machine.{marks_of}
 use Rattle.board_core.specs.Kept.{IsFaultOf, posted, jobs_in}
+use Rattle.board_core.specs.Shown.{blanks}
 
 pub fault_first : (es : List Event) (f : Option (ℕ × Verdict)) → IsFaultOf es f → IfSome f (λ f. IsFirstFault es f.0 f.1)
 fault_first es None h = tt
@@ -34,7 +35,16 @@ read_at [] i r d h e = absurd (omega arith)
 read_at (x ∷ xs) zero r d h e = e
 read_at (x ∷ xs) (suc i) r d h e = read_at xs i r d (omega arith) e
 
-pub posted_at : {J : Type 0} (items : List (Posted J)) (i : ℕ) (r : Posted J) → i < length items → r ≡ get_or items i r → slice_get (jobs_in items) i ≡ Some (posted r)
-posted_at [] i r h e = absurd (omega arith)
-posted_at (p ∷ items) zero r h e = ap (λ q. Some (posted q)) (sym e)
-posted_at (p ∷ items) (suc i) r h e = posted_at items i r (omega arith) e
+-- the mark of the posted job, with another value
+pub blank_at : {J B : Type 0} (b : B) (items : List (Posted J)) (i : ℕ) (r : Posted J) → i < length items → r ≡ get_or items i r → slice_get (blanks b (jobs_in items)) i ≡ Some (b, r.settled)
+blank_at b [] i r h e = absurd (omega arith)
+blank_at b (p ∷ items) zero r h e = ap (λ q. Some (b, q.settled)) (sym e)
+blank_at b (p ∷ items) (suc i) r h e = blank_at b items i r (omega arith) e
+
+pub count_blanks : {J B : Type 0} (b : B) (jobs : List (J × Bool)) → length (blanks b jobs) ≡ length jobs
+count_blanks b [] = refl
+count_blanks b (j ∷ jobs) = ap suc (count_blanks b jobs)
+
+pub marks_blanks : {J B : Type 0} (b : B) (jobs : List (J × Bool)) → marks_of (blanks b jobs) ≡ marks_of jobs
+marks_blanks b [] = refl
+marks_blanks b (j ∷ jobs) = ap (λ ms. j.1 ∷ ms) (marks_blanks b jobs)

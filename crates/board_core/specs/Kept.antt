@@ -26,9 +26,9 @@ abbrev pub Ascends : List ℕ → Type 0
 Ascends [] = Unit {0}
 Ascends (n ∷ ns) = Each (λ m. n < m) ns × Ascends ns
 
--- the waiting number has the share of its own job
-abbrev pub HasShare : {J : Type 0} → List (J × Bool) → ℕ × J → Type 0
-HasShare jobs w = slice_get jobs (w.0 - 1) ≡ Some (w.1, false)
+-- the job that waits has its own number
+abbrev pub IsOwn : {J : Type 0} → List (J × Bool) → ℕ × J → Type 0
+IsOwn jobs w = slice_get jobs (w.0 - 1) ≡ Some (w.1, false)
 
 abbrev pub numbers : {J : Type 0} → List (ℕ × J) → List ℕ
 numbers ws = map (λ w. w.0) ws
@@ -55,10 +55,10 @@ pub record Keeps (room : ℕ) (marks : List Bool) (waiting : List ℕ) (verdicts
   pub lawful : IsLawful marks es
 
 abbrev pub posted : {J : Type 0} → Posted J → J × Bool
-posted p = (arc_value p.job, p.settled)
+posted p = (p.job.value, p.settled)
 
 abbrev pub waiter : {J : Type 0} → Waiting J → ℕ × J
-waiter w = (w.number, arc_value w.share)
+waiter w = (w.number, arc_value w.job)
 
 abbrev pub jobs_in : {J : Type 0} → List (Posted J) → List (J × Bool)
 jobs_in ps = map posted ps
@@ -68,4 +68,4 @@ waiters_in ws = map waiter ws
 
 pub record Kept {J : Type 0} (b : Inside J) : Type 0 where
   pub keeps : Keeps (vec_capacity b.history) (marks_of (jobs_in b.jobs.items)) (numbers (waiters_in b.waiting.items)) b.verdicts.items b.fault b.end b.history.items
-  pub shares : Each (HasShare (jobs_in b.jobs.items)) (waiters_in b.waiting.items)
+  pub own : Each (IsOwn (jobs_in b.jobs.items)) (waiters_in b.waiting.items)

@@ -41,12 +41,7 @@ idle_reply None None = Empty
 idle_reply None (Some _) = Over
 idle_reply (Some _) f = Over
 
--- the share that the claim of this job will need
-abbrev pub share_due : {J : Type 0} → J → Bool → Option J
-share_due job true = None
-share_due job false = Some job
-
--- the job that comes to wait, if any
-abbrev pub newcomers : {J : Type 0} → ℕ → Option J → List (ℕ × J)
-newcomers n None = []
-newcomers n (Some job) = (n, job) ∷ []
+-- the job that comes to wait, if it isn't settled
+abbrev pub newcomers : {J : Type 0} → ℕ → J → Bool → List (ℕ × J)
+newcomers n job true = []
+newcomers n job false = (n, job) ∷ []

@@ -1,5 +1,5 @@
 -- A book as contracts see it, and what its calls answer.
-use Rattle.std.specs.Prelude.{◌≡◌, ℕ, ◌-◌, ◌⊎◌, true, false, Bool, List, [], ◌∷◌, ◌++◌, take, slice_get, Some}
+use Rattle.std.specs.Prelude.{◌≡◌, ℕ, ◌-◌, ◌⊎◌, true, false, Bool, List, [], ◌∷◌, ◌++◌, map, take, slice_get, Some}
 use Rattle.std.specs.List.{list_any}
 use Rattle.std.specs.Arc.{arc_value}
 use Rattle.board_core.specs.declared.event.Event.{Event}
@@ -28,6 +28,10 @@ put_on b job settled n =
 -- the book that these events make of the first of these jobs
 abbrev pub part_of : {J : Type 0} → List (J × Bool) → List Event → Shown J
 part_of jobs es = record { jobs = take (puts es) jobs; events = es }
+
+-- the jobs, each with this value, settled as they are
+abbrev pub blanks : {J B : Type 0} → B → List (J × Bool) → List (B × Bool)
+blanks b jobs = map (λ j. (b, j.1)) jobs
 
 -- nothing can be claimed
 abbrev pub IsDrained : {J : Type 0} → Shown J → Type 0

@@ -1,5 +1,5 @@
 //! The book: the jobs, what was done with them, and the history that says so.
-ghost use Rattle.std.specs.Prelude.{◌≡◌, ◌+◌, ◌-◌, ◌*◌, ◌^◌, ◌<◌, ◌≤◌, false, [], length, slice_get, IfOk, IfErr, IfSome, IfNone, IsSomeAnd};
+ghost use Rattle.std.specs.Prelude.{◌≡◌, ◌+◌, ◌-◌, ◌*◌, ◌^◌, ◌<◌, ◌≤◌, false, [], length, IfOk, IfErr, IfSome, IfNone};
 ghost use Rattle.std.specs.List.{list_any};
 ghost use Rattle.std.specs.Arc.{arc_value};
 ghost use Rattle.board_core.specs.declared.event.Event.{Event};
@@ -12,29 +12,32 @@ mod replay;
 mod tests;
 
 use crate::event::{End, Event};
-use crate::steps::{fault_after, idle, let_wait, make_room, share_of, take_below};
+use crate::steps::{fault_after, idle, let_wait, make_room, take_below};
 use crate::task::{Claimed, PutRefused};
 use dk_model::{NoMemory, Verdict};
 use std::alloc::Global;
 use std::collections::VecDeque;
 use std::marker::Model;
+use std::snapshot::Snapshot;
 use std::sync::Arc;
 
-/// A job as it was put.
+/// What is kept of a job as it was put: its mark, and for contracts alone its value.
 #[derive(Drop)]
 pub struct Posted<J> {
-    pub job: Arc<J>,
+    pub job: Snapshot<J>,
     pub settled: bool,
 }
 
-/// A job that is neither settled nor claimed, with the share that its claim gives away.
+/// A job that is neither settled nor claimed. Its claim gives it away.
 #[derive(Drop)]
 pub struct Waiting<J> {
     pub number: u32,
-    pub share: Arc<J>,
+    pub job: Arc<J>,
 }
 
 /// The jobs, numbered from 1, each settled or not, and the history of all that happened to them.
+///
+/// A job is held until it is claimed: of an answered or settled one the mark, the verdict and the events are left.
 #[derive(Drop)]
 pub struct Book<J> {
     jobs: Vec<Posted<J>>,
@@ -95,16 +98,7 @@ impl<J> Book<J> {
         self.jobs.len()
     }
 
-    /// The job of this number.
-    pub fn job(&self, number: u32) -> &Arc<J>
-        requires { (0 < number) × (number ≤ length self.now.jobs) }
-        ensures { IsSomeAnd (slice_get self.now.jobs (number - 1))
-            (λ j. j.0 ≡ arc_value result.now) }
-    {
-        &self.jobs[number as usize - 1].job
-    }
-
-    /// Whether that job was put as settled.
+    /// Whether the job of this number was put as settled.
     pub fn is_settled(&self, number: u32) -> bool
         requires { (0 < number) × (number ≤ length self.now.jobs) }
         ensures { result ≡ is_settled (marks_of self.now.jobs) number }
@@ -142,8 +136,8 @@ impl<J> Book<J> {
 
 impl<J: Drop> Book<J> {
     /// Puts a job, which takes the next number, unless some verdict is other than `Accepted`. A
-    /// settled job counts as answered `Accepted` and is never claimed. Room for the job's claim and
-    /// answer is made here. A refusal changes nothing and hands the job back.
+    /// settled job counts as answered `Accepted`, is never claimed and is let go. Room for the job's
+    /// claim and answer is made here. A refusal changes nothing and hands the job back.
     pub fn put(&mut self, job: Arc<J>, settled: bool) -> Result<u32, PutRefused<J>>
         requires few { length self.old.jobs < 4294967294 }
         requires unsealed { list_any is_seal self.old.events ≡ false }
@@ -160,9 +154,6 @@ impl<J: Drop> Book<J> {
                 job,
             });
         }
-        let Ok(share) = share_of(&job, settled) else {
-            return Err(PutRefused::NoMemory { job });
-        };
         let Book {
             jobs,
             waiting,
@@ -174,8 +165,12 @@ impl<J: Drop> Book<J> {
             return Err(PutRefused::NoMemory { job });
         };
         let number = jobs.len() as u32 + 1;
-        jobs.push_reserved(Posted { job, settled });
-        let_wait(waiting, number, share);
+        let value = Snapshot::of(&*job);
+        jobs.push_reserved(Posted {
+            job: value,
+            settled,
+        });
+        let_wait(waiting, number, job, settled);
         verdicts.push_reserved(None);
         history.push_reserved(Event::Put(number));
         Ok(number)

@@ -12,7 +12,6 @@ mod event;
 mod laws;
 mod steps;
 mod task;
-mod titled;
 
 pub use book::Book;
 pub use checker::{Checker, Gate};
@@ -23,4 +22,3 @@ pub use laws::{
     verdict_from_answer,
 };
 pub use task::{Claimed, PutRefused, Task};
-pub use titled::Titled;

@@ -1,10 +1,9 @@
 //! The parts of the calls of a book, over its fields.
-ghost use Rattle.std.specs.Prelude.{◌≡◌, ◌+◌, ◌*◌, ◌^◌, ◌<◌, ◌≤◌, ◌++◌, vec_len, vec_capacity, IfOk, OnOk};
+ghost use Rattle.std.specs.Prelude.{◌≡◌, ◌+◌, ◌*◌, ◌^◌, ◌<◌, ◌≤◌, ◌++◌, vec_len, vec_capacity, OnOk};
 ghost use Rattle.std.specs.VecDeque.{deque_len, deque_capacity};
-ghost use Rattle.std.specs.Option.{option_map};
 ghost use Rattle.std.specs.Arc.{arc_value};
 ghost use Rattle.board_core.specs.Kept.{waiters_in};
-ghost use Rattle.board_core.specs.Parts.{fault_with, idle_reply, newcomers, share_due, TakesBelow, reaches};
+ghost use Rattle.board_core.specs.Parts.{fault_with, idle_reply, newcomers, TakesBelow, reaches};
 
 use crate::book::{Posted, Waiting};
 use crate::event::{End, Event};
@@ -51,8 +50,8 @@ pub fn take_below<J>(
     if is_stopped(fault, least) {
         return None;
     }
-    let Waiting { number, share } = waiting.pop_front()?;
-    Some(Task { number, job: share })
+    let Waiting { number, job } = waiting.pop_front()?;
+    Some(Task { number, job })
 }
 
 /// What a worker is told where nothing can be claimed.
@@ -63,17 +62,6 @@ pub fn idle<J>(end: Option<End>, fault: Option<(u32, Verdict)>) -> Claimed<J>
         (None, None) => Claimed::Empty,
         _ => Claimed::Over,
     }
-}
-
-/// The share that the claim of this job will give away; a settled job isn't claimed.
-pub fn share_of<J: Drop>(job: &Arc<J>, settled: bool) -> Result<Option<Arc<J>>, NoMemory>
-    ensures { IfOk result (λ share. option_map arc_value share
-        ≡ share_due (arc_value job.now) settled) }
-{
-    if settled {
-        return Ok(None);
-    }
-    Ok(Some(job.clone()?))
 }
 
 /// Makes room for one more job, its claim and its answer.
@@ -107,13 +95,19 @@ pub fn make_room<J>(
     Ok(())
 }
 
-/// Lets a job wait, if there is a share of it.
-pub fn let_wait<J: Drop>(waiting: &mut VecDeque<Waiting<J>>, number: u32, share: Option<Arc<J>>)
+/// Lets a job wait; a settled one is let go.
+pub fn let_wait<J: Drop>(
+    waiting: &mut VecDeque<Waiting<J>>,
+    number: u32,
+    job: Arc<J>,
+    settled: bool,
+)
     requires { deque_len waiting.old < deque_capacity waiting.old }
     ensures { waiters_in waiting.new.items ≡
-        waiters_in waiting.old.items ++ newcomers number (option_map arc_value share) }
+        waiters_in waiting.old.items ++ newcomers number (arc_value job) settled }
 {
-    if let Some(share) = share {
-        waiting.push_back_reserved(Waiting { number, share });
+    if settled {
+        return;
     }
+    waiting.push_back_reserved(Waiting { number, job });
 }

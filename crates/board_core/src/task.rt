@@ -2,8 +2,8 @@
 use dk_model::Verdict;
 use std::sync::Arc;
 
-/// A claimed job: its number, from 1, and a share of it. It can't be let go, only taken apart, so
-/// that whoever has claimed a job has to do something about it.
+/// A claimed job with its number, from 1. It can't be let go, only taken apart, so that whoever has
+/// claimed a job has to do something about it.
 pub struct Task<J> {
     pub number: u32,
     pub job: Arc<J>,

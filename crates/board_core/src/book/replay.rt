@@ -1,39 +1,51 @@
-//! A book made again from a history.
+//! A history done again at a new book.
 ghost use Rattle.std.specs.Prelude.{◌≡◌, ◌+◌, ◌≤◌, ◌++◌, ◌∷◌, [], length, IfOk, OnOk};
+ghost use Rattle.std.specs.Arc.{arc_value};
 ghost use Rattle.board_core.specs.declared.event.Event.{Event};
 ghost use Rattle.board_core.specs.Events.{puts};
 ghost use Rattle.board_core.specs.Machine.{IsLawful, marks_of};
-ghost use Rattle.board_core.specs.Shown.{part_of};
+ghost use Rattle.board_core.specs.Shown.{blanks, part_of};
 
 use crate::book::Book;
 use crate::event::Event;
 use crate::task::{Claimed, PutRefused, Task};
 use dk_model::NoMemory;
+use std::sync::Arc;
 
-impl<J: Drop> Book<J> {
-    /// The same book once more: each event of the history is done again at a new book, with shares
-    /// of the same jobs.
-    pub fn replay(&self) -> Result<Book<J>, NoMemory>
-        ensures { IfOk result (λ b. b ≡ self.now) }
+impl<J> Book<J> {
+    /// The history once more: each event of it is done again at a new book, whose jobs are all this
+    /// one, since those of the old book may have been let go.
+    pub fn replay<B: Drop>(&self, blank: &Arc<B>) -> Result<Book<B>, NoMemory>
+        ensures jobs { IfOk result (λ b. b.jobs ≡ blanks (arc_value blank.now) self.now.jobs) }
+        ensures events { IfOk result (λ b. b.events ≡ self.now.events) }
     {
         let mut book = Book::new(*self.history.allocator())?;
         for event in self.history() {
-            self.repeat(&mut book, *event)?;
+            self.repeat(blank, &mut book, *event)?;
         }
         Ok(book)
     }
 
     /// Does one event of this book's history at a book that has all events before it.
-    fn repeat(&self, book: &mut Book<J>, event: Event) -> Result<(), NoMemory>
-        requires lawful { IsLawful (marks_of self.now.jobs) (book.old.events ++ event ∷ []) }
-        requires within { puts (book.old.events ++ event ∷ []) ≤ length self.now.jobs }
-        requires part { book.old ≡ part_of self.now.jobs book.old.events }
-        ensures { OnOk result (book.new ≡ part_of self.now.jobs (book.old.events ++ event ∷ [])) }
+    fn repeat<B: Drop>(
+        &self,
+        blank: &Arc<B>,
+        book: &mut Book<B>,
+        event: Event,
+    ) -> Result<(), NoMemory>
+        requires lawful { IsLawful (marks_of (blanks (arc_value blank.now) self.now.jobs))
+            (book.old.events ++ event ∷ []) }
+        requires within { puts (book.old.events ++ event ∷ [])
+            ≤ length (blanks (arc_value blank.now) self.now.jobs) }
+        requires part { book.old
+            ≡ part_of (blanks (arc_value blank.now) self.now.jobs) book.old.events }
+        ensures { OnOk result (book.new ≡ part_of (blanks (arc_value blank.now) self.now.jobs)
+            (book.old.events ++ event ∷ [])) }
     {
         match event {
-            Event::Put(number) => self.repeat_put(book, number),
+            Event::Put(number) => self.repeat_put(blank, book, number),
             Event::Claim(worker, number) => {
-                self.repeat_claim(book, worker, number);
+                self.repeat_claim(blank, book, worker, number);
                 Ok(())
             }
             Event::Answer(worker, number, verdict) => {
@@ -47,25 +59,38 @@ impl<J: Drop> Book<J> {
         }
     }
 
-    fn repeat_put(&self, book: &mut Book<J>, number: u32) -> Result<(), NoMemory>
-        requires lawful { IsLawful (marks_of self.now.jobs) (book.old.events ++ Event.Put number ∷ []) }
-        requires within { puts (book.old.events ++ Event.Put number ∷ []) ≤ length self.now.jobs }
-        requires part { book.old ≡ part_of self.now.jobs book.old.events }
-        ensures { OnOk result (book.new ≡ part_of self.now.jobs (book.old.events ++ Event.Put number ∷ [])) }
+    fn repeat_put<B: Drop>(
+        &self,
+        blank: &Arc<B>,
+        book: &mut Book<B>,
+        number: u32,
+    ) -> Result<(), NoMemory>
+        requires lawful { IsLawful (marks_of (blanks (arc_value blank.now) self.now.jobs))
+            (book.old.events ++ Event.Put number ∷ []) }
+        requires within { puts (book.old.events ++ Event.Put number ∷ [])
+            ≤ length (blanks (arc_value blank.now) self.now.jobs) }
+        requires part { book.old
+            ≡ part_of (blanks (arc_value blank.now) self.now.jobs) book.old.events }
+        ensures { OnOk result (book.new ≡ part_of (blanks (arc_value blank.now) self.now.jobs)
+            (book.old.events ++ Event.Put number ∷ [])) }
     {
         let place = &self.jobs[number as usize - 1];
-        match book.put(place.job.clone()?, place.settled) {
+        match book.put(blank.clone()?, place.settled) {
             Ok(_) => Ok(()),
             Err(PutRefused::NoMemory { .. }) => Err(NoMemory),
             Err(PutRefused::Stopped { .. }) => unreachable!(),
         }
     }
 
-    fn repeat_claim(&self, book: &mut Book<J>, worker: u32, number: u32)
-        requires lawful { IsLawful (marks_of self.now.jobs) (book.old.events ++ Event.Claim worker number ∷ []) }
-        requires within { puts book.old.events ≤ length self.now.jobs }
-        requires part { book.old ≡ part_of self.now.jobs book.old.events }
-        ensures { book.new ≡ part_of self.now.jobs (book.old.events ++ Event.Claim worker number ∷ []) }
+    fn repeat_claim<B: Drop>(&self, blank: &Arc<B>, book: &mut Book<B>, worker: u32, number: u32)
+        requires lawful { IsLawful (marks_of (blanks (arc_value blank.now) self.now.jobs))
+            (book.old.events ++ Event.Claim worker number ∷ []) }
+        requires within { puts book.old.events
+            ≤ length (blanks (arc_value blank.now) self.now.jobs) }
+        requires part { book.old
+            ≡ part_of (blanks (arc_value blank.now) self.now.jobs) book.old.events }
+        ensures { book.new ≡ part_of (blanks (arc_value blank.now) self.now.jobs)
+            (book.old.events ++ Event.Claim worker number ∷ []) }
     {
         match book.claim(worker) {
             Claimed::Task(

@@ -21,7 +21,7 @@ pub invariant_of-self : goal.invariant_of-self
 invariant_of-self g c = let ok = subst (λ b. Allowed (marks_of b.jobs) b.events (Answer c.args.worker c.args.number c.args.verdict)) (sym c.self.view_is) c.requires in
     record {
       keeps = rw (c.push_reserved.ensures.items, c.push_reserved.ensures.capacity, c.fault_after-self-inside.ensures) (answer_keeps c.self.invariant.keeps _ _ _ ok);
-      shares = c.self.invariant.shares;
+      own = c.self.invariant.own;
     }
 
 pub returns-clause-idle : goal.returns-clause-idle

@@ -14,12 +14,12 @@ returns-in_default g c = let t = c.in_default.ensures in let none = subst (λ b.
 
 pub invariant_of-self-2 : goal.invariant_of-self-2
 invariant_of-self-2 g c = let t = c.in-Some.ensures in let none = subst (λ b. HoldsNone c.args.worker b.events) (sym c.self.view_is) c.requires in
-    let r = claim_holds (jobs_in c.self.inside.jobs.items) (waiters_in c.self.inside.waiting.items) c.self.invariant.keeps c.self.invariant.shares c.args.worker c.in-Some.task.number (arc_value c.in-Some.task.job) (waiters_in c.take_below.new.waiting.items) t.0 t.1 none in
-    record { keeps = rw (c.push_reserved.ensures.items, c.push_reserved.ensures.capacity) r.3; shares = r.4 }
+    let r = claim_holds (jobs_in c.self.inside.jobs.items) (waiters_in c.self.inside.waiting.items) c.self.invariant.keeps c.self.invariant.own c.args.worker c.in-Some.task.number (arc_value c.in-Some.task.job) (waiters_in c.take_below.new.waiting.items) t.0 t.1 none in
+    record { keeps = rw (c.push_reserved.ensures.items, c.push_reserved.ensures.capacity) r.3; own = r.4 }
 
 pub returns : goal.returns
 returns g c = let t = c.in-Some.ensures in let none = subst (λ b. HoldsNone c.args.worker b.events) (sym c.self.view_is) c.requires in
-    let r = claim_holds (jobs_in c.self.inside.jobs.items) (waiters_in c.self.inside.waiting.items) c.self.invariant.keeps c.self.invariant.shares c.args.worker c.in-Some.task.number (arc_value c.in-Some.task.job) (waiters_in c.take_below.new.waiting.items) t.0 t.1 none in
+    let r = claim_holds (jobs_in c.self.inside.jobs.items) (waiters_in c.self.inside.waiting.items) c.self.invariant.keeps c.self.invariant.own c.args.worker c.in-Some.task.number (arc_value c.in-Some.task.job) (waiters_in c.take_below.new.waiting.items) t.0 t.1 none in
     record {
       reply = rw (c.push_reserved.ensures.items, ← c.self.view_is) (r.1, r.2, refl);
       holds = rw c.push_reserved.ensures.items (holds_after _ _ c.self.invariant.keeps.lawful _ _ r.1);

@@ -17,7 +17,7 @@ returns-in-Some-clause-refused g c = let h = subst (IsFaultOf c.self.inside.hist
 pub invariant_of-self : goal.invariant_of-self
 invariant_of-self g c = let e = c.make_room.ensures in record {
   keeps = rw (e.jobs, e.waiting, e.verdicts, e.history) (roomier c.self.invariant.keeps _ e.kept);
-  shares = rw (e.jobs, e.waiting) c.self.invariant.shares;
+  own = rw (e.jobs, e.waiting) c.self.invariant.own;
 }
 
 pub invariant_of-self-2 : goal.invariant_of-self-2
@@ -27,11 +27,12 @@ invariant_of-self-2 g c = let e = c.make_room.ensures in let k = c.self.invarian
     let good = subst (IsFaultOf es) c.in_default.is k.fault_kept in
     let count : length (jobs_in items) ≡ length items = length-map items posted in
     let number : c.len.result + 1 ≡ length (jobs_in items) + 1 = omega (arith, c.len.ensures, ap length e.jobs, count) in
-    let more : 3 * (length (jobs_in items) + 1) + 1 ≤ vec_capacity c.make_room.new.history = (let r = c.in-Ok-make_room.ensures.history_room in omega (arith, r, count)) in
-    let t = put_holds (jobs_in items) (waiters_in c.self.inside.waiting.items) k c.self.invariant.shares (vec_capacity c.make_room.new.history) (c.len.result + 1) (arc_value c.args.job) c.args.settled number more few unsealed good
+    let more : 3 * (length (jobs_in items) + 1) + 1 ≤ vec_capacity c.make_room.new.history = (let r = c.in-Ok.ensures.history_room in omega (arith, r, count)) in
+    let t = put_holds (jobs_in items) (waiters_in c.self.inside.waiting.items) k c.self.invariant.own (vec_capacity c.make_room.new.history) (c.len.result + 1) (arc_value c.args.job) c.args.settled number more few unsealed good
     (jobs_in c.push_reserved.new.self.items) (waiters_in c.let_wait.new.waiting.items) c.push_reserved-2.new.self.items c.push_reserved-3.new.self.items
-    (ap jobs_in (c.push_reserved.ensures.items ∙ ap (λ l. l ++ record { job = c.args.job; settled = c.args.settled } ∷ []) e.jobs) ∙ map-append posted items (record { job = c.args.job; settled = c.args.settled } ∷ []))
-    (c.let_wait.ensures ∙ (λ i. waiters_in (e.waiting i) ++ newcomers (c.len.result + 1) (c.in-Ok.ensures i)))
+    (ap jobs_in (c.push_reserved.ensures.items ∙ ap (λ l. l ++ record { job = c.of-value.result; settled = c.args.settled } ∷ []) e.jobs) ∙ map-append posted items (record { job = c.of-value.result; settled = c.args.settled } ∷ [])
+    ∙ ap (λ v. jobs_in items ++ (v, c.args.settled) ∷ []) (c.of-value.ensures ∙ c.deref.ensures))
+    (c.let_wait.ensures ∙ (λ i. waiters_in (e.waiting i) ++ newcomers (c.len.result + 1) (arc_value c.args.job) c.args.settled))
     (c.push_reserved-2.ensures.items ∙ ap (λ l. l ++ None ∷ []) e.verdicts)
     (c.push_reserved-3.ensures.items ∙ ap (λ l. l ++ Put (c.len.result + 1) ∷ []) e.history) in
-    record { keeps = rw c.push_reserved-3.ensures.capacity t.0; shares = t.1 }
+    record { keeps = rw c.push_reserved-3.ensures.capacity t.0; own = t.1 }

@@ -12,5 +12,5 @@ pub invariant_of-self : goal.invariant_of-self
 invariant_of-self g c = let ok = subst (λ b. Allowed (marks_of b.jobs) b.events (Seal c.args.end)) (sym c.self.view_is) c.requires in
     record {
       keeps = rw (c.push_reserved.ensures.items, c.push_reserved.ensures.capacity) (seal_keeps c.self.invariant.keeps _ ok);
-      shares = c.self.invariant.shares;
+      own = c.self.invariant.own;
     }
