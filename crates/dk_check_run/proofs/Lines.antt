@@ -7,7 +7,7 @@ use Rattle.dk_model.specs.declared.limits.Limits.{Limits}
 use Rattle.dk_lexer.specs.declared.token.Token.{Token}
 use Rattle.dk_parser.specs.declared.terminal.Terminal.{Terminal}
 use Rattle.dk_parser.specs.declared.terminal.Terminal.TheVariants as terminal
-use Rattle.dk_parser.specs.Parsing.{Answer, Part, PartStep, Parsing, answered, command, commands_from, ends, goes, more, parsing_after, parsing_from, part_next, refused, refuses, started, turn, turn_by_fault, turn_by_step, turn_by_terminal, turn_refused}
+use Rattle.dk_parser.specs.Parsing.{Answer, CommandSoFar, Advance, Parsing, answered, command, commands_from, ends, goes, more, parsing_after, parsing_from, advanced, refused, refuses, started, turn, turn_by_fault, turn_by_step, turn_by_terminal, turn_refused}
 use Rattle.dk_parser.specs.Steps.{read_tokens}
 use Rattle.dk_parser.specs.Terminals.{terminal_of}
 use Rattle.dk_parser.proofs.Exact.{commands_append, parsing_append}
@@ -19,20 +19,20 @@ GoesOnAt line more s = s.begun ≡ Some line
 GoesOnAt line (command c) s = c.line ≡ line
 GoesOnAt line (refused code) s = s.begun ≡ Some line
 
-by_levels : (b : Bool) (s : Parsing) (line : ℕ) (part : Part) →
+by_levels : (b : Bool) (s : Parsing) (line : ℕ) (part : CommandSoFar) →
     GoesOnAt line (if b then turn_refused s line E04 else record { state = record s { begun = Some line; part = part }; answer = more }).answer
     (if b then turn_refused s line E04 else record { state = record s { begun = Some line; part = part }; answer = more }).state
 by_levels true s line part = refl
 by_levels false s line part = refl
 
-by_step : (s : Parsing) (line : ℕ) (p : PartStep) → GoesOnAt line (turn_by_step s line p).answer (turn_by_step s line p).state
+by_step : (s : Parsing) (line : ℕ) (p : Advance) → GoesOnAt line (turn_by_step s line p).answer (turn_by_step s line p).state
 by_step s line (goes made part) = by_levels (nat_lt s.limits.levels made) s line part
 by_step s line (ends form) = refl
 by_step s line refuses = refl
 
 by_terminal : (s : Parsing) (line : ℕ) (x : Terminal) → GoesOnAt line (turn_by_terminal s line x).answer (turn_by_terminal s line x).state
 by_terminal s line terminal.Profile = refl
-by_terminal s line x = by_step s line (part_next s.part x)
+by_terminal s line x = by_step s line (advanced s.part x)
 
 -- a token behind those of a command that has begun at this line, or its first token
 by_fault : (f : Option Code) (s : Parsing) (t : Token) (line : ℕ) → s.begun ≡ Some line → GoesOnAt line (turn_by_fault f s t).answer (turn_by_fault f s t).state

@@ -7,7 +7,7 @@ use Rattle.dk_parser.specs.declared.terminal.Terminal.{Terminal}
 use Rattle.dk_parser.specs.declared.terminal.Terminal.TheVariants as terminal
 use Rattle.dk_parser.specs.Written.{Written, written_qualified, written_star, written_apply, written_arrow, written_product, written_bare, written_annotated, WrittenParam, written_declare}
 use Rattle.dk_parser.specs.Grammar.{colon, dot, arrow, double_arrow, open_bracket, close_bracket, param, SpellsBinder, spells_binder, spells_no_binder, SpellsAtom, spells_name, spells_qualified, spells_star, spells_wildcard, spells_brackets, SpellsApplication, spells_head, spells_applied, SpellsTerm, spells_application, spells_arrow, spells_product, spells_bracketed_product, spells_bare, spells_annotated, SpellsParams, spells_no_params, spells_params}
-use Rattle.dk_parser.specs.Parsing.{Place, at_front, domain, Slot, due, bindable, applied, bracketed, bracket_frame, arrow_frame, product_frame, bare_frame, annotated_frame, Frames, bottom, on, TermPart, term_due, pushed, binder_term, slot_more, slot_binder, takes_atom, slot_term, in_frames, unwound, unwound_all, next_open, next_close, next_close_term, next_close_domain, next_arrow, framed, term_next, term_argument, term_done, slot_ended, in_bracket, takes, Head, level_behind, with_param, Purpose, as_param, as_type, as_body, Part, head_due, binder_due, binder_colon_due, in_term, behind_term, term_goes, term_ends, in_term_next}
+use Rattle.dk_parser.specs.Parsing.{Role, at_front, domain, Application, due, bindable, applied, bracketed, bracket_frame, arrow_frame, product_frame, bare_frame, annotated_frame, Frames, bottom, on, TermSoFar, term_due, pushed, binder_term, application_more, application_binder, takes_atom, application_term, in_frames, unwound, unwound_all, next_open, next_close, next_close_term, next_close_domain, next_arrow, framed, term_next, term_argument, term_done, application_ended, in_bracket, takes, Head, level_behind, with_param, Purpose, as_param, as_type, as_body, CommandSoFar, head_due, binder_due, binder_colon_due, in_term, behind_term, term_goes, term_ends, in_term_next}
 use Rattle.dk_parser.proofs.Machine.{ended, run_by, run}
 
 append_nil : {A : Type 0} (xs : List A) → xs ++ [] ≡ xs
@@ -15,7 +15,7 @@ append_nil [] = refl
 append_nil (x ∷ xs) = ap (λ ys. x ∷ ys) (append_nil xs)
 
 -- a term that goes on is no whole one in a bracket
-unwound_in : (fs : Frames) (a : Written) (q : TermPart) → unwound fs a ≡ Some q → in_bracket fs ≡ true
+unwound_in : (fs : Frames) (a : Written) (q : TermSoFar) → unwound fs a ≡ Some q → in_bracket fs ≡ true
 unwound_in (bottom level) a q e = cc
 unwound_in (on d (bracket_frame s) fs) a q e = refl
 unwound_in (on d (arrow_frame b) fs) a q e = unwound_in fs (written_arrow b a) q e
@@ -23,29 +23,29 @@ unwound_in (on d (product_frame v b) fs) a q e = unwound_in fs (written_product 
 unwound_in (on d (bare_frame v) fs) a q e = unwound_in fs (written_bare v a) q e
 unwound_in (on d (annotated_frame v b) fs) a q e = unwound_in fs (written_annotated v b a) q e
 
-close_term_in : (fs : Frames) (o : Option Written) (q : TermPart) → next_close_term fs o ≡ Some q → in_bracket fs ≡ true
+close_term_in : (fs : Frames) (o : Option Written) (q : TermSoFar) → next_close_term fs o ≡ Some q → in_bracket fs ≡ true
 close_term_in fs None q e = cc
 close_term_in fs (Some a) q e = unwound_in fs a q e
 
-close_domain_in : (fs : Frames) (v : Option (List ℕ)) (a : Written) (q : TermPart) → next_close_domain fs v a ≡ Some q → in_bracket fs ≡ true
+close_domain_in : (fs : Frames) (v : Option (List ℕ)) (a : Written) (q : TermSoFar) → next_close_domain fs v a ≡ Some q → in_bracket fs ≡ true
 close_domain_in (on d (bracket_frame (due at_front)) fs) v a q e = refl
 close_domain_in fs v a q e = cc
 
-close_in : (fs : Frames) (s : Slot) (q : TermPart) → next_close fs s ≡ Some q → in_bracket fs ≡ true
+close_in : (fs : Frames) (s : Application) (q : TermSoFar) → next_close fs s ≡ Some q → in_bracket fs ≡ true
 close_in fs (applied (domain v) a n) q e = close_domain_in fs v a q e
 close_in fs (applied at_front a n) q e = close_term_in fs (Some a) q e
 close_in fs (bindable v) q e = close_term_in fs (Some (binder_term v)) q e
-close_in fs (due place) q e = cc
+close_in fs (due role) q e = cc
 close_in fs (bracketed v a) q e = cc
 
 -- what a term goes on with is a terminal of a term
-pub next_takes : (p q : TermPart) (x : Terminal) → term_next p x ≡ Some q → takes p x ≡ true
+pub next_takes : (p q : TermSoFar) (x : Terminal) → term_next p x ≡ Some q → takes p x ≡ true
 next_takes p q (terminal.Name n) e = refl
 next_takes p q terminal.Wildcard e = refl
 next_takes p q (terminal.Qualified m n) e = refl
 next_takes p q terminal.Star e = refl
 next_takes p q (terminal.Sign sign.OpenBracket) e = refl
-next_takes p q (terminal.Sign sign.CloseBracket) e = close_in p.frames p.slot q e
+next_takes p q (terminal.Sign sign.CloseBracket) e = close_in p.frames p.application q e
 next_takes p q (terminal.Sign sign.Colon) e = refl
 next_takes p q (terminal.Sign sign.Arrow) e = refl
 next_takes p q (terminal.Sign sign.DoubleArrow) e = refl
@@ -60,82 +60,82 @@ whole_out (on d (product_frame v c) fs) a b e = whole_out fs (written_product v 
 whole_out (on d (bare_frame v) fs) a b e = whole_out fs (written_bare v a) b e
 whole_out (on d (annotated_frame v c) fs) a b e = whole_out fs (written_annotated v c a) b e
 
-ended_out : (o : Option Written) (fs : Frames) (b : Written) → slot_ended fs o ≡ Some b → in_bracket fs ≡ false
+ended_out : (o : Option Written) (fs : Frames) (b : Written) → application_ended fs o ≡ Some b → in_bracket fs ≡ false
 ended_out None fs b e = cc
 ended_out (Some a) fs b e = whole_out fs a b e
 
 -- a terminal that ends a whole term
 abbrev pub Enders : Terminal → Type 0
-Enders x = (p : TermPart) (a : Written) → term_done p ≡ Some a → takes p x ≡ false
+Enders x = (p : TermSoFar) (a : Written) → term_done p ≡ Some a → takes p x ≡ false
 
 pub close_enders : Enders close_bracket
-close_enders p a e = ended_out (slot_term p.slot) p.frames a e
+close_enders p a e = ended_out (application_term p.application) p.frames a e
 
-abbrev pub at : Frames → Slot → TermPart
-at fs s = record { frames = fs; slot = s }
+abbrev pub at : Frames → Application → TermSoFar
+at fs s = record { frames = fs; application = s }
 
--- the slot with an atom more; a name or a wildcard at the front of a term is first taken for a binder
-abbrev IsMore : Slot → Written → Slot → Type 0
-IsMore s a t = (slot_more s a ≡ Some t) ⊎ ((s ≡ due at_front) × ((v : Option (List ℕ)) × (t ≡ bindable v) × (binder_term v ≡ a)))
+-- the application with an atom more; a name or a wildcard at the front of a term is first taken for a binder
+abbrev IsMore : Application → Written → Application → Type 0
+IsMore s a t = (application_more s a ≡ Some t) ⊎ ((s ≡ due at_front) × ((v : Option (List ℕ)) × (t ≡ bindable v) × (binder_term v ≡ a)))
 
--- the slot behind an application
-abbrev IsBehind : Place → Written → Slot → Type 0
-IsBehind place a t = ((n : ℕ) × (t ≡ applied place a n)) ⊎ ((place ≡ at_front) × ((v : Option (List ℕ)) × (t ≡ bindable v) × (binder_term v ≡ a)))
+-- the application behind an application
+abbrev IsBehind : Role → Written → Application → Type 0
+IsBehind role a t = ((n : ℕ) × (t ≡ applied role a n)) ⊎ ((role ≡ at_front) × ((v : Option (List ℕ)) × (t ≡ bindable v) × (binder_term v ≡ a)))
 
-binder_more : (s : Slot) (v : Option (List ℕ)) → takes_atom s ≡ true → (t : Slot) × (slot_binder s v ≡ Some t) × IsMore s (binder_term v) t
+binder_more : (s : Application) (v : Option (List ℕ)) → takes_atom s ≡ true → (t : Application) × (application_binder s v ≡ Some t) × IsMore s (binder_term v) t
 binder_more (due at_front) v h = (bindable v, refl, inr (refl, (v, refl, refl)))
 binder_more (due (domain w)) v h = (applied (domain w) (binder_term v) 1, refl, inl refl)
 binder_more (bindable w) v h = (applied at_front (written_apply (binder_term w) (binder_term v)) 2, refl, inl refl)
-binder_more (applied place f n) v h = (applied place (written_apply f (binder_term v)) (n + 1), refl, inl refl)
+binder_more (applied role f n) v h = (applied role (written_apply f (binder_term v)) (n + 1), refl, inl refl)
 binder_more (bracketed w b) v h = cc
 
-pub atom_more : (s : Slot) (a : Written) → takes_atom s ≡ true → (t : Slot) × (slot_more s a ≡ Some t)
-atom_more (due place) a h = (applied place a 1, refl)
+pub atom_more : (s : Application) (a : Written) → takes_atom s ≡ true → (t : Application) × (application_more s a ≡ Some t)
+atom_more (due role) a h = (applied role a 1, refl)
 atom_more (bindable w) a h = (applied at_front (written_apply (binder_term w) a) 2, refl)
-atom_more (applied place f n) a h = (applied place (written_apply f a) (n + 1), refl)
+atom_more (applied role f n) a h = (applied role (written_apply f a) (n + 1), refl)
 atom_more (bracketed w b) a h = cc
 
-behind_head : (place : Place) (a : Written) (t : Slot) → IsMore (due place) a t → IsBehind place a t
-behind_head place a t (inl e) =
-    let same : t ≡ applied place a 1 = cc in
+behind_head : (role : Role) (a : Written) (t : Application) → IsMore (due role) a t → IsBehind role a t
+behind_head role a t (inl e) =
+    let same : t ≡ applied role a 1 = cc in
     inl (1, same)
-behind_head place a t (inr h) =
-    let same : place ≡ at_front = cc (h.0) in
+behind_head role a t (inr h) =
+    let same : role ≡ at_front = cc (h.0) in
     inr (same, h.1)
 
-behind_takes : (place : Place) (a : Written) (t : Slot) → IsBehind place a t → takes_atom t ≡ true
-behind_takes place a t (inl h) = ap takes_atom h.1
-behind_takes place a t (inr h) = ap takes_atom h.1.1
+behind_takes : (role : Role) (a : Written) (t : Application) → IsBehind role a t → takes_atom t ≡ true
+behind_takes role a t (inl h) = ap takes_atom h.1
+behind_takes role a t (inr h) = ap takes_atom h.1.1
 
-behind_more : (place : Place) (f a : Written) (s t : Slot) → IsBehind place f s → IsMore s a t → IsBehind place (written_apply f a) t
-behind_more place f a s t (inl h) (inl e) =
-    let more : slot_more s a ≡ Some (applied place (written_apply f a) (h.0 + 1)) = ap (λ s. slot_more s a) h.1 in
-    let same : t ≡ applied place (written_apply f a) (h.0 + 1) = cc in
+behind_more : (role : Role) (f a : Written) (s t : Application) → IsBehind role f s → IsMore s a t → IsBehind role (written_apply f a) t
+behind_more role f a s t (inl h) (inl e) =
+    let more : application_more s a ≡ Some (applied role (written_apply f a) (h.0 + 1)) = ap (λ s. application_more s a) h.1 in
+    let same : t ≡ applied role (written_apply f a) (h.0 + 1) = cc in
     inl (h.0 + 1, same)
-behind_more place f a s t (inr h) (inl e) =
-    let more : slot_more s a ≡ Some (applied at_front (written_apply (binder_term h.1.0) a) 2) = ap (λ s. slot_more s a) h.1.1 in
-    let front : applied at_front (written_apply (binder_term h.1.0) a) 2 ≡ applied place (written_apply f a) 2 = cc (h.0, h.1.2) in
+behind_more role f a s t (inr h) (inl e) =
+    let more : application_more s a ≡ Some (applied at_front (written_apply (binder_term h.1.0) a) 2) = ap (λ s. application_more s a) h.1.1 in
+    let front : applied at_front (written_apply (binder_term h.1.0) a) 2 ≡ applied role (written_apply f a) 2 = cc (h.0, h.1.2) in
     let same : t ≡ applied at_front (written_apply (binder_term h.1.0) a) 2 = cc in
     inl (2, same ∙ front)
-behind_more place f a s t (inl h) (inr e) = cc (h.1, e.0)
-behind_more place f a s t (inr h) (inr e) = cc (h.1.1, e.0)
+behind_more role f a s t (inl h) (inr e) = cc (h.1, e.0)
+behind_more role f a s t (inr h) (inr e) = cc (h.1.1, e.0)
 
 -- a term ends behind an application at its front
-behind_whole : (a : Written) (t : Slot) → IsBehind at_front a t → slot_term t ≡ Some a
-behind_whole a t (inl h) = ap slot_term h.1
-behind_whole a t (inr h) = ap slot_term h.1.1 ∙ ap (λ b. Some b) h.1.2
+behind_whole : (a : Written) (t : Application) → IsBehind at_front a t → application_term t ≡ Some a
+behind_whole a t (inl h) = ap application_term h.1
+behind_whole a t (inr h) = ap application_term h.1.1 ∙ ap (λ b. Some b) h.1.2
 
-behind_arrow : (fs : Frames) (a : Written) (t : Slot) → IsBehind at_front a t → next_arrow fs t ≡ framed (arrow_frame a) fs
+behind_arrow : (fs : Frames) (a : Written) (t : Application) → IsBehind at_front a t → next_arrow fs t ≡ framed (arrow_frame a) fs
 behind_arrow fs a t (inl h) = ap (next_arrow fs) h.1
 behind_arrow fs a t (inr h) = ap (next_arrow fs) h.1.1 ∙ ap (λ b. framed (arrow_frame b) fs) h.1.2
 
 -- a domain is no term
-behind_domain : (v : Option (List ℕ)) (a : Written) (t : Slot) → IsBehind (domain v) a t → (n : ℕ) × (t ≡ applied (domain v) a n)
+behind_domain : (v : Option (List ℕ)) (a : Written) (t : Application) → IsBehind (domain v) a t → (n : ℕ) × (t ≡ applied (domain v) a n)
 behind_domain v a t (inl h) = h
 behind_domain v a t (inr h) = cc (h.0)
 
-close_term : (fs : Frames) (t : Slot) (a : Written) → slot_term t ≡ Some a → next_close fs t ≡ unwound fs a
-close_term fs (due place) a e = cc
+close_term : (fs : Frames) (t : Application) (a : Written) → application_term t ≡ Some a → next_close fs t ≡ unwound fs a
+close_term fs (due role) a e = cc
 close_term fs (bindable v) a e = ap (next_close_term fs) e
 close_term fs (applied at_front b n) a e = ap (next_close_term fs) e
 close_term fs (applied (domain v) b n) a e = cc
@@ -145,89 +145,89 @@ binder_next : (fs : Frames) (x : Terminal) (v : Option (List ℕ)) → SpellsBin
 binder_next fs x v spells_binder = refl
 binder_next fs x v spells_no_binder = refl
 
-done_by : (fs : Frames) (o : Option Written) (b a : Written) → o ≡ Some b → unwound_all fs b ≡ Some a → slot_ended fs o ≡ Some a
-done_by fs o b a e h = ap (slot_ended fs) e ∙ h
+done_by : (fs : Frames) (o : Option Written) (b a : Written) → o ≡ Some b → unwound_all fs b ≡ Some a → application_ended fs o ≡ Some a
+done_by fs o b a e h = ap (application_ended fs) e ∙ h
 
 module _ (purpose : Purpose) where
-  abbrev wrap : TermPart → Part
+  abbrev wrap : TermSoFar → CommandSoFar
   wrap p = in_term purpose p
 
-  stepped : (p q : TermPart) (x : Terminal) (rest : List Terminal) → term_next p x ≡ Some q → run (wrap p) (x ∷ rest) ≡ run (wrap q) rest
+  stepped : (p q : TermSoFar) (x : Terminal) (rest : List Terminal) → term_next p x ≡ Some q → run (wrap p) (x ∷ rest) ≡ run (wrap q) rest
   stepped p q x rest e =
       ap (λ b. run_by (in_term_next b purpose p x) (λ r. run r rest) rest) (next_takes p q x e)
       ∙ ap (λ o. run_by (term_goes purpose (term_argument p x) o) (λ r. run r rest) rest) e
 
-  record AtomRun (fs : Frames) (s : Slot) (ys : List Terminal) (a : Written) (rest : List Terminal) : Type 0 where
-    pub slot : Slot
-    pub runs : run (wrap (at fs s)) (ys ++ rest) ≡ run (wrap (at fs slot)) rest
-    pub kind : IsMore s a slot
+  record AtomRun (fs : Frames) (s : Application) (ys : List Terminal) (a : Written) (rest : List Terminal) : Type 0 where
+    pub application : Application
+    pub runs : run (wrap (at fs s)) (ys ++ rest) ≡ run (wrap (at fs application)) rest
+    pub kind : IsMore s a application
 
-  record ApplicationRun (fs : Frames) (place : Place) (xs : List Terminal) (a : Written) (rest : List Terminal) : Type 0 where
-    pub slot : Slot
-    pub runs : run (wrap (at fs (due place))) (xs ++ rest) ≡ run (wrap (at fs slot)) rest
-    pub kind : IsBehind place a slot
+  record ApplicationRun (fs : Frames) (role : Role) (xs : List Terminal) (a : Written) (rest : List Terminal) : Type 0 where
+    pub application : Application
+    pub runs : run (wrap (at fs (due role))) (xs ++ rest) ≡ run (wrap (at fs application)) rest
+    pub kind : IsBehind role a application
 
   record TermRun (fs : Frames) (xs : List Terminal) (a : Written) (rest : List Terminal) : Type 0 where
     pub frames : Frames
-    pub slot : Slot
-    pub runs : run (wrap (at fs (due at_front))) (xs ++ rest) ≡ run (wrap (at frames slot)) rest
+    pub application : Application
+    pub runs : run (wrap (at fs (due at_front))) (xs ++ rest) ≡ run (wrap (at frames application)) rest
     pub last : Written
-    pub ends_in : slot_term slot ≡ Some last
+    pub ends_in : application_term application ≡ Some last
     pub closes : unwound frames last ≡ unwound fs a
     pub ends_all : unwound_all frames last ≡ unwound_all fs a
 
   abbrev AtomRuns : List Terminal → Written → Type 0
-  AtomRuns ys a = (fs : Frames) (s : Slot) (rest : List Terminal) → takes_atom s ≡ true → AtomRun fs s ys a rest
+  AtomRuns ys a = (fs : Frames) (s : Application) (rest : List Terminal) → takes_atom s ≡ true → AtomRun fs s ys a rest
 
   abbrev ApplicationRuns : List Terminal → Written → Type 0
-  ApplicationRuns xs a = (fs : Frames) (place : Place) (rest : List Terminal) → ApplicationRun fs place xs a rest
+  ApplicationRuns xs a = (fs : Frames) (role : Role) (rest : List Terminal) → ApplicationRun fs role xs a rest
 
   abbrev TermRuns : List Terminal → Written → Type 0
   TermRuns xs a = (fs : Frames) (rest : List Terminal) → TermRun fs xs a rest
 
-  binder_runs : (x : Terminal) (v : Option (List ℕ)) → ((fs : Frames) (s : Slot) → term_next (at fs s) x ≡ in_frames fs (slot_binder s v)) → AtomRuns (x ∷ []) (binder_term v)
+  binder_runs : (x : Terminal) (v : Option (List ℕ)) → ((fs : Frames) (s : Application) → term_next (at fs s) x ≡ in_frames fs (application_binder s v)) → AtomRuns (x ∷ []) (binder_term v)
   binder_runs x v h fs s rest takes =
       let t = binder_more s v takes in
-      record { slot = t.0; runs = stepped (at fs s) (at fs t.0) x rest (h fs s ∙ ap (in_frames fs) t.1); kind = t.2 }
+      record { application = t.0; runs = stepped (at fs s) (at fs t.0) x rest (h fs s ∙ ap (in_frames fs) t.1); kind = t.2 }
 
-  word_runs : (x : Terminal) (a : Written) → ((fs : Frames) (s : Slot) → term_next (at fs s) x ≡ in_frames fs (slot_more s a)) → AtomRuns (x ∷ []) a
+  word_runs : (x : Terminal) (a : Written) → ((fs : Frames) (s : Application) → term_next (at fs s) x ≡ in_frames fs (application_more s a)) → AtomRuns (x ∷ []) a
   word_runs x a h fs s rest takes =
       let t = atom_more s a takes in
-      record { slot = t.0; runs = stepped (at fs s) (at fs t.0) x rest (h fs s ∙ ap (in_frames fs) t.1); kind = inl t.1 }
+      record { application = t.0; runs = stepped (at fs s) (at fs t.0) x rest (h fs s ∙ ap (in_frames fs) t.1); kind = inl t.1 }
 
   bracket_runs : (xs : List Terminal) (a : Written) → TermRuns xs a → AtomRuns (open_bracket ∷ (xs ++ close_bracket ∷ [])) a
   bracket_runs xs a h fs s rest takes =
       let t = atom_more s a takes in
       let inside = h (pushed (bracket_frame s) fs) (close_bracket ∷ rest) in
       record {
-        slot = t.0;
+        application = t.0;
         runs = stepped (at fs s) (at (pushed (bracket_frame s) fs) (due at_front)) open_bracket ((xs ++ close_bracket ∷ []) ++ rest) (ap (λ b. next_open b fs s) takes)
             ∙ ap (run (wrap (at (pushed (bracket_frame s) fs) (due at_front)))) (append_assoc xs (close_bracket ∷ []) rest)
             ∙ inside.runs
-            ∙ stepped (at inside.frames inside.slot) (at fs t.0) close_bracket rest
-            (close_term inside.frames inside.slot inside.last inside.ends_in ∙ inside.closes ∙ ap (in_frames fs) t.1);
+            ∙ stepped (at inside.frames inside.application) (at fs t.0) close_bracket rest
+            (close_term inside.frames inside.application inside.last inside.ends_in ∙ inside.closes ∙ ap (in_frames fs) t.1);
         kind = inl t.1;
       }
 
   head_runs : (xs : List Terminal) (a : Written) → AtomRuns xs a → ApplicationRuns xs a
-  head_runs xs a h fs place rest =
-      let r = h fs (due place) rest refl in
-      record { slot = r.slot; runs = r.runs; kind = behind_head place a r.slot r.kind }
+  head_runs xs a h fs role rest =
+      let r = h fs (due role) rest refl in
+      record { application = r.application; runs = r.runs; kind = behind_head role a r.application r.kind }
 
   applied_runs : (xs ys : List Terminal) (f a : Written) → ApplicationRuns xs f → AtomRuns ys a → ApplicationRuns (xs ++ ys) (written_apply f a)
-  applied_runs xs ys f a h k fs place rest =
-      let r = h fs place (ys ++ rest) in
-      let q = k fs r.slot rest (behind_takes place f r.slot r.kind) in
+  applied_runs xs ys f a h k fs role rest =
+      let r = h fs role (ys ++ rest) in
+      let q = k fs r.application rest (behind_takes role f r.application r.kind) in
       record {
-        slot = q.slot;
-        runs = ap (run (wrap (at fs (due place)))) (append_assoc xs ys rest) ∙ r.runs ∙ q.runs;
-        kind = behind_more place f a r.slot q.slot r.kind q.kind;
+        application = q.application;
+        runs = ap (run (wrap (at fs (due role)))) (append_assoc xs ys rest) ∙ r.runs ∙ q.runs;
+        kind = behind_more role f a r.application q.application r.kind q.kind;
       }
 
   application_term : (xs : List Terminal) (a : Written) → ApplicationRuns xs a → TermRuns xs a
   application_term xs a h fs rest =
       let r = h fs at_front rest in
-      record { frames = fs; slot = r.slot; runs = r.runs; last = a; ends_in = behind_whole a r.slot r.kind; closes = refl; ends_all = refl }
+      record { frames = fs; application = r.application; runs = r.runs; last = a; ends_in = behind_whole a r.application r.kind; closes = refl; ends_all = refl }
 
   arrow_runs : (xs ys : List Terminal) (a b : Written) → ApplicationRuns xs a → TermRuns ys b → TermRuns (xs ++ arrow ∷ ys) (written_arrow a b)
   arrow_runs xs ys a b h k fs rest =
@@ -235,10 +235,10 @@ module _ (purpose : Purpose) where
       let q = k (pushed (arrow_frame a) fs) rest in
       record {
         frames = q.frames;
-        slot = q.slot;
+        application = q.application;
         runs = ap (run (wrap (at fs (due at_front)))) (append_assoc xs (arrow ∷ ys) rest)
             ∙ r.runs
-            ∙ stepped (at fs r.slot) (at (pushed (arrow_frame a) fs) (due at_front)) arrow (ys ++ rest) (behind_arrow fs a r.slot r.kind)
+            ∙ stepped (at fs r.application) (at (pushed (arrow_frame a) fs) (due at_front)) arrow (ys ++ rest) (behind_arrow fs a r.application r.kind)
             ∙ q.runs;
         last = q.last;
         ends_in = q.ends_in;
@@ -251,7 +251,7 @@ module _ (purpose : Purpose) where
       (n : ℕ) × (run (wrap (at fs (due at_front))) (x ∷ colon ∷ (xs ++ rest)) ≡ run (wrap (at fs (applied (domain v) a n))) rest)
   domain_runs x v xs a b h fs rest =
       let r = h fs (domain v) rest in
-      let d = behind_domain v a r.slot r.kind in (
+      let d = behind_domain v a r.application r.kind in (
         d.0,
         stepped (at fs (due at_front)) (at fs (bindable v)) x (colon ∷ (xs ++ rest)) (binder_next fs x v b)
             ∙ stepped (at fs (bindable v)) (at fs (due (domain v))) colon (xs ++ rest) refl
@@ -265,7 +265,7 @@ module _ (purpose : Purpose) where
       let q = k (pushed (product_frame v a) fs) rest in
       record {
         frames = q.frames;
-        slot = q.slot;
+        application = q.application;
         runs = ap (λ zs. run (wrap (at fs (due at_front))) (x ∷ colon ∷ zs)) (append_assoc xs (arrow ∷ ys) rest)
             ∙ d.1
             ∙ stepped (at fs (applied (domain v) a d.0)) (at (pushed (product_frame v a) fs) (due at_front)) arrow (ys ++ rest) refl
@@ -281,7 +281,7 @@ module _ (purpose : Purpose) where
       let q = k (pushed (bare_frame v) fs) rest in
       record {
         frames = q.frames;
-        slot = q.slot;
+        application = q.application;
         runs = stepped (at fs (due at_front)) (at fs (bindable v)) x (double_arrow ∷ (ys ++ rest)) (binder_next fs x v s)
             ∙ stepped (at fs (bindable v)) (at (pushed (bare_frame v) fs) (due at_front)) double_arrow (ys ++ rest) refl
             ∙ q.runs;
@@ -297,7 +297,7 @@ module _ (purpose : Purpose) where
       let q = k (pushed (annotated_frame v a) fs) rest in
       record {
         frames = q.frames;
-        slot = q.slot;
+        application = q.application;
         runs = ap (λ zs. run (wrap (at fs (due at_front))) (x ∷ colon ∷ zs)) (append_assoc xs (double_arrow ∷ ys) rest)
             ∙ d.1
             ∙ stepped (at fs (applied (domain v) a d.0)) (at (pushed (annotated_frame v a) fs) (due at_front)) double_arrow (ys ++ rest) refl
@@ -315,7 +315,7 @@ module _ (purpose : Purpose) where
       let q = k (pushed (product_frame v a) fs) rest in
       record {
         frames = q.frames;
-        slot = q.slot;
+        application = q.application;
         runs = ap (λ zs. run (wrap (at fs (due at_front))) (open_bracket ∷ x ∷ colon ∷ zs)) (append_assoc xs (close_bracket ∷ arrow ∷ ys) rest)
             ∙ stepped (at fs (due at_front)) (at inside (due at_front)) open_bracket (x ∷ colon ∷ (xs ++ close_bracket ∷ arrow ∷ (ys ++ rest))) refl
             ∙ d.1
@@ -352,8 +352,8 @@ module _ (purpose : Purpose) where
   pub term_complete : {xs : List Terminal} {a : Written} → SpellsTerm xs a → (level : ℕ) (x : Terminal) (rest : List Terminal) → Enders x → run (in_term purpose (term_due level)) (xs ++ x ∷ rest) ≡ run_by (behind_term purpose a x) (λ q. run q rest) rest
   term_complete {xs} {a} h level x rest enders =
       let r = term_runs h (bottom level) (x ∷ rest) in
-      let p = at r.frames r.slot in
-      let done : term_done p ≡ Some a = done_by r.frames (slot_term r.slot) r.last a r.ends_in r.ends_all in
+      let p = at r.frames r.application in
+      let done : term_done p ≡ Some a = done_by r.frames (application_term r.application) r.last a r.ends_in r.ends_all in
       r.runs
       ∙ ap (λ b. run_by (in_term_next b purpose p x) (λ q. run q rest) rest) (enders p a done)
       ∙ ap (λ o. run_by (term_ends purpose x o) (λ q. run q rest) rest) done

@@ -12,7 +12,7 @@ use Rattle.dk_parser.specs.Terminals.{terminal_of}
 use Rattle.dk_parser.specs.Written.{WrittenForm, WrittenCommand}
 use Rattle.dk_parser.specs.Grammar.{SpellsForm, terminals, first_line, Spells, Begins}
 use Rattle.dk_parser.specs.Levels.{level_or_argument, IsWithin}
-use Rattle.dk_parser.specs.Parsing.{Part, command_due, PartStep, goes, ends, refuses, part_next, Parsing, started, more, refused, Turn, turn, turn_refused, turn_by_step, turn_by_terminal, turn_by_fault, parsing_from, answered, commands_from}
+use Rattle.dk_parser.specs.Parsing.{CommandSoFar, command_due, Advance, goes, ends, refuses, advanced, Parsing, started, more, refused, Turn, turn, turn_refused, turn_by_step, turn_by_terminal, turn_by_fault, parsing_from, answered, commands_from}
 use Rattle.dk_parser.specs.Reading.{IsFault, IsFront, TokenReading, with_command, Reads, reads_nothing, reads_front, reads_fault, reads_command}
 use Rattle.dk_parser.specs.Steps.{fault_of, read_tokens, Extends}
 use Rattle.dk_parser.proofs.Machine.{going, ended, stuck, run_by, run, run_next, run_goes, front_goes}
@@ -70,7 +70,7 @@ within_nothing limit front rest x e = absurd (no_append front rest x (sym e))
 -- Turns
 
 -- a parser without a fault
-abbrev state_at : Limits → Option ℕ → Part → Parsing
+abbrev state_at : Limits → Option ℕ → CommandSoFar → Parsing
 state_at limits begun part = record { limits = limits; begun = begun; part = part; fault = None }
 
 abbrev read_from : Parsing → List Token → TokenReading
@@ -92,7 +92,7 @@ profile_or_not : (x : Terminal) → (x ≡ terminal.Profile) ⊎ (x ≡ terminal
 profile_or_not terminal.Profile = inl refl
 profile_or_not x = inr (λ e. cc)
 
-by_terminal : (s : Parsing) (line : ℕ) (x : Terminal) → (x ≡ terminal.Profile → ⊥) → turn_by_terminal s line x ≡ turn_by_step s line (part_next s.part x)
+by_terminal : (s : Parsing) (line : ℕ) (x : Terminal) → (x ≡ terminal.Profile → ⊥) → turn_by_terminal s line x ≡ turn_by_step s line (advanced s.part x)
 by_terminal s line terminal.Profile h = absurd (h refl)
 by_terminal s line x h = refl
 
@@ -126,54 +126,54 @@ read_refused s t ts line code e =
 
 module _ (limits : Limits) where
   -- the turn where the token is no word outside the profile
-  turn_at : (front : List Token) (p : Part) (t : Token) (step : PartStep) → (terminal_of t ≡ terminal.Profile → ⊥) → part_next p (terminal_of t) ≡ step →
+  turn_at : (front : List Token) (p : CommandSoFar) (t : Token) (step : Advance) → (terminal_of t ≡ terminal.Profile → ⊥) → advanced p (terminal_of t) ≡ step →
       turn (state_at limits (first_begun front) p) t ≡ turn_by_step (state_at limits (first_begun front) p) (first_line (front ++ t ∷ [])) step
   turn_at front p t step h e =
       by_terminal (state_at limits (first_begun front) p) (unwrap_or (first_begun front) t.line) (terminal_of t) h
-      ∙ ap (λ (step : PartStep). turn_by_step (state_at limits (first_begun front) p) (unwrap_or (first_begun front) t.line) step) e
+      ∙ ap (λ (step : Advance). turn_by_step (state_at limits (first_begun front) p) (unwrap_or (first_begun front) t.line) step) e
       ∙ ap (λ line. turn_by_step (state_at limits (first_begun front) p) line step) (line_of front t)
 
-  profile_read : (front : List Token) (p : Part) (t : Token) (ts : List Token) → terminal_of t ≡ terminal.Profile →
+  profile_read : (front : List Token) (p : CommandSoFar) (t : Token) (ts : List Token) → terminal_of t ≡ terminal.Profile →
       read_from (state_at limits (first_begun front) p) (t ∷ ts) ≡ fault_reading (first_line (front ++ t ∷ [])) E06
   profile_read front p t ts e =
       read_refused (state_at limits (first_begun front) p) t ts (first_line (front ++ t ∷ [])) E06
       (ap (λ (x : Terminal). turn_by_terminal (state_at limits (first_begun front) p) (unwrap_or (first_begun front) t.line) x) e
       ∙ ap (λ line. turn_refused (state_at limits (first_begun front) p) line E06) (line_of front t))
 
-  refused_read : (front : List Token) (p : Part) (t : Token) (ts : List Token) → (terminal_of t ≡ terminal.Profile → ⊥) → part_next p (terminal_of t) ≡ refuses →
+  refused_read : (front : List Token) (p : CommandSoFar) (t : Token) (ts : List Token) → (terminal_of t ≡ terminal.Profile → ⊥) → advanced p (terminal_of t) ≡ refuses →
       read_from (state_at limits (first_begun front) p) (t ∷ ts) ≡ fault_reading (first_line (front ++ t ∷ [])) E02
   refused_read front p t ts h e = read_refused (state_at limits (first_begun front) p) t ts (first_line (front ++ t ∷ [])) E02 (turn_at front p t refuses h e)
 
   -- the turn of a step that goes on
-  abbrev turn_on : Parsing → ℕ → Part → Bool → Turn
+  abbrev turn_on : Parsing → ℕ → CommandSoFar → Bool → Turn
   turn_on s line q b = if b then turn_refused s line E04 else record { state = record s { begun = Some line; part = q }; answer = more }
 
-  too_deep_read : (front : List Token) (p : Part) (t : Token) (ts : List Token) (made : ℕ) (q : Part) → (terminal_of t ≡ terminal.Profile → ⊥) → part_next p (terminal_of t) ≡ goes made q → nat_lt limits.levels made ≡ true →
+  too_deep_read : (front : List Token) (p : CommandSoFar) (t : Token) (ts : List Token) (made : ℕ) (q : CommandSoFar) → (terminal_of t ≡ terminal.Profile → ⊥) → advanced p (terminal_of t) ≡ goes made q → nat_lt limits.levels made ≡ true →
       read_from (state_at limits (first_begun front) p) (t ∷ ts) ≡ fault_reading (first_line (front ++ t ∷ [])) E04
   too_deep_read front p t ts made q h e b =
       read_refused (state_at limits (first_begun front) p) t ts (first_line (front ++ t ∷ [])) E04
       (turn_at front p t (goes made q) h e ∙ ap (turn_on (state_at limits (first_begun front) p) (first_line (front ++ t ∷ [])) q) b)
 
-  goes_read : (front : List Token) (p : Part) (t : Token) (ts : List Token) (made : ℕ) (q : Part) → (terminal_of t ≡ terminal.Profile → ⊥) → part_next p (terminal_of t) ≡ goes made q → nat_lt limits.levels made ≡ false →
+  goes_read : (front : List Token) (p : CommandSoFar) (t : Token) (ts : List Token) (made : ℕ) (q : CommandSoFar) → (terminal_of t ≡ terminal.Profile → ⊥) → advanced p (terminal_of t) ≡ goes made q → nat_lt limits.levels made ≡ false →
       read_from (state_at limits (first_begun front) p) (t ∷ ts) ≡ read_from (state_at limits (first_begun (front ++ t ∷ [])) q) ts
   goes_read front p t ts made q h e b =
       read_by (state_at limits (first_begun front) p) t ts (turn_on (state_at limits (first_begun front) p) (first_line (front ++ t ∷ [])) q false)
       (turn_at front p t (goes made q) h e ∙ ap (turn_on (state_at limits (first_begun front) p) (first_line (front ++ t ∷ [])) q) b)
       ∙ ap (λ (begun : Option ℕ). read_from (state_at limits begun q) ts) (ap (λ line. Some line) (sym (line_of front t)) ∙ sym (begun_more front t []))
 
-  ends_read : (front : List Token) (p : Part) (t : Token) (ts : List Token) (form : WrittenForm) → (terminal_of t ≡ terminal.Profile → ⊥) → part_next p (terminal_of t) ≡ ends form →
+  ends_read : (front : List Token) (p : CommandSoFar) (t : Token) (ts : List Token) (form : WrittenForm) → (terminal_of t ≡ terminal.Profile → ⊥) → advanced p (terminal_of t) ≡ ends form →
       read_from (state_at limits (first_begun front) p) (t ∷ ts) ≡ with_command (record { line = first_line (front ++ t ∷ []); form = form }) (read_tokens limits ts)
   ends_read front p t ts form h e =
       read_by (state_at limits (first_begun front) p) t ts (turn_by_step (state_at limits (first_begun front) p) (first_line (front ++ t ∷ [])) (ends form)) (turn_at front p t (ends form) h e)
 
-not_profile_goes : (p q : Part) (made : ℕ) (x : Terminal) → part_next p x ≡ goes made q → x ≡ terminal.Profile → ⊥
+not_profile_goes : (p q : CommandSoFar) (made : ℕ) (x : Terminal) → advanced p x ≡ goes made q → x ≡ terminal.Profile → ⊥
 not_profile_goes p q made x e is =
-    let r : part_next p x ≡ refuses = ap (part_next p) is ∙ profile_refused p in
+    let r : advanced p x ≡ refuses = ap (advanced p) is ∙ profile_refused p in
     cc
 
-not_profile_ends : (p : Part) (form : WrittenForm) (x : Terminal) → part_next p x ≡ ends form → x ≡ terminal.Profile → ⊥
+not_profile_ends : (p : CommandSoFar) (form : WrittenForm) (x : Terminal) → advanced p x ≡ ends form → x ≡ terminal.Profile → ⊥
 not_profile_ends p form x e is =
-    let r : part_next p x ≡ refuses = ap (part_next p) is ∙ profile_refused p in
+    let r : advanced p x ≡ refuses = ap (advanced p) is ∙ profile_refused p in
     cc
 
 below : (limit n : ℕ) → nat_lt limit n ≡ true → limit < n
@@ -195,19 +195,19 @@ below_test : (limit n : ℕ) → limit < n → nat_lt limit n ≡ true
 below_test limit n h = grind (arith, nat_tests)
 
 -- what no part takes begins no command
-refused_begins : (xs : List Terminal) (p : Part) (x : Terminal) → run command_due xs ≡ going p → part_next p x ≡ refuses → Begins (xs ++ x ∷ []) → ⊥
+refused_begins : (xs : List Terminal) (p : CommandSoFar) (x : Terminal) → run command_due xs ≡ going p → advanced p x ≡ refuses → Begins (xs ++ x ∷ []) → ⊥
 refused_begins xs p x is e (rest, form, h) =
     let whole : run command_due (xs ++ x ∷ rest) ≡ ended form [] = ap (run command_due) (sym (append_assoc xs (x ∷ []) rest)) ∙ complete h in
-    let next : run command_due (xs ++ x ∷ rest) ≡ stuck = run_next command_due p xs x rest is ∙ ap (λ (s : PartStep). run_by s (λ r. run r rest) rest) e in
+    let next : run command_due (xs ++ x ∷ rest) ≡ stuck = run_next command_due p xs x rest is ∙ ap (λ (s : Advance). run_by s (λ r. run r rest) rest) e in
     cc
 
 -- what a part takes begins one
-goes_begins : (xs : List Terminal) (p q : Part) (made : ℕ) (x : Terminal) → run command_due xs ≡ going p → part_next p x ≡ goes made q → Begins (xs ++ x ∷ [])
+goes_begins : (xs : List Terminal) (p q : CommandSoFar) (made : ℕ) (x : Terminal) → run command_due xs ≡ going p → advanced p x ≡ goes made q → Begins (xs ++ x ∷ [])
 goes_begins xs p q made x is e =
     let b = begins (xs ++ x ∷ []) q (run_goes command_due p q made xs x is e) in
     (b.0 ∷ b.1, b.2, b.3)
 
-ends_begins : (xs : List Terminal) (p : Part) (x : Terminal) (form : WrittenForm) → run command_due xs ≡ going p → part_next p x ≡ ends form → Begins (xs ++ x ∷ [])
+ends_begins : (xs : List Terminal) (p : CommandSoFar) (x : Terminal) (form : WrittenForm) → run command_due xs ≡ going p → advanced p x ≡ ends form → Begins (xs ++ x ∷ [])
 ends_begins xs p x form is e = ([], form, subst (λ ys. SpellsForm ys form) (sym (append_nil (xs ++ x ∷ []))) (sound xs p x form is e))
 
 terminals_more : (front : List Token) (t : Token) → terminals (front ++ t ∷ []) ≡ terminals front ++ terminal_of t ∷ []
@@ -215,14 +215,14 @@ terminals_more front t = terminals_append front (t ∷ [])
 
 module _ (limits : Limits) where
   -- a front of a command, and what is behind it
-  front_ok : (front : List Token) (p : Part) → run command_due (terminals front) ≡ going p → IsWithin limits.levels (terminals front) → IsFront limits front
+  front_ok : (front : List Token) (p : CommandSoFar) → run command_due (terminals front) ≡ going p → IsWithin limits.levels (terminals front) → IsFront limits front
   front_ok front p is w = record { begun = begins (terminals front) p is; within = w }
 
   -- the readings of what is behind a front, for every front
   abbrev Behind : List Token → Type 0
-  Behind us = (front : List Token) (p : Part) → run command_due (terminals front) ≡ going p → IsWithin limits.levels (terminals front) → Reads limits (front ++ us) (read_from (state_at limits (first_begun front) p) us)
+  Behind us = (front : List Token) (p : CommandSoFar) → run command_due (terminals front) ≡ going p → IsWithin limits.levels (terminals front) → Reads limits (front ++ us) (read_from (state_at limits (first_begun front) p) us)
 
-  exact_goes : (front : List Token) (p q : Part) (made : ℕ) (t : Token) (us : List Token) (b : Bool) → run command_due (terminals front) ≡ going p → IsWithin limits.levels (terminals front) → part_next p (terminal_of t) ≡ goes made q → nat_lt limits.levels made ≡ b → Behind us → Reads limits (front ++ t ∷ us) (read_from (state_at limits (first_begun front) p) (t ∷ us))
+  exact_goes : (front : List Token) (p q : CommandSoFar) (made : ℕ) (t : Token) (us : List Token) (b : Bool) → run command_due (terminals front) ≡ going p → IsWithin limits.levels (terminals front) → advanced p (terminal_of t) ≡ goes made q → nat_lt limits.levels made ≡ b → Behind us → Reads limits (front ++ t ∷ us) (read_from (state_at limits (first_begun front) p) (t ∷ us))
   exact_goes front p q made t us true is w e b later =
       let other = not_profile_goes p q made (terminal_of t) e in
       let deep : limits.levels < level_or_argument (terminals front) (terminal_of t) = subst (λ n. limits.levels < n) (sym (loaded (terminals front) p q made (terminal_of t) is e)) (below limits.levels made b) in
@@ -236,7 +236,7 @@ module _ (limits : Limits) where
       subst (λ ts. Reads limits ts (read_from (state_at limits (first_begun front) p) (t ∷ us))) (append_assoc front (t ∷ []) us)
       (subst (Reads limits ((front ++ t ∷ []) ++ us)) (sym (goes_read limits front p t us made q other e b)) (later (front ++ t ∷ []) q next w_next))
 
-  exact_ends : (front : List Token) (p : Part) (t : Token) (us : List Token) (form : WrittenForm) → run command_due (terminals front) ≡ going p → IsWithin limits.levels (terminals front) → part_next p (terminal_of t) ≡ ends form → Behind us → Reads limits (front ++ t ∷ us) (read_from (state_at limits (first_begun front) p) (t ∷ us))
+  exact_ends : (front : List Token) (p : CommandSoFar) (t : Token) (us : List Token) (form : WrittenForm) → run command_due (terminals front) ≡ going p → IsWithin limits.levels (terminals front) → advanced p (terminal_of t) ≡ ends form → Behind us → Reads limits (front ++ t ∷ us) (read_from (state_at limits (first_begun front) p) (t ∷ us))
   exact_ends front p t us form is w e later =
       let other = not_profile_ends p form (terminal_of t) e in
       let spelt : SpellsForm (terminals (front ++ t ∷ [])) form = subst (λ xs. SpellsForm xs form) (sym (terminals_more front t)) (sound (terminals front) p (terminal_of t) form is e) in
@@ -246,18 +246,18 @@ module _ (limits : Limits) where
       (subst (Reads limits ((front ++ t ∷ []) ++ us)) (sym (ends_read limits front p t us form other e))
       (reads_command (record { line = refl; form = spelt }) w_next (later [] command_due refl (within_nothing limits.levels))))
 
-  exact_step : (step : PartStep) (front : List Token) (p : Part) (t : Token) (us : List Token) → run command_due (terminals front) ≡ going p → IsWithin limits.levels (terminals front) → (terminal_of t ≡ terminal.Profile → ⊥) → part_next p (terminal_of t) ≡ step → Behind us → Reads limits (front ++ t ∷ us) (read_from (state_at limits (first_begun front) p) (t ∷ us))
+  exact_step : (step : Advance) (front : List Token) (p : CommandSoFar) (t : Token) (us : List Token) → run command_due (terminals front) ≡ going p → IsWithin limits.levels (terminals front) → (terminal_of t ≡ terminal.Profile → ⊥) → advanced p (terminal_of t) ≡ step → Behind us → Reads limits (front ++ t ∷ us) (read_from (state_at limits (first_begun front) p) (t ∷ us))
   exact_step (goes made q) front p t us is w other e later = exact_goes front p q made t us (nat_lt limits.levels made) is w e refl later
   exact_step (ends form) front p t us is w other e later = exact_ends front p t us form is w e later
   exact_step refuses front p t us is w other e later =
       subst (Reads limits (front ++ t ∷ us)) (sym (refused_read limits front p t us other e))
       (reads_fault {front = front} {code = E02} t us (front_ok front p is w) (other, refused_begins (terminals front) p (terminal_of t) is e))
 
-  exact_token : (front : List Token) (p : Part) (t : Token) (us : List Token) → run command_due (terminals front) ≡ going p → IsWithin limits.levels (terminals front) → ((terminal_of t ≡ terminal.Profile) ⊎ (terminal_of t ≡ terminal.Profile → ⊥)) → Behind us → Reads limits (front ++ t ∷ us) (read_from (state_at limits (first_begun front) p) (t ∷ us))
+  exact_token : (front : List Token) (p : CommandSoFar) (t : Token) (us : List Token) → run command_due (terminals front) ≡ going p → IsWithin limits.levels (terminals front) → ((terminal_of t ≡ terminal.Profile) ⊎ (terminal_of t ≡ terminal.Profile → ⊥)) → Behind us → Reads limits (front ++ t ∷ us) (read_from (state_at limits (first_begun front) p) (t ∷ us))
   exact_token front p t us is w (inl e) later =
       subst (Reads limits (front ++ t ∷ us)) (sym (profile_read limits front p t us e))
       (reads_fault {front = front} {code = E06} t us (front_ok front p is w) e)
-  exact_token front p t us is w (inr other) later = exact_step (part_next p (terminal_of t)) front p t us is w other refl later
+  exact_token front p t us is w (inr other) later = exact_step (advanced p (terminal_of t)) front p t us is w other refl later
 
   exact_from : (us : List Token) → Behind us
   exact_from [] [] p is w = reads_nothing
@@ -272,21 +272,21 @@ module _ (limits : Limits) where
 
 -- A list of tokens has no other reading
 
-stuck_goes : (s : PartStep) (p : Part) (x : Terminal) (xs : List Terminal) (q : Part) → part_next p x ≡ s → run_by s (λ r. run r xs) xs ≡ going q → (made : ℕ) × (r : Part) × (part_next p x ≡ goes made r)
+stuck_goes : (s : Advance) (p : CommandSoFar) (x : Terminal) (xs : List Terminal) (q : CommandSoFar) → advanced p x ≡ s → run_by s (λ r. run r xs) xs ≡ going q → (made : ℕ) × (r : CommandSoFar) × (advanced p x ≡ goes made r)
 stuck_goes (goes made r) p x xs q e is = (made, r, e)
 stuck_goes (ends form) p x xs q e is = cc
 stuck_goes refuses p x xs q e is = cc
 
 -- the run of a front with one terminal more
-step_run : (front : List Token) (p : Part) (t : Token) (us : List Token) → run command_due (terminals front) ≡ going p → run command_due (terminals (front ++ t ∷ us)) ≡ run_by (part_next p (terminal_of t)) (λ r. run r (terminals us)) (terminals us)
+step_run : (front : List Token) (p : CommandSoFar) (t : Token) (us : List Token) → run command_due (terminals front) ≡ going p → run command_due (terminals (front ++ t ∷ us)) ≡ run_by (advanced p (terminal_of t)) (λ r. run r (terminals us)) (terminals us)
 step_run front p t us is = ap (run command_due) (terminals_append front (t ∷ us)) ∙ run_next command_due p (terminals front) (terminal_of t) (terminals us) is
 
-begins_goes : (s : PartStep) (xs : List Terminal) (p : Part) (x : Terminal) (limit : ℕ) → run command_due xs ≡ going p → limit < level_or_argument xs x → Begins (xs ++ x ∷ []) → part_next p x ≡ s → (made : ℕ) × (q : Part) × (part_next p x ≡ goes made q)
+begins_goes : (s : Advance) (xs : List Terminal) (p : CommandSoFar) (x : Terminal) (limit : ℕ) → run command_due xs ≡ going p → limit < level_or_argument xs x → Begins (xs ++ x ∷ []) → advanced p x ≡ s → (made : ℕ) × (q : CommandSoFar) × (advanced p x ≡ goes made q)
 begins_goes (goes made q) xs p x limit is d b e = (made, q, e)
 begins_goes (ends form) xs p x limit is d b e = absurd (none_below limit (subst (λ n. limit < n) (end_load xs p x form is e) d))
 begins_goes refuses xs p x limit is d b e = absurd (refused_begins xs p x is e b)
 
-refuses_step : (s : PartStep) (xs : List Terminal) (p : Part) (x : Terminal) → run command_due xs ≡ going p → (Begins (xs ++ x ∷ []) → ⊥) → part_next p x ≡ s → part_next p x ≡ refuses
+refuses_step : (s : Advance) (xs : List Terminal) (p : CommandSoFar) (x : Terminal) → run command_due xs ≡ going p → (Begins (xs ++ x ∷ []) → ⊥) → advanced p x ≡ s → advanced p x ≡ refuses
 refuses_step (goes made q) xs p x is n e = absurd (n (goes_begins xs p q made x is e))
 refuses_step (ends form) xs p x is n e = absurd (n (ends_begins xs p x form is e))
 refuses_step refuses xs p x is n e = e
@@ -294,10 +294,10 @@ refuses_step refuses xs p x is n e = e
 module _ (limits : Limits) where
   -- what is behind a front reads on from it
   abbrev Walks : List Token → Type 0
-  Walks us = (front : List Token) (p q : Part) (rest : List Token) → run command_due (terminals front) ≡ going p → run command_due (terminals (front ++ us)) ≡ going q → IsWithin limits.levels (terminals (front ++ us)) →
+  Walks us = (front : List Token) (p q : CommandSoFar) (rest : List Token) → run command_due (terminals front) ≡ going p → run command_due (terminals (front ++ us)) ≡ going q → IsWithin limits.levels (terminals (front ++ us)) →
       read_from (state_at limits (first_begun front) p) (us ++ rest) ≡ read_from (state_at limits (first_begun (front ++ us)) q) rest
 
-  walk_goes : (front : List Token) (p r q : Part) (made : ℕ) (t : Token) (us rest : List Token) → run command_due (terminals front) ≡ going p → part_next p (terminal_of t) ≡ goes made r → run command_due (terminals (front ++ t ∷ us)) ≡ going q → IsWithin limits.levels (terminals (front ++ t ∷ us)) → Walks us →
+  walk_goes : (front : List Token) (p r q : CommandSoFar) (made : ℕ) (t : Token) (us rest : List Token) → run command_due (terminals front) ≡ going p → advanced p (terminal_of t) ≡ goes made r → run command_due (terminals (front ++ t ∷ us)) ≡ going q → IsWithin limits.levels (terminals (front ++ t ∷ us)) → Walks us →
       read_from (state_at limits (first_begun front) p) (t ∷ (us ++ rest)) ≡ read_from (state_at limits (first_begun (front ++ t ∷ us)) q) rest
   walk_goes front p r q made t us rest is e whole w later =
       let lists : (front ++ t ∷ []) ++ us ≡ front ++ t ∷ us = append_assoc front (t ∷ []) us in
@@ -314,15 +314,15 @@ module _ (limits : Limits) where
       ap (λ p. read_from (state_at limits (first_begun front) p) rest) same
       ∙ ap (λ ts. read_from (state_at limits (first_begun ts) q) rest) (sym (append_nil front))
   walk (t ∷ us) front p q rest is whole w =
-      let r = stuck_goes (part_next p (terminal_of t)) p (terminal_of t) (terminals us) q refl (sym (step_run front p t us is) ∙ whole) in
+      let r = stuck_goes (advanced p (terminal_of t)) p (terminal_of t) (terminals us) q refl (sym (step_run front p t us is) ∙ whole) in
       walk_goes front p r.1 q r.0 t us rest is r.2 whole w (walk us)
 
   -- a whole command is read as one
   abbrev Ends : List Token → Type 0
-  Ends us = (front : List Token) (p : Part) (form : WrittenForm) (rest : List Token) → run command_due (terminals front) ≡ going p → run command_due (terminals (front ++ us)) ≡ ended form [] → IsWithin limits.levels (terminals (front ++ us)) →
+  Ends us = (front : List Token) (p : CommandSoFar) (form : WrittenForm) (rest : List Token) → run command_due (terminals front) ≡ going p → run command_due (terminals (front ++ us)) ≡ ended form [] → IsWithin limits.levels (terminals (front ++ us)) →
       read_from (state_at limits (first_begun front) p) (us ++ rest) ≡ with_command (record { line = first_line (front ++ us); form = form }) (read_tokens limits rest)
 
-  end_goes : (front : List Token) (p r : Part) (made : ℕ) (form : WrittenForm) (t : Token) (us rest : List Token) → run command_due (terminals front) ≡ going p → part_next p (terminal_of t) ≡ goes made r → run command_due (terminals (front ++ t ∷ us)) ≡ ended form [] → IsWithin limits.levels (terminals (front ++ t ∷ us)) → Ends us →
+  end_goes : (front : List Token) (p r : CommandSoFar) (made : ℕ) (form : WrittenForm) (t : Token) (us rest : List Token) → run command_due (terminals front) ≡ going p → advanced p (terminal_of t) ≡ goes made r → run command_due (terminals (front ++ t ∷ us)) ≡ ended form [] → IsWithin limits.levels (terminals (front ++ t ∷ us)) → Ends us →
       read_from (state_at limits (first_begun front) p) (t ∷ (us ++ rest)) ≡ with_command (record { line = first_line (front ++ t ∷ us); form = form }) (read_tokens limits rest)
   end_goes front p r made form t us rest is e whole w later =
       let lists : (front ++ t ∷ []) ++ us ≡ front ++ t ∷ us = append_assoc front (t ∷ []) us in
@@ -332,7 +332,7 @@ module _ (limits : Limits) where
       ∙ later (front ++ t ∷ []) r form rest next (subst (λ ts. run command_due (terminals ts) ≡ ended form []) (sym lists) whole) (subst (λ ts. IsWithin limits.levels (terminals ts)) (sym lists) w)
       ∙ ap (λ ts. with_command (record { line = first_line ts; form = form }) (read_tokens limits rest)) lists
 
-  end_step : (s : PartStep) (front : List Token) (p : Part) (form : WrittenForm) (t : Token) (us rest : List Token) → run command_due (terminals front) ≡ going p → part_next p (terminal_of t) ≡ s → run_by s (λ r. run r (terminals us)) (terminals us) ≡ ended form [] → run command_due (terminals (front ++ t ∷ us)) ≡ ended form [] → IsWithin limits.levels (terminals (front ++ t ∷ us)) → Ends us →
+  end_step : (s : Advance) (front : List Token) (p : CommandSoFar) (form : WrittenForm) (t : Token) (us rest : List Token) → run command_due (terminals front) ≡ going p → advanced p (terminal_of t) ≡ s → run_by s (λ r. run r (terminals us)) (terminals us) ≡ ended form [] → run command_due (terminals (front ++ t ∷ us)) ≡ ended form [] → IsWithin limits.levels (terminals (front ++ t ∷ us)) → Ends us →
       read_from (state_at limits (first_begun front) p) (t ∷ (us ++ rest)) ≡ with_command (record { line = first_line (front ++ t ∷ us); form = form }) (read_tokens limits rest)
   end_step (goes made r) front p form t us rest is e left whole w later = end_goes front p r made form t us rest is e whole w later
   end_step (ends f) front p form t [] rest is e left whole w later =
@@ -347,18 +347,18 @@ module _ (limits : Limits) where
       let whole_front : run command_due (terminals front) ≡ ended form [] = subst (λ ts. run command_due (terminals ts) ≡ ended form []) (append_nil front) whole in
       cc
   end_walk (t ∷ us) front p form rest is whole w =
-      end_step (part_next p (terminal_of t)) front p form t us rest is refl (sym (step_run front p t us is) ∙ whole) whole w (end_walk us)
+      end_step (advanced p (terminal_of t)) front p form t us rest is refl (sym (step_run front p t us is) ∙ whole) whole w (end_walk us)
 
 -- the part that a front leads to
-front_part : (limits : Limits) (ts : List Token) → IsFront limits ts → (p : Part) × (run command_due (terminals ts) ≡ going p)
+front_part : (limits : Limits) (ts : List Token) → IsFront limits ts → (p : CommandSoFar) × (run command_due (terminals ts) ≡ going p)
 front_part limits ts f = front_goes command_due (terminals ts) f.begun.0 f.begun.1 f.begun.2 (complete f.begun.3)
 
-fault_read : (code : Code) (limits : Limits) (front : List Token) (p : Part) (t : Token) (rest : List Token) → IsFront limits front → run command_due (terminals front) ≡ going p → IsFault limits (terminals front) (terminal_of t) code →
+fault_read : (code : Code) (limits : Limits) (front : List Token) (p : CommandSoFar) (t : Token) (rest : List Token) → IsFront limits front → run command_due (terminals front) ≡ going p → IsFault limits (terminals front) (terminal_of t) code →
     read_from (state_at limits (first_begun front) p) (t ∷ rest) ≡ fault_reading (first_line (front ++ t ∷ [])) code
 fault_read E06 limits front p t rest f is h = profile_read limits front p t rest h
-fault_read E02 limits front p t rest f is h = refused_read limits front p t rest h.0 (refuses_step (part_next p (terminal_of t)) (terminals front) p (terminal_of t) is h.1 refl)
+fault_read E02 limits front p t rest f is h = refused_read limits front p t rest h.0 (refuses_step (advanced p (terminal_of t)) (terminals front) p (terminal_of t) is h.1 refl)
 fault_read E04 limits front p t rest f is h =
-    let q = begins_goes (part_next p (terminal_of t)) (terminals front) p (terminal_of t) limits.levels is h.1 h.0 refl in
+    let q = begins_goes (advanced p (terminal_of t)) (terminals front) p (terminal_of t) limits.levels is h.1 h.0 refl in
     let deep : limits.levels < q.0 = subst (λ n. limits.levels < n) (loaded (terminals front) p q.1 q.0 (terminal_of t) is q.2) h.1 in
     too_deep_read limits front p t rest q.0 q.1 (not_profile_goes p q.1 q.0 (terminal_of t) q.2) q.2 (below_test limits.levels q.0 deep)
 fault_read code limits front p t rest f is h = absurd h

@@ -10,7 +10,7 @@ use Rattle.dk_parser.specs.declared.terminal.Terminal.TheVariants as terminal
 use Rattle.dk_parser.specs.Written.{Written, written_qualified, written_star, written_apply, written_arrow, written_product, written_bare, written_annotated, WrittenParam, WrittenPattern, pattern_qualified, pattern_guard, WrittenForm}
 use Rattle.dk_parser.specs.Grammar.{dot, param, entry}
 use Rattle.dk_parser.specs.Levels.{Group, empty_group, atom_more, Groups, no_groups, with_inner, closed, groups_behind, Side, in_head, behind_head, on_left, Standing, at_start, params_closed, side_at_colon, standing_behind, standing_from, standing, arrows_of, level_of, argument_in, level_or_argument}
-use Rattle.dk_parser.specs.Parsing.{at_front, domain, Slot, due, bindable, applied, bracketed, Frame, bracket_frame, arrow_frame, product_frame, bare_frame, annotated_frame, Frames, bottom, on, TermPart, depth, pushed, binder_term, atoms, slot_more, slot_binder, takes_atom, in_frames, unwound, next_open, next_close, next_close_term, next_close_domain, next_colon, next_arrow, next_double_arrow, framed, term_next, term_argument, term_done, in_bracket, takes, PatternSlot, pattern_due, pattern_bindable, pattern_applied, Binders, no_binders, binder_on, PatternFrames, no_bracket, bracket_on, PatternPart, pattern_depth, pattern_atoms, pattern_more, pattern_binder, slot_pattern, under_binders, with_atom, with_binder, pattern_opened, pattern_closed, pattern_bound, pattern_next, pattern_argument, pattern_done, RuleHead, with_entry, with_rule, Head, level_behind, with_param, Purpose, as_param, as_type, as_body, as_entry, as_guard, as_right, Part, command_due, name_due, head_due, binder_due, binder_colon_due, rule_name_due, rule_brace_due, square_due, context_due, entry_due, entry_named, in_left, in_term, PartStep, goes, ends, refuses, body_due, body_behind_head, body_behind_type, dot_behind_type, behind_entry, behind_rule, behind_term, named_next, left_goes, right_due, guard_due, left_next, term_goes, term_ends, in_term_next, head_next, part_next}
+use Rattle.dk_parser.specs.Parsing.{at_front, domain, Application, due, bindable, applied, bracketed, Frame, bracket_frame, arrow_frame, product_frame, bare_frame, annotated_frame, Frames, bottom, on, TermSoFar, depth, pushed, binder_term, atoms, application_more, application_binder, takes_atom, in_frames, unwound, next_open, next_close, next_close_term, next_close_domain, next_colon, next_arrow, next_double_arrow, framed, term_next, term_argument, term_done, in_bracket, takes, LeftApplication, pattern_due, pattern_bindable, pattern_applied, Binders, no_binders, binder_on, PatternFrames, no_bracket, bracket_on, LeftSoFar, pattern_depth, pattern_atoms, pattern_more, pattern_binder, left_pattern, under_binders, with_atom, with_binder, pattern_opened, pattern_closed, pattern_bound, pattern_next, pattern_argument, pattern_done, RuleHead, with_entry, with_rule, Head, level_behind, with_param, Purpose, as_param, as_type, as_body, as_entry, as_guard, as_right, CommandSoFar, command_due, name_due, head_due, binder_due, binder_colon_due, rule_name_due, rule_brace_due, square_due, context_due, entry_due, entry_named, in_left, in_term, Advance, goes, ends, refuses, body_due, body_behind_head, body_behind_type, dot_behind_type, behind_entry, behind_rule, behind_term, named_next, left_goes, right_due, guard_due, left_next, term_goes, term_ends, in_term_next, head_next, advanced}
 use Rattle.dk_parser.proofs.Machine.{going, run, follow}
 use Rattle.dk_parser.proofs.Complete.{at, next_takes, close_enders}
 
@@ -30,8 +30,8 @@ module _ (params : ℕ) (under : List Group) where
   Counted (bottom level) = level ≡ params + arrows_of under
   Counted (on d f fs) = (d ≡ depth fs + 1) × Counted fs
 
-  abbrev part_groups : TermPart → Groups
-  part_groups p = groups_of p.frames 0 (atoms p.slot)
+  abbrev part_groups : TermSoFar → Groups
+  part_groups p = groups_of p.frames 0 (atoms p.application)
 
   atoms_more : (fs : Frames) (k n : ℕ) → record { inner = record { arrows = (groups_of fs k n).inner.arrows; atoms = (groups_of fs k n).inner.atoms + 1 }; outer = (groups_of fs k n).outer } ≡ groups_of fs k (n + 1)
   atoms_more (bottom level) k n = refl
@@ -90,54 +90,54 @@ module _ (params : ℕ) (under : List Group) where
   nothing_more : (n : ℕ) → n + 0 ≡ n
   nothing_more n = omega arith
 
-  part_depth : (p : TermPart) → Counted p.frames → group_level (part_groups p) ≡ depth p.frames
-  part_depth p c = level_depth p.frames 0 (atoms p.slot) c ∙ nothing_more (depth p.frames)
+  so_far_depth : (p : TermSoFar) → Counted p.frames → group_level (part_groups p) ≡ depth p.frames
+  so_far_depth p c = level_depth p.frames 0 (atoms p.application) c ∙ nothing_more (depth p.frames)
 
   -- these are the groups of a part
-  record IsGrouped (gs : Groups) (q : TermPart) : Type 0 where
+  record IsGrouped (gs : Groups) (q : TermSoFar) : Type 0 where
     pub same : gs ≡ part_groups q
     pub counted : Counted q.frames
 
-  grouped_at : (gs : Groups) (p q : TermPart) → Some p ≡ Some q → IsGrouped gs p → IsGrouped gs q
+  grouped_at : (gs : Groups) (p q : TermSoFar) → Some p ≡ Some q → IsGrouped gs p → IsGrouped gs q
   grouped_at gs p q e h =
       let same : p ≡ q = cc in
       subst (IsGrouped gs) same h
 
-  slot_atoms : (s t : Slot) (a : Written) → slot_more s a ≡ Some t → atoms s + 1 ≡ atoms t
-  slot_atoms (due place) t a e =
-      let same : applied place a 1 ≡ t = cc in
+  application_atoms : (s t : Application) (a : Written) → application_more s a ≡ Some t → atoms s + 1 ≡ atoms t
+  application_atoms (due role) t a e =
+      let same : applied role a 1 ≡ t = cc in
       ap atoms same
-  slot_atoms (bindable v) t a e =
+  application_atoms (bindable v) t a e =
       let same : applied at_front (written_apply (binder_term v) a) 2 ≡ t = cc in
       ap atoms same
-  slot_atoms (applied place f n) t a e =
-      let same : applied place (written_apply f a) (n + 1) ≡ t = cc in
+  application_atoms (applied role f n) t a e =
+      let same : applied role (written_apply f a) (n + 1) ≡ t = cc in
       ap atoms same
-  slot_atoms (bracketed v b) t a e = cc
+  application_atoms (bracketed v b) t a e = cc
 
-  binder_atoms : (s t : Slot) (v : Option (List ℕ)) → slot_binder s v ≡ Some t → atoms s + 1 ≡ atoms t
+  binder_atoms : (s t : Application) (v : Option (List ℕ)) → application_binder s v ≡ Some t → atoms s + 1 ≡ atoms t
   binder_atoms (due at_front) t v e =
       let same : bindable v ≡ t = cc in
       ap atoms same
-  binder_atoms (due (domain w)) t v e = slot_atoms (due (domain w)) t (binder_term v) e
-  binder_atoms (bindable w) t v e = slot_atoms (bindable w) t (binder_term v) e
-  binder_atoms (applied place f n) t v e = slot_atoms (applied place f n) t (binder_term v) e
+  binder_atoms (due (domain w)) t v e = application_atoms (due (domain w)) t (binder_term v) e
+  binder_atoms (bindable w) t v e = application_atoms (bindable w) t (binder_term v) e
+  binder_atoms (applied role f n) t v e = application_atoms (applied role f n) t (binder_term v) e
   binder_atoms (bracketed w b) t v e = cc
 
   -- an atom
-  atom_grouped : (o : Option Slot) (fs : Frames) (n : ℕ) (q : TermPart) → Counted fs → ((t : Slot) → o ≡ Some t → n + 1 ≡ atoms t) → in_frames fs o ≡ Some q →
+  atom_grouped : (o : Option Application) (fs : Frames) (n : ℕ) (q : TermSoFar) → Counted fs → ((t : Application) → o ≡ Some t → n + 1 ≡ atoms t) → in_frames fs o ≡ Some q →
       IsGrouped (record { inner = record { arrows = (groups_of fs 0 n).inner.arrows; atoms = (groups_of fs 0 n).inner.atoms + 1 }; outer = (groups_of fs 0 n).outer }) q
   atom_grouped None fs n q c h e = cc
   atom_grouped (Some t) fs n q c h e =
       grouped_at _ (at fs t) q e (record { same = atoms_more fs 0 n ∙ ap (groups_of fs 0) (h t refl); counted = c })
 
   -- a frame
-  arrow_grouped : (f : Frame) (fs : Frames) (n : ℕ) (q : TermPart) → Counted fs → ((d : ℕ) → groups_of (on d f fs) 0 0 ≡ groups_of fs 1 0) → framed f fs ≡ Some q →
+  arrow_grouped : (f : Frame) (fs : Frames) (n : ℕ) (q : TermSoFar) → Counted fs → ((d : ℕ) → groups_of (on d f fs) 0 0 ≡ groups_of fs 1 0) → framed f fs ≡ Some q →
       IsGrouped (record { inner = record { arrows = (groups_of fs 0 n).inner.arrows + 1; atoms = 0 }; outer = (groups_of fs 0 n).outer }) q
   arrow_grouped f fs n q c h e =
       grouped_at _ (at (pushed f fs) (due at_front)) q e (record { same = arrows_more fs 0 n ∙ sym (h (depth fs + 1)); counted = (refl, c) })
 
-  open_grouped : (b : Bool) (s : Slot) (fs : Frames) (q : TermPart) → Counted fs → next_open b fs s ≡ Some q →
+  open_grouped : (b : Bool) (s : Application) (fs : Frames) (q : TermSoFar) → Counted fs → next_open b fs s ≡ Some q →
       IsGrouped (record { inner = empty_group; outer = record { arrows = (groups_of fs 0 (atoms s)).inner.arrows; atoms = (groups_of fs 0 (atoms s)).inner.atoms + 1 } ∷ (groups_of fs 0 (atoms s)).outer }) q
   open_grouped true s fs q c e =
       grouped_at _ (at (pushed (bracket_frame s) fs) (due at_front)) q e
@@ -148,65 +148,65 @@ module _ (params : ℕ) (under : List Group) where
   abbrev out : Groups → Groups
   out gs = closed gs gs.outer
 
-  bracket_grouped : (o : Option Slot) (s : Slot) (fs : Frames) (k n : ℕ) (d : ℕ) (q : TermPart) → Counted fs → ((t : Slot) → o ≡ Some t → atoms s + 1 ≡ atoms t) → in_frames fs o ≡ Some q → IsGrouped (out (groups_of (on d (bracket_frame s) fs) k n)) q
+  bracket_grouped : (o : Option Application) (s : Application) (fs : Frames) (k n : ℕ) (d : ℕ) (q : TermSoFar) → Counted fs → ((t : Application) → o ≡ Some t → atoms s + 1 ≡ atoms t) → in_frames fs o ≡ Some q → IsGrouped (out (groups_of (on d (bracket_frame s) fs) k n)) q
   bracket_grouped None s fs k n d q c h e = cc
   bracket_grouped (Some t) s fs k n d q c h e =
       grouped_at _ (at fs t) q e (record { same = ap (groups_of fs 0) (h t refl); counted = c })
 
-  unwound_grouped : (fs : Frames) (a : Written) (k n : ℕ) (q : TermPart) → Counted fs → unwound fs a ≡ Some q → IsGrouped (out (groups_of fs k n)) q
+  unwound_grouped : (fs : Frames) (a : Written) (k n : ℕ) (q : TermSoFar) → Counted fs → unwound fs a ≡ Some q → IsGrouped (out (groups_of fs k n)) q
   unwound_grouped (bottom level) a k n q c e = cc
-  unwound_grouped (on d (bracket_frame s) fs) a k n q c e = bracket_grouped (slot_more s a) s fs k n d q c.1 (λ t h. slot_atoms s t a h) e
+  unwound_grouped (on d (bracket_frame s) fs) a k n q c e = bracket_grouped (application_more s a) s fs k n d q c.1 (λ t h. application_atoms s t a h) e
   unwound_grouped (on d (arrow_frame b) fs) a k n q c e = unwound_grouped fs (written_arrow b a) (k + 1) n q c.1 e
   unwound_grouped (on d (product_frame v b) fs) a k n q c e = unwound_grouped fs (written_product v b a) (k + 1) n q c.1 e
   unwound_grouped (on d (bare_frame v) fs) a k n q c e = unwound_grouped fs (written_bare v a) (k + 1) n q c.1 e
   unwound_grouped (on d (annotated_frame v b) fs) a k n q c e = unwound_grouped fs (written_annotated v b a) (k + 1) n q c.1 e
 
-  closed_grouped : (o : Option Written) (fs : Frames) (n : ℕ) (q : TermPart) → Counted fs → next_close_term fs o ≡ Some q → IsGrouped (out (groups_of fs 0 n)) q
+  closed_grouped : (o : Option Written) (fs : Frames) (n : ℕ) (q : TermSoFar) → Counted fs → next_close_term fs o ≡ Some q → IsGrouped (out (groups_of fs 0 n)) q
   closed_grouped None fs n q c e = cc
   closed_grouped (Some a) fs n q c e = unwound_grouped fs a 0 n q c e
 
-  domain_grouped : (fs : Frames) (v : Option (List ℕ)) (a : Written) (n : ℕ) (q : TermPart) → Counted fs → next_close_domain fs v a ≡ Some q → IsGrouped (out (groups_of fs 0 n)) q
+  domain_grouped : (fs : Frames) (v : Option (List ℕ)) (a : Written) (n : ℕ) (q : TermSoFar) → Counted fs → next_close_domain fs v a ≡ Some q → IsGrouped (out (groups_of fs 0 n)) q
   domain_grouped (on d (bracket_frame (due at_front)) fs) v a n q c e =
       grouped_at _ (at fs (bracketed v a)) q e (record { same = refl; counted = c.1 })
   domain_grouped fs v a n q c e = cc
 
-  close_grouped : (s : Slot) (fs : Frames) (q : TermPart) → Counted fs → next_close fs s ≡ Some q → IsGrouped (out (groups_of fs 0 (atoms s))) q
+  close_grouped : (s : Application) (fs : Frames) (q : TermSoFar) → Counted fs → next_close fs s ≡ Some q → IsGrouped (out (groups_of fs 0 (atoms s))) q
   close_grouped (applied (domain v) a n) fs q c e = domain_grouped fs v a n q c e
   close_grouped (applied at_front a n) fs q c e = closed_grouped (Some a) fs n q c e
   close_grouped (bindable v) fs q c e = closed_grouped (Some (binder_term v)) fs 1 q c e
-  close_grouped (due place) fs q c e = cc
+  close_grouped (due role) fs q c e = cc
   close_grouped (bracketed v a) fs q c e = cc
 
-  colon_grouped : (s : Slot) (fs : Frames) (q : TermPart) → Counted fs → next_colon fs s ≡ Some q →
+  colon_grouped : (s : Application) (fs : Frames) (q : TermSoFar) → Counted fs → next_colon fs s ≡ Some q →
       IsGrouped (record { inner = record { arrows = (groups_of fs 0 (atoms s)).inner.arrows; atoms = 0 }; outer = (groups_of fs 0 (atoms s)).outer }) q
   colon_grouped (bindable v) fs q c e = grouped_at _ (at fs (due (domain v))) q e (record { same = atoms_over fs 0 1; counted = c })
   colon_grouped s fs q c e = cc
 
-  next_arrow_grouped : (s : Slot) (fs : Frames) (q : TermPart) → Counted fs → next_arrow fs s ≡ Some q →
+  next_arrow_grouped : (s : Application) (fs : Frames) (q : TermSoFar) → Counted fs → next_arrow fs s ≡ Some q →
       IsGrouped (record { inner = record { arrows = (groups_of fs 0 (atoms s)).inner.arrows + 1; atoms = 0 }; outer = (groups_of fs 0 (atoms s)).outer }) q
-  next_arrow_grouped (due place) fs q c e = cc
+  next_arrow_grouped (due role) fs q c e = cc
   next_arrow_grouped (bindable v) fs q c e = arrow_grouped (arrow_frame (binder_term v)) fs 1 q c (λ d. refl) e
   next_arrow_grouped (applied at_front a n) fs q c e = arrow_grouped (arrow_frame a) fs n q c (λ d. refl) e
   next_arrow_grouped (applied (domain v) a n) fs q c e = arrow_grouped (product_frame v a) fs n q c (λ d. refl) e
   next_arrow_grouped (bracketed v a) fs q c e = arrow_grouped (product_frame v a) fs 1 q c (λ d. refl) e
 
-  next_double_grouped : (s : Slot) (fs : Frames) (q : TermPart) → Counted fs → next_double_arrow fs s ≡ Some q →
+  next_double_grouped : (s : Application) (fs : Frames) (q : TermSoFar) → Counted fs → next_double_arrow fs s ≡ Some q →
       IsGrouped (record { inner = record { arrows = (groups_of fs 0 (atoms s)).inner.arrows + 1; atoms = 0 }; outer = (groups_of fs 0 (atoms s)).outer }) q
   next_double_grouped (bindable v) fs q c e = arrow_grouped (bare_frame v) fs 1 q c (λ d. refl) e
   next_double_grouped (applied (domain v) a n) fs q c e = arrow_grouped (annotated_frame v a) fs n q c (λ d. refl) e
   next_double_grouped s fs q c e = cc
 
   -- one terminal more of a term
-  term_grouped : (p q : TermPart) (x : Terminal) → Counted p.frames → term_next p x ≡ Some q → IsGrouped (groups_behind (part_groups p) x) q
-  term_grouped p q (terminal.Name n) c e = atom_grouped (slot_binder p.slot (Some n)) p.frames (atoms p.slot) q c (λ t h. binder_atoms p.slot t (Some n) h) e
-  term_grouped p q terminal.Wildcard c e = atom_grouped (slot_binder p.slot None) p.frames (atoms p.slot) q c (λ t h. binder_atoms p.slot t None h) e
-  term_grouped p q (terminal.Qualified m n) c e = atom_grouped (slot_more p.slot (written_qualified m n)) p.frames (atoms p.slot) q c (λ t h. slot_atoms p.slot t (written_qualified m n) h) e
-  term_grouped p q terminal.Star c e = atom_grouped (slot_more p.slot written_star) p.frames (atoms p.slot) q c (λ t h. slot_atoms p.slot t written_star h) e
-  term_grouped p q (terminal.Sign sign.OpenBracket) c e = open_grouped (takes_atom p.slot) p.slot p.frames q c e
-  term_grouped p q (terminal.Sign sign.CloseBracket) c e = close_grouped p.slot p.frames q c e
-  term_grouped p q (terminal.Sign sign.Colon) c e = colon_grouped p.slot p.frames q c e
-  term_grouped p q (terminal.Sign sign.Arrow) c e = next_arrow_grouped p.slot p.frames q c e
-  term_grouped p q (terminal.Sign sign.DoubleArrow) c e = next_double_grouped p.slot p.frames q c e
+  term_grouped : (p q : TermSoFar) (x : Terminal) → Counted p.frames → term_next p x ≡ Some q → IsGrouped (groups_behind (part_groups p) x) q
+  term_grouped p q (terminal.Name n) c e = atom_grouped (application_binder p.application (Some n)) p.frames (atoms p.application) q c (λ t h. binder_atoms p.application t (Some n) h) e
+  term_grouped p q terminal.Wildcard c e = atom_grouped (application_binder p.application None) p.frames (atoms p.application) q c (λ t h. binder_atoms p.application t None h) e
+  term_grouped p q (terminal.Qualified m n) c e = atom_grouped (application_more p.application (written_qualified m n)) p.frames (atoms p.application) q c (λ t h. application_atoms p.application t (written_qualified m n) h) e
+  term_grouped p q terminal.Star c e = atom_grouped (application_more p.application written_star) p.frames (atoms p.application) q c (λ t h. application_atoms p.application t written_star h) e
+  term_grouped p q (terminal.Sign sign.OpenBracket) c e = open_grouped (takes_atom p.application) p.application p.frames q c e
+  term_grouped p q (terminal.Sign sign.CloseBracket) c e = close_grouped p.application p.frames q c e
+  term_grouped p q (terminal.Sign sign.Colon) c e = colon_grouped p.application p.frames q c e
+  term_grouped p q (terminal.Sign sign.Arrow) c e = next_arrow_grouped p.application p.frames q c e
+  term_grouped p q (terminal.Sign sign.DoubleArrow) c e = next_double_grouped p.application p.frames q c e
   term_grouped p q x c e = cc
 
 abbrev standing_in : ℕ → Side → Groups → Standing
@@ -223,8 +223,8 @@ abbrev frame_groups : PatternFrames → ℕ → Groups
 frame_groups no_bracket n = record { inner = record { arrows = 0; atoms = n }; outer = [] }
 frame_groups (bracket_on d s vs fs) n = record { inner = record { arrows = binder_count vs; atoms = n }; outer = (frame_groups fs (pattern_atoms s + 1)).inner ∷ (frame_groups fs (pattern_atoms s + 1)).outer }
 
-abbrev left_groups : PatternPart → Groups
-left_groups part = frame_groups part.frames (pattern_atoms part.slot)
+abbrev left_groups : LeftSoFar → Groups
+left_groups part = frame_groups part.frames (pattern_atoms part.application)
 
 -- the brackets count the levels
 abbrev LeftCounted : PatternFrames → Type 0
@@ -248,7 +248,7 @@ left_atoms_more no_bracket n = refl
 left_atoms_more (bracket_on d s vs fs) n = refl
 
 -- the groups around a guard
-abbrev guard_under : PatternPart → List Group
+abbrev guard_under : LeftSoFar → List Group
 guard_under part = atom_more (left_groups part).inner ∷ (left_groups part).outer
 
 -- the parameters that have closed, the side and the groups around a term
@@ -282,7 +282,7 @@ under_of (as_entry h n) = []
 under_of (as_guard h part) = guard_under part
 under_of (as_right h l) = []
 
-abbrev term_groups : Purpose → TermPart → Groups
+abbrev term_groups : Purpose → TermSoFar → Groups
 term_groups purpose p = part_groups (params_of purpose) (under_of purpose) p
 
 abbrev CountedIn : Purpose → Frames → Type 0
@@ -304,7 +304,7 @@ abbrev one_atom : Groups
 one_atom = record { inner = record { arrows = 0; atoms = 1 }; outer = [] }
 
 -- this is where a part of a command stands
-abbrev StandsAt : Standing → Part → Type 0
+abbrev StandsAt : Standing → CommandSoFar → Type 0
 StandsAt st command_due = st ≡ at_start
 StandsAt st (name_due s) = st ≡ at_start
 StandsAt st (head_due h) = st ≡ standing_in (level_behind h) in_head (record { inner = name_group (level_behind h); outer = [] })
@@ -324,12 +324,12 @@ abbrev load_in : Standing → Terminal → ℕ
 load_in st x = max (level_of (standing_behind st x)) (argument_in st x)
 
 -- what a step leaves, and the load of its terminal
-abbrev Stepped : Standing → Terminal → PartStep → Type 0
+abbrev Stepped : Standing → Terminal → Advance → Type 0
 Stepped st x (goes made q) = StandsAt (standing_behind st x) q × (load_in st x ≡ made)
 Stepped st x (ends form) = x ≡ dot
 Stepped st x refuses = Unit {0}
 
-stepped_from : (st at_it : Standing) (x : Terminal) (s : PartStep) → st ≡ at_it → Stepped at_it x s → Stepped st x s
+stepped_from : (st at_it : Standing) (x : Terminal) (s : Advance) → st ≡ at_it → Stepped at_it x s → Stepped st x s
 stepped_from st at_it x s e h = subst (λ (st : Standing). Stepped st x s) (sym e) h
 
 -- Terms
@@ -362,16 +362,16 @@ colon_in_head : (gs : List Group) → (gs ≡ [] → ⊥) → side_at_colon in_h
 colon_in_head [] h = absurd (h refl)
 colon_in_head (g ∷ gs) h = refl
 
-params_stay : (purpose : Purpose) (p : TermPart) → in_bracket p.frames ≡ true → params_closed (side_of purpose) (term_groups purpose p).outer (params_of purpose) ≡ params_of purpose
-params_stay (as_param h v) p e = inner_closed (level_behind h) (record { arrows = 0; atoms = (level_behind h + 1) + 1 }) [] p.frames 0 (atoms p.slot) in_head (level_behind h) e
+params_stay : (purpose : Purpose) (p : TermSoFar) → in_bracket p.frames ≡ true → params_closed (side_of purpose) (term_groups purpose p).outer (params_of purpose) ≡ params_of purpose
+params_stay (as_param h v) p e = inner_closed (level_behind h) (record { arrows = 0; atoms = (level_behind h + 1) + 1 }) [] p.frames 0 (atoms p.application) in_head (level_behind h) e
 params_stay (as_type h) p e = refl
 params_stay (as_body h typ) p e = refl
 params_stay (as_entry h n) p e = refl
 params_stay (as_guard h part) p e = refl
 params_stay (as_right h l) p e = refl
 
-side_stays : (purpose : Purpose) (p : TermPart) → side_at_colon (side_of purpose) (term_groups purpose p).outer ≡ side_of purpose
-side_stays (as_param h v) p = colon_in_head (term_groups (as_param h v) p).outer (some_under (level_behind h) (record { arrows = 0; atoms = (level_behind h + 1) + 1 }) [] p.frames 0 (atoms p.slot))
+side_stays : (purpose : Purpose) (p : TermSoFar) → side_at_colon (side_of purpose) (term_groups purpose p).outer ≡ side_of purpose
+side_stays (as_param h v) p = colon_in_head (term_groups (as_param h v) p).outer (some_under (level_behind h) (record { arrows = 0; atoms = (level_behind h + 1) + 1 }) [] p.frames 0 (atoms p.application))
 side_stays (as_type h) p = refl
 side_stays (as_body h typ) p = refl
 side_stays (as_entry h n) p = refl
@@ -379,7 +379,7 @@ side_stays (as_guard h part) p = refl
 side_stays (as_right h l) p = refl
 
 -- a terminal of a term changes its groups alone
-term_stands : (purpose : Purpose) (p q : TermPart) (x : Terminal) → term_next p x ≡ Some q → standing_behind (standing_in (params_of purpose) (side_of purpose) (term_groups purpose p)) x ≡ standing_in (params_of purpose) (side_of purpose) (groups_behind (term_groups purpose p) x)
+term_stands : (purpose : Purpose) (p q : TermSoFar) (x : Terminal) → term_next p x ≡ Some q → standing_behind (standing_in (params_of purpose) (side_of purpose) (term_groups purpose p)) x ≡ standing_in (params_of purpose) (side_of purpose) (groups_behind (term_groups purpose p) x)
 term_stands purpose p q (terminal.Sign sign.CloseBracket) e =
     ap (λ n. standing_in n (side_of purpose) (groups_behind (term_groups purpose p) (terminal.Sign sign.CloseBracket))) (params_stay purpose p (next_takes p q (terminal.Sign sign.CloseBracket) e))
 term_stands purpose p q (terminal.Sign sign.Colon) e =
@@ -394,21 +394,21 @@ term_stands purpose p q (terminal.Sign sign.OpenBrace) e = cc
 term_stands purpose p q (terminal.Sign sign.CloseBrace) e = cc
 term_stands purpose p q x e = refl
 
-argument_same : (purpose : Purpose) (p q : TermPart) (x : Terminal) → term_next p x ≡ Some q → argument_in (standing_in (params_of purpose) (side_of purpose) (term_groups purpose p)) x ≡ term_argument p x
-argument_same purpose p q (terminal.Name n) e = inner_atoms (params_of purpose) (under_of purpose) p.frames 0 (atoms p.slot)
-argument_same purpose p q (terminal.Qualified m n) e = inner_atoms (params_of purpose) (under_of purpose) p.frames 0 (atoms p.slot)
-argument_same purpose p q terminal.Star e = inner_atoms (params_of purpose) (under_of purpose) p.frames 0 (atoms p.slot)
-argument_same purpose p q terminal.Wildcard e = inner_atoms (params_of purpose) (under_of purpose) p.frames 0 (atoms p.slot)
-argument_same purpose p q (terminal.Sign sign.OpenBracket) e = inner_atoms (params_of purpose) (under_of purpose) p.frames 0 (atoms p.slot)
+argument_same : (purpose : Purpose) (p q : TermSoFar) (x : Terminal) → term_next p x ≡ Some q → argument_in (standing_in (params_of purpose) (side_of purpose) (term_groups purpose p)) x ≡ term_argument p x
+argument_same purpose p q (terminal.Name n) e = inner_atoms (params_of purpose) (under_of purpose) p.frames 0 (atoms p.application)
+argument_same purpose p q (terminal.Qualified m n) e = inner_atoms (params_of purpose) (under_of purpose) p.frames 0 (atoms p.application)
+argument_same purpose p q terminal.Star e = inner_atoms (params_of purpose) (under_of purpose) p.frames 0 (atoms p.application)
+argument_same purpose p q terminal.Wildcard e = inner_atoms (params_of purpose) (under_of purpose) p.frames 0 (atoms p.application)
+argument_same purpose p q (terminal.Sign sign.OpenBracket) e = inner_atoms (params_of purpose) (under_of purpose) p.frames 0 (atoms p.application)
 argument_same purpose p q (terminal.Sign sign.OpenBrace) e = cc
 argument_same purpose p q x e = refl
 
-term_stepped : (o : Option TermPart) (purpose : Purpose) (p : TermPart) (x : Terminal) → CountedIn purpose p.frames → CountedAround purpose → term_next p x ≡ o → Stepped (standing_in (params_of purpose) (side_of purpose) (term_groups purpose p)) x (term_goes purpose (term_argument p x) o)
+term_stepped : (o : Option TermSoFar) (purpose : Purpose) (p : TermSoFar) (x : Terminal) → CountedIn purpose p.frames → CountedAround purpose → term_next p x ≡ o → Stepped (standing_in (params_of purpose) (side_of purpose) (term_groups purpose p)) x (term_goes purpose (term_argument p x) o)
 term_stepped None purpose p x c d e = tt
 term_stepped (Some q) purpose p x c d e =
     let k = term_grouped (params_of purpose) (under_of purpose) p q x c e in
     let s = term_stands purpose p q x e ∙ ap (standing_in (params_of purpose) (side_of purpose)) k.same in
-    ((s, k.counted, d), ap (λ l. max l (argument_in (standing_in (params_of purpose) (side_of purpose) (term_groups purpose p)) x)) (ap level_of s ∙ part_depth (params_of purpose) (under_of purpose) q k.counted) ∙ ap (max (depth q.frames)) (argument_same purpose p q x e))
+    ((s, k.counted, d), ap (λ l. max l (argument_in (standing_in (params_of purpose) (side_of purpose) (term_groups purpose p)) x)) (ap level_of s ∙ so_far_depth (params_of purpose) (under_of purpose) q k.counted) ∙ ap (max (depth q.frames)) (argument_same purpose p q x e))
 
 -- Steps of a command
 
@@ -479,12 +479,12 @@ rule_stepped h (terminal.Sign sign.OpenSquare) gs = (refl, refl)
 rule_stepped h (terminal.Sign sign.OpenBrace) gs = (refl, refl)
 rule_stepped h x gs = tt
 
-more_atoms : (s : PatternSlot) (p : WrittenPattern) → pattern_atoms s + 1 ≡ pattern_atoms (pattern_more s p)
+more_atoms : (s : LeftApplication) (p : WrittenPattern) → pattern_atoms s + 1 ≡ pattern_atoms (pattern_more s p)
 more_atoms pattern_due p = refl
 more_atoms (pattern_bindable v) p = refl
 more_atoms (pattern_applied f n) p = refl
 
-more_binders : (s : PatternSlot) (v : Option (List ℕ)) → pattern_atoms s + 1 ≡ pattern_atoms (pattern_binder s v)
+more_binders : (s : LeftApplication) (v : Option (List ℕ)) → pattern_atoms s + 1 ≡ pattern_atoms (pattern_binder s v)
 more_binders pattern_due v = refl
 more_binders (pattern_bindable w) v = refl
 more_binders (pattern_applied f n) v = refl
@@ -495,37 +495,37 @@ left_standing gs = standing_in 0 on_left gs
 abbrev guarded : Groups → Groups
 guarded gs = closed gs gs.outer
 
-guard_closes : (gs : Groups) (part : PatternPart) (p : WrittenPattern) → gs.outer ≡ guard_under part → guarded gs ≡ left_groups (with_atom part p)
+guard_closes : (gs : Groups) (part : LeftSoFar) (p : WrittenPattern) → gs.outer ≡ guard_under part → guarded gs ≡ left_groups (with_atom part p)
 guard_closes gs part p e =
     ap (closed gs) e
-    ∙ left_atoms_more part.frames (pattern_atoms part.slot)
-    ∙ ap (frame_groups part.frames) (more_atoms part.slot p)
+    ∙ left_atoms_more part.frames (pattern_atoms part.application)
+    ∙ ap (frame_groups part.frames) (more_atoms part.application p)
 
 max_left : (m n : ℕ) → m ≡ n → max (0 + m) 0 ≡ n
 max_left m n e = grind (arith, nat_tests)
 
-guard_stepped : (h : RuleHead) (part : PatternPart) (a : Written) (gs : Groups) → LeftCounted part.frames → gs.outer ≡ guard_under part → Stepped (left_standing gs) (terminal.Sign sign.CloseBrace) (goes (pattern_depth part.frames) (in_left h (with_atom part (pattern_guard a))))
+guard_stepped : (h : RuleHead) (part : LeftSoFar) (a : Written) (gs : Groups) → LeftCounted part.frames → gs.outer ≡ guard_under part → Stepped (left_standing gs) (terminal.Sign sign.CloseBrace) (goes (pattern_depth part.frames) (in_left h (with_atom part (pattern_guard a))))
 guard_stepped h part a gs c e =
     let k = guard_closes gs part (pattern_guard a) e in
-    ((ap left_standing k, c), ap (λ gs. max (level_of (left_standing gs)) 0) k ∙ max_left _ (pattern_depth part.frames) (left_level part.frames (pattern_atoms (pattern_more part.slot (pattern_guard a))) c))
+    ((ap left_standing k, c), ap (λ gs. max (level_of (left_standing gs)) 0) k ∙ max_left _ (pattern_depth part.frames) (left_level part.frames (pattern_atoms (pattern_more part.application (pattern_guard a))) c))
 
-behind_stepped : (purpose : Purpose) (p : TermPart) (a : Written) (x : Terminal) → takes p x ≡ false → term_done p ≡ Some a → CountedAround purpose → Stepped (standing_in (params_of purpose) (side_of purpose) (term_groups purpose p)) x (behind_term purpose a x)
+behind_stepped : (purpose : Purpose) (p : TermSoFar) (a : Written) (x : Terminal) → takes p x ≡ false → term_done p ≡ Some a → CountedAround purpose → Stepped (standing_in (params_of purpose) (side_of purpose) (term_groups purpose p)) x (behind_term purpose a x)
 behind_stepped (as_param h v) p a (terminal.Sign sign.CloseBracket) e d c =
-    param_stepped h v a (term_groups (as_param h v) p) (outer_under (level_behind h) (param_group (level_behind h)) p.frames 0 (atoms p.slot) e)
+    param_stepped h v a (term_groups (as_param h v) p) (outer_under (level_behind h) (param_group (level_behind h)) p.frames 0 (atoms p.application) e)
 behind_stepped (as_type h) p a (terminal.Sign sign.Dot) e d c = dot_stepped h.sort h a (standing_in (level_behind h) behind_head (term_groups (as_type h) p))
 behind_stepped (as_type h) p a (terminal.Sign sign.Defined) e d c = body_behind_type_stepped h.sort h a (term_groups (as_type h) p)
 behind_stepped (as_body h typ) p b (terminal.Sign sign.Dot) e d c = refl
 behind_stepped (as_entry h n) p a x e d c = entry_stepped (with_entry h (entry n (Some a))) x (term_groups (as_entry h n) p)
 behind_stepped (as_guard h part) p a (terminal.Sign sign.CloseBrace) e d c =
-    guard_stepped h part a (term_groups (as_guard h part) p) c (outer_under 0 (guard_under part) p.frames 0 (atoms p.slot) (close_enders p a d))
+    guard_stepped h part a (term_groups (as_guard h part) p) c (outer_under 0 (guard_under part) p.frames 0 (atoms p.application) (close_enders p a d))
 behind_stepped (as_right h l) p a x e d c = rule_stepped (with_rule h l a) x (term_groups (as_right h l) p)
 behind_stepped purpose p a x e d c = tt
 
-ends_stepped : (o : Option Written) (purpose : Purpose) (p : TermPart) (x : Terminal) → takes p x ≡ false → term_done p ≡ o → CountedAround purpose → Stepped (standing_in (params_of purpose) (side_of purpose) (term_groups purpose p)) x (term_ends purpose x o)
+ends_stepped : (o : Option Written) (purpose : Purpose) (p : TermSoFar) (x : Terminal) → takes p x ≡ false → term_done p ≡ o → CountedAround purpose → Stepped (standing_in (params_of purpose) (side_of purpose) (term_groups purpose p)) x (term_ends purpose x o)
 ends_stepped None purpose p x e d c = tt
 ends_stepped (Some a) purpose p x e d c = behind_stepped purpose p a x e d c
 
-in_term_stepped : (b : Bool) (purpose : Purpose) (p : TermPart) (x : Terminal) → CountedIn purpose p.frames → CountedAround purpose → takes p x ≡ b → Stepped (standing_in (params_of purpose) (side_of purpose) (term_groups purpose p)) x (in_term_next b purpose p x)
+in_term_stepped : (b : Bool) (purpose : Purpose) (p : TermSoFar) (x : Terminal) → CountedIn purpose p.frames → CountedAround purpose → takes p x ≡ b → Stepped (standing_in (params_of purpose) (side_of purpose) (term_groups purpose p)) x (in_term_next b purpose p x)
 in_term_stepped true purpose p x c d e = term_stepped (term_next p x) purpose p x c d refl
 in_term_stepped false purpose p x c d e = ends_stepped (term_done p) purpose p x e refl d
 
@@ -551,140 +551,140 @@ level_in_guard arrows rest depth_fs e = omega arith
 level_of_guard : (arrows rest depth_fs : ℕ) → arrows + rest ≡ depth_fs → 0 + (0 + ((arrows + 1) + rest)) ≡ depth_fs + 1
 level_of_guard arrows rest depth_fs e = omega arith
 
-guard_begins : (h : RuleHead) (part : PatternPart) → LeftCounted part.frames → Stepped (left_standing (left_groups part)) (terminal.Sign sign.OpenBrace) (guard_due h part)
+guard_begins : (h : RuleHead) (part : LeftSoFar) → LeftCounted part.frames → Stepped (left_standing (left_groups part)) (terminal.Sign sign.OpenBrace) (guard_due h part)
 guard_begins h part c =
-    let l = left_level part.frames (pattern_atoms part.slot) c in
+    let l = left_level part.frames (pattern_atoms part.application) c in
     let gs = left_groups part in (
       (refl, level_in_guard gs.inner.arrows (arrows_of gs.outer) (pattern_depth part.frames) l, c),
-      ap (λ n. max n gs.inner.atoms) (level_of_guard gs.inner.arrows (arrows_of gs.outer) (pattern_depth part.frames) l) ∙ ap (max (pattern_depth part.frames + 1)) (left_atoms part.frames (pattern_atoms part.slot)),
+      ap (λ n. max n gs.inner.atoms) (level_of_guard gs.inner.arrows (arrows_of gs.outer) (pattern_depth part.frames) l) ∙ ap (max (pattern_depth part.frames + 1)) (left_atoms part.frames (pattern_atoms part.application)),
     )
 
-some_left : (p q : PatternPart) → Some p ≡ Some q → p ≡ q
+some_left : (p q : LeftSoFar) → Some p ≡ Some q → p ≡ q
 some_left p q e = cc
 
 -- where a left side stands behind a terminal
-abbrev LeftStands : PatternPart → Terminal → PatternPart → Type 0
+abbrev LeftStands : LeftSoFar → Terminal → LeftSoFar → Type 0
 LeftStands part x q = (standing_behind (left_standing (left_groups part)) x ≡ left_standing (left_groups q)) × LeftCounted q.frames
 
-to_left : (part p q : PatternPart) (x : Terminal) → Some p ≡ Some q → LeftStands part x p → LeftStands part x q
+to_left : (part p q : LeftSoFar) (x : Terminal) → Some p ≡ Some q → LeftStands part x p → LeftStands part x q
 to_left part p q x e h = subst (λ q. LeftStands part x q) (some_left p q e) h
 
-atom_stands : (part : PatternPart) (p : WrittenPattern) → left_standing (with_inner atom_more (left_groups part)) ≡ left_standing (left_groups (with_atom part p))
-atom_stands part p = ap left_standing (left_atoms_more part.frames (pattern_atoms part.slot) ∙ ap (frame_groups part.frames) (more_atoms part.slot p))
+atom_stands : (part : LeftSoFar) (p : WrittenPattern) → left_standing (with_inner atom_more (left_groups part)) ≡ left_standing (left_groups (with_atom part p))
+atom_stands part p = ap left_standing (left_atoms_more part.frames (pattern_atoms part.application) ∙ ap (frame_groups part.frames) (more_atoms part.application p))
 
-binder_stands : (part : PatternPart) (v : Option (List ℕ)) → left_standing (with_inner atom_more (left_groups part)) ≡ left_standing (left_groups (with_binder part v))
-binder_stands part v = ap left_standing (left_atoms_more part.frames (pattern_atoms part.slot) ∙ ap (frame_groups part.frames) (more_binders part.slot v))
+binder_stands : (part : LeftSoFar) (v : Option (List ℕ)) → left_standing (with_inner atom_more (left_groups part)) ≡ left_standing (left_groups (with_binder part v))
+binder_stands part v = ap left_standing (left_atoms_more part.frames (pattern_atoms part.application) ∙ ap (frame_groups part.frames) (more_binders part.application v))
 
-opened_stands : (part : PatternPart) → LeftCounted part.frames → LeftStands part (terminal.Sign sign.OpenBracket) (pattern_opened part)
+opened_stands : (part : LeftSoFar) → LeftCounted part.frames → LeftStands part (terminal.Sign sign.OpenBracket) (pattern_opened part)
 opened_stands part c =
-    (ap (λ (gs : Groups). left_standing (record { inner = empty_group; outer = gs.inner ∷ gs.outer })) (left_atoms_more part.frames (pattern_atoms part.slot)), (nothing_behind (pattern_depth part.frames + 1), c))
+    (ap (λ (gs : Groups). left_standing (record { inner = empty_group; outer = gs.inner ∷ gs.outer })) (left_atoms_more part.frames (pattern_atoms part.application)), (nothing_behind (pattern_depth part.frames + 1), c))
 
-closed_stands : (fs : PatternFrames) (s : PatternSlot) (o : Option WrittenPattern) (q : PatternPart) → LeftCounted fs → pattern_closed fs o ≡ Some q → LeftStands (record { frames = fs; slot = s }) (terminal.Sign sign.CloseBracket) q
+closed_stands : (fs : PatternFrames) (s : LeftApplication) (o : Option WrittenPattern) (q : LeftSoFar) → LeftCounted fs → pattern_closed fs o ≡ Some q → LeftStands (record { frames = fs; application = s }) (terminal.Sign sign.CloseBracket) q
 closed_stands no_bracket s o q c e = cc
 closed_stands (bracket_on d t vs fs) s None q c e = cc
 closed_stands (bracket_on d t vs fs) s (Some p) q c e =
-    to_left (record { frames = bracket_on d t vs fs; slot = s }) (record { frames = fs; slot = pattern_more t (under_binders vs p) }) q (terminal.Sign sign.CloseBracket) e
+    to_left (record { frames = bracket_on d t vs fs; application = s }) (record { frames = fs; application = pattern_more t (under_binders vs p) }) q (terminal.Sign sign.CloseBracket) e
     (ap (λ n. left_standing (frame_groups fs n)) (more_atoms t (under_binders vs p)), c.1)
 
 one_binder : (d n m : ℕ) → d ≡ (n + 1) + m → d + 1 ≡ (n + 1) + (m + 1)
 one_binder d n m e = omega arith
 
-bound_stands : (fs : PatternFrames) (s : PatternSlot) (q : PatternPart) → LeftCounted fs → pattern_bound fs s ≡ Some q → LeftStands (record { frames = fs; slot = s }) (terminal.Sign sign.DoubleArrow) q
+bound_stands : (fs : PatternFrames) (s : LeftApplication) (q : LeftSoFar) → LeftCounted fs → pattern_bound fs s ≡ Some q → LeftStands (record { frames = fs; application = s }) (terminal.Sign sign.DoubleArrow) q
 bound_stands (bracket_on d t vs fs) (pattern_bindable v) q c e =
-    to_left (record { frames = bracket_on d t vs fs; slot = pattern_bindable v }) (record { frames = bracket_on (d + 1) t (binder_on v vs) fs; slot = pattern_due }) q (terminal.Sign sign.DoubleArrow) e
+    to_left (record { frames = bracket_on d t vs fs; application = pattern_bindable v }) (record { frames = bracket_on (d + 1) t (binder_on v vs) fs; application = pattern_due }) q (terminal.Sign sign.DoubleArrow) e
     (refl, (one_binder d (pattern_depth fs) (binder_count vs) c.0, c.1))
 bound_stands fs s q c e = cc
 
-left_stands : (part q : PatternPart) (x : Terminal) → LeftCounted part.frames → pattern_next part x ≡ Some q → LeftStands part x q
+left_stands : (part q : LeftSoFar) (x : Terminal) → LeftCounted part.frames → pattern_next part x ≡ Some q → LeftStands part x q
 left_stands part q (terminal.Name n) c e = to_left part (with_binder part (Some n)) q (terminal.Name n) e (binder_stands part (Some n), c)
 left_stands part q terminal.Wildcard c e = to_left part (with_binder part None) q terminal.Wildcard e (binder_stands part None, c)
 left_stands part q (terminal.Qualified m n) c e = to_left part (with_atom part (pattern_qualified m n)) q (terminal.Qualified m n) e (atom_stands part (pattern_qualified m n), c)
 left_stands part q (terminal.Sign sign.OpenBracket) c e = to_left part (pattern_opened part) q (terminal.Sign sign.OpenBracket) e (opened_stands part c)
-left_stands part q (terminal.Sign sign.CloseBracket) c e = closed_stands part.frames part.slot (slot_pattern part.slot) q c e
-left_stands part q (terminal.Sign sign.DoubleArrow) c e = bound_stands part.frames part.slot q c e
+left_stands part q (terminal.Sign sign.CloseBracket) c e = closed_stands part.frames part.application (left_pattern part.application) q c e
+left_stands part q (terminal.Sign sign.DoubleArrow) c e = bound_stands part.frames part.application q c e
 left_stands part q x c e = cc
 
-left_argument : (part q : PatternPart) (x : Terminal) → pattern_next part x ≡ Some q → argument_in (left_standing (left_groups part)) x ≡ pattern_argument part x
-left_argument part q (terminal.Name n) e = left_atoms part.frames (pattern_atoms part.slot)
-left_argument part q terminal.Wildcard e = left_atoms part.frames (pattern_atoms part.slot)
-left_argument part q (terminal.Qualified m n) e = left_atoms part.frames (pattern_atoms part.slot)
+left_argument : (part q : LeftSoFar) (x : Terminal) → pattern_next part x ≡ Some q → argument_in (left_standing (left_groups part)) x ≡ pattern_argument part x
+left_argument part q (terminal.Name n) e = left_atoms part.frames (pattern_atoms part.application)
+left_argument part q terminal.Wildcard e = left_atoms part.frames (pattern_atoms part.application)
+left_argument part q (terminal.Qualified m n) e = left_atoms part.frames (pattern_atoms part.application)
 left_argument part q terminal.Star e = cc
-left_argument part q (terminal.Sign sign.OpenBracket) e = left_atoms part.frames (pattern_atoms part.slot)
+left_argument part q (terminal.Sign sign.OpenBracket) e = left_atoms part.frames (pattern_atoms part.application)
 left_argument part q (terminal.Sign sign.OpenBrace) e = cc
 left_argument part q x e = refl
 
 zero_more : (m n : ℕ) → m ≡ n → 0 + m ≡ n
 zero_more m n e = omega arith
 
-left_goes_stepped : (o : Option PatternPart) (h : RuleHead) (part : PatternPart) (x : Terminal) → LeftCounted part.frames → pattern_next part x ≡ o → Stepped (left_standing (left_groups part)) x (left_goes h (pattern_argument part x) o)
+left_goes_stepped : (o : Option LeftSoFar) (h : RuleHead) (part : LeftSoFar) (x : Terminal) → LeftCounted part.frames → pattern_next part x ≡ o → Stepped (left_standing (left_groups part)) x (left_goes h (pattern_argument part x) o)
 left_goes_stepped None h part x c e = tt
 left_goes_stepped (Some q) h part x c e =
     let s = left_stands part q x c e in
-    (s, ap (λ n. max n (argument_in (left_standing (left_groups part)) x)) (ap level_of s.0 ∙ zero_more _ (pattern_depth q.frames) (left_level q.frames (pattern_atoms q.slot) s.1)) ∙ ap (max (pattern_depth q.frames)) (left_argument part q x e))
+    (s, ap (λ n. max n (argument_in (left_standing (left_groups part)) x)) (ap level_of s.0 ∙ zero_more _ (pattern_depth q.frames) (left_level q.frames (pattern_atoms q.application) s.1)) ∙ ap (max (pattern_depth q.frames)) (left_argument part q x e))
 
-left_stepped : (h : RuleHead) (part : PatternPart) (x : Terminal) → LeftCounted part.frames → Stepped (left_standing (left_groups part)) x (left_next h part x)
+left_stepped : (h : RuleHead) (part : LeftSoFar) (x : Terminal) → LeftCounted part.frames → Stepped (left_standing (left_groups part)) x (left_next h part x)
 left_stepped h part (terminal.Sign sign.LongArrow) c = right_stepped (pattern_done part) h (left_groups part)
 left_stepped h part (terminal.Sign sign.OpenBrace) c = guard_begins h part c
 left_stepped h part x c = left_goes_stepped (pattern_next part x) h part x c refl
 
 -- one terminal more of a command
-part_stepped : (st : Standing) (p : Part) (x : Terminal) → StandsAt st p → Stepped st x (part_next p x)
-part_stepped st command_due (terminal.Name n) e = stepped_from st at_start (terminal.Name n) (part_next command_due (terminal.Name n)) e (refl, refl)
-part_stepped st command_due terminal.Def e = stepped_from st at_start terminal.Def (part_next command_due terminal.Def) e (refl, refl)
-part_stepped st command_due terminal.Thm e = stepped_from st at_start terminal.Thm (part_next command_due terminal.Thm) e (refl, refl)
-part_stepped st command_due (terminal.Sign sign.OpenSquare) e = stepped_from st at_start (terminal.Sign sign.OpenSquare) (part_next command_due (terminal.Sign sign.OpenSquare)) e (refl, refl)
-part_stepped st command_due (terminal.Sign sign.OpenBrace) e = stepped_from st at_start (terminal.Sign sign.OpenBrace) (part_next command_due (terminal.Sign sign.OpenBrace)) e (refl, refl)
-part_stepped st command_due x e = tt
-part_stepped st (name_due s) (terminal.Name n) e = stepped_from st at_start (terminal.Name n) (part_next (name_due s) (terminal.Name n)) e (refl, refl)
-part_stepped st (name_due s) x e = tt
-part_stepped st (head_due h) x e = stepped_from st (head_standing (level_behind h)) x (head_next h x) e (head_stepped h x)
-part_stepped st (binder_due h) (terminal.Name n) e =
-    stepped_from st (standing_in (level_behind h) in_head (record { inner = empty_group; outer = param_group (level_behind h) })) (terminal.Name n) (part_next (binder_due h) (terminal.Name n)) e (refl, max_none (level_behind h + 1))
-part_stepped st (binder_due h) terminal.Wildcard e =
-    stepped_from st (standing_in (level_behind h) in_head (record { inner = empty_group; outer = param_group (level_behind h) })) terminal.Wildcard (part_next (binder_due h) terminal.Wildcard) e (refl, max_none (level_behind h + 1))
-part_stepped st (binder_due h) x e = tt
-part_stepped st (binder_colon_due h v) (terminal.Sign sign.Colon) e =
-    stepped_from st (standing_in (level_behind h) in_head (record { inner = record { arrows = 0; atoms = 1 }; outer = param_group (level_behind h) })) (terminal.Sign sign.Colon) (part_next (binder_colon_due h v) (terminal.Sign sign.Colon)) e ((refl, refl, tt), max_none (level_behind h + 1))
-part_stepped st (binder_colon_due h v) x e = tt
-part_stepped st (rule_name_due h) (terminal.Name n) e = stepped_from st (rule_standing no_groups) (terminal.Name n) (part_next (rule_name_due h) (terminal.Name n)) e (refl, refl)
-part_stepped st (rule_name_due h) (terminal.Qualified m n) e = stepped_from st (rule_standing no_groups) (terminal.Qualified m n) (part_next (rule_name_due h) (terminal.Qualified m n)) e (refl, refl)
-part_stepped st (rule_name_due h) x e = tt
-part_stepped st (rule_brace_due h) (terminal.Sign sign.CloseBrace) e = stepped_from st (rule_standing one_atom) (terminal.Sign sign.CloseBrace) (part_next (rule_brace_due h) (terminal.Sign sign.CloseBrace)) e (refl, refl)
-part_stepped st (rule_brace_due h) x e = tt
-part_stepped st (square_due h) (terminal.Sign sign.OpenSquare) e = stepped_from st (rule_standing one_atom) (terminal.Sign sign.OpenSquare) (part_next (square_due h) (terminal.Sign sign.OpenSquare)) e (refl, refl)
-part_stepped st (square_due h) x e = tt
-part_stepped st (context_due h) (terminal.Sign sign.CloseSquare) e = stepped_from st (rule_standing no_groups) (terminal.Sign sign.CloseSquare) (part_next (context_due h) (terminal.Sign sign.CloseSquare)) e ((refl, tt), refl)
-part_stepped st (context_due h) (terminal.Name n) e = stepped_from st (rule_standing no_groups) (terminal.Name n) (part_next (context_due h) (terminal.Name n)) e (refl, refl)
-part_stepped st (context_due h) x e = tt
-part_stepped st (entry_due h) (terminal.Name n) e = stepped_from st (rule_standing no_groups) (terminal.Name n) (part_next (entry_due h) (terminal.Name n)) e (refl, refl)
-part_stepped st (entry_due h) x e = tt
-part_stepped st (entry_named h n) x e = stepped_from st (rule_standing one_atom) x (named_next h n x) e (named_stepped h n x)
-part_stepped st (in_left h part) x e = stepped_from st (left_standing (left_groups part)) x (left_next h part x) e.0 (left_stepped h part x e.1)
-part_stepped st (in_term purpose p) x h =
+advance_stepped : (st : Standing) (p : CommandSoFar) (x : Terminal) → StandsAt st p → Stepped st x (advanced p x)
+advance_stepped st command_due (terminal.Name n) e = stepped_from st at_start (terminal.Name n) (advanced command_due (terminal.Name n)) e (refl, refl)
+advance_stepped st command_due terminal.Def e = stepped_from st at_start terminal.Def (advanced command_due terminal.Def) e (refl, refl)
+advance_stepped st command_due terminal.Thm e = stepped_from st at_start terminal.Thm (advanced command_due terminal.Thm) e (refl, refl)
+advance_stepped st command_due (terminal.Sign sign.OpenSquare) e = stepped_from st at_start (terminal.Sign sign.OpenSquare) (advanced command_due (terminal.Sign sign.OpenSquare)) e (refl, refl)
+advance_stepped st command_due (terminal.Sign sign.OpenBrace) e = stepped_from st at_start (terminal.Sign sign.OpenBrace) (advanced command_due (terminal.Sign sign.OpenBrace)) e (refl, refl)
+advance_stepped st command_due x e = tt
+advance_stepped st (name_due s) (terminal.Name n) e = stepped_from st at_start (terminal.Name n) (advanced (name_due s) (terminal.Name n)) e (refl, refl)
+advance_stepped st (name_due s) x e = tt
+advance_stepped st (head_due h) x e = stepped_from st (head_standing (level_behind h)) x (head_next h x) e (head_stepped h x)
+advance_stepped st (binder_due h) (terminal.Name n) e =
+    stepped_from st (standing_in (level_behind h) in_head (record { inner = empty_group; outer = param_group (level_behind h) })) (terminal.Name n) (advanced (binder_due h) (terminal.Name n)) e (refl, max_none (level_behind h + 1))
+advance_stepped st (binder_due h) terminal.Wildcard e =
+    stepped_from st (standing_in (level_behind h) in_head (record { inner = empty_group; outer = param_group (level_behind h) })) terminal.Wildcard (advanced (binder_due h) terminal.Wildcard) e (refl, max_none (level_behind h + 1))
+advance_stepped st (binder_due h) x e = tt
+advance_stepped st (binder_colon_due h v) (terminal.Sign sign.Colon) e =
+    stepped_from st (standing_in (level_behind h) in_head (record { inner = record { arrows = 0; atoms = 1 }; outer = param_group (level_behind h) })) (terminal.Sign sign.Colon) (advanced (binder_colon_due h v) (terminal.Sign sign.Colon)) e ((refl, refl, tt), max_none (level_behind h + 1))
+advance_stepped st (binder_colon_due h v) x e = tt
+advance_stepped st (rule_name_due h) (terminal.Name n) e = stepped_from st (rule_standing no_groups) (terminal.Name n) (advanced (rule_name_due h) (terminal.Name n)) e (refl, refl)
+advance_stepped st (rule_name_due h) (terminal.Qualified m n) e = stepped_from st (rule_standing no_groups) (terminal.Qualified m n) (advanced (rule_name_due h) (terminal.Qualified m n)) e (refl, refl)
+advance_stepped st (rule_name_due h) x e = tt
+advance_stepped st (rule_brace_due h) (terminal.Sign sign.CloseBrace) e = stepped_from st (rule_standing one_atom) (terminal.Sign sign.CloseBrace) (advanced (rule_brace_due h) (terminal.Sign sign.CloseBrace)) e (refl, refl)
+advance_stepped st (rule_brace_due h) x e = tt
+advance_stepped st (square_due h) (terminal.Sign sign.OpenSquare) e = stepped_from st (rule_standing one_atom) (terminal.Sign sign.OpenSquare) (advanced (square_due h) (terminal.Sign sign.OpenSquare)) e (refl, refl)
+advance_stepped st (square_due h) x e = tt
+advance_stepped st (context_due h) (terminal.Sign sign.CloseSquare) e = stepped_from st (rule_standing no_groups) (terminal.Sign sign.CloseSquare) (advanced (context_due h) (terminal.Sign sign.CloseSquare)) e ((refl, tt), refl)
+advance_stepped st (context_due h) (terminal.Name n) e = stepped_from st (rule_standing no_groups) (terminal.Name n) (advanced (context_due h) (terminal.Name n)) e (refl, refl)
+advance_stepped st (context_due h) x e = tt
+advance_stepped st (entry_due h) (terminal.Name n) e = stepped_from st (rule_standing no_groups) (terminal.Name n) (advanced (entry_due h) (terminal.Name n)) e (refl, refl)
+advance_stepped st (entry_due h) x e = tt
+advance_stepped st (entry_named h n) x e = stepped_from st (rule_standing one_atom) x (named_next h n x) e (named_stepped h n x)
+advance_stepped st (in_left h part) x e = stepped_from st (left_standing (left_groups part)) x (left_next h part x) e.0 (left_stepped h part x e.1)
+advance_stepped st (in_term purpose p) x h =
     stepped_from st (standing_in (params_of purpose) (side_of purpose) (term_groups purpose p)) x (in_term_next (takes p x) purpose p x) h.0 (in_term_stepped (takes p x) purpose p x h.1 h.2 refl)
 
 standing_more : (st : Standing) (xs : List Terminal) (x : Terminal) → standing_from st (xs ++ x ∷ []) ≡ standing_behind (standing_from st xs) x
 standing_more st [] x = refl
 standing_more st (y ∷ xs) x = standing_more (standing_behind st y) xs x
 
-keeps_standing : (xs : List Terminal) (p q : Part) (made : ℕ) (x : Terminal) → StandsAt (standing xs) p → part_next p x ≡ goes made q → StandsAt (standing (xs ++ x ∷ [])) q
+keeps_standing : (xs : List Terminal) (p q : CommandSoFar) (made : ℕ) (x : Terminal) → StandsAt (standing xs) p → advanced p x ≡ goes made q → StandsAt (standing (xs ++ x ∷ [])) q
 keeps_standing xs p q made x h e =
-    let s : Stepped (standing xs) x (goes made q) = subst (Stepped (standing xs) x) e (part_stepped (standing xs) p x h) in
+    let s : Stepped (standing xs) x (goes made q) = subst (Stepped (standing xs) x) e (advance_stepped (standing xs) p x h) in
     subst (λ st. StandsAt st q) (sym (standing_more at_start xs x)) s.0
 
-stands_at : (xs : List Terminal) (p : Part) → run command_due xs ≡ going p → StandsAt (standing xs) p
+stands_at : (xs : List Terminal) (p : CommandSoFar) → run command_due xs ≡ going p → StandsAt (standing xs) p
 stands_at xs p is = follow (λ xs p. StandsAt (standing xs) p) keeps_standing refl xs p is
 
 -- the load of a terminal is the one that the step gives
-pub loaded : (xs : List Terminal) (p q : Part) (made : ℕ) (x : Terminal) → run command_due xs ≡ going p → part_next p x ≡ goes made q → level_or_argument xs x ≡ made
+pub loaded : (xs : List Terminal) (p q : CommandSoFar) (made : ℕ) (x : Terminal) → run command_due xs ≡ going p → advanced p x ≡ goes made q → level_or_argument xs x ≡ made
 loaded xs p q made x is e =
-    let s : Stepped (standing xs) x (goes made q) = subst (Stepped (standing xs) x) e (part_stepped (standing xs) p x (stands_at xs p is)) in
+    let s : Stepped (standing xs) x (goes made q) = subst (Stepped (standing xs) x) e (advance_stepped (standing xs) p x (stands_at xs p is)) in
     s.1
 
 -- what ends a command has no load
-pub end_load : (xs : List Terminal) (p : Part) (x : Terminal) (form : WrittenForm) → run command_due xs ≡ going p → part_next p x ≡ ends form → level_or_argument xs x ≡ 0
+pub end_load : (xs : List Terminal) (p : CommandSoFar) (x : Terminal) (form : WrittenForm) → run command_due xs ≡ going p → advanced p x ≡ ends form → level_or_argument xs x ≡ 0
 end_load xs p x form is e =
-    let s : Stepped (standing xs) x (ends form) = subst (Stepped (standing xs) x) e (part_stepped (standing xs) p x (stands_at xs p is)) in
+    let s : Stepped (standing xs) x (ends form) = subst (Stepped (standing xs) x) e (advance_stepped (standing xs) p x (stands_at xs p is)) in
     ap (level_or_argument xs) s
 
 profile_behind : (purpose : Purpose) (o : Option Written) → term_ends purpose terminal.Profile o ≡ refuses
@@ -697,7 +697,7 @@ profile_behind (as_guard h part) (Some a) = refl
 profile_behind (as_right h l) (Some a) = refl
 
 -- a word outside the profile is no part of a command
-pub profile_refused : (p : Part) → part_next p terminal.Profile ≡ refuses
+pub profile_refused : (p : CommandSoFar) → advanced p terminal.Profile ≡ refuses
 profile_refused command_due = refl
 profile_refused (name_due s) = refl
 profile_refused (head_due h) = refl

@@ -8,7 +8,7 @@ use Rattle.dk_parser.specs.declared.terminal.Terminal.{Terminal}
 use Rattle.dk_parser.specs.declared.terminal.Terminal.TheVariants as terminal
 use Rattle.dk_parser.specs.Written.{Written, written_star, WrittenParam, WrittenPattern, pattern_guard, WrittenRule, WrittenForm, written_declare, written_rules}
 use Rattle.dk_parser.specs.Grammar.{colon, defined, dot, open_bracket, close_bracket, open_square, close_square, open_brace, close_brace, comma, long_arrow, param, entry, rule, SpellsBinder, spells_binder, spells_no_binder, SpellsTerm, SpellsParams, spells_no_params, spells_params, SpellsForm, spells_star, spells_head, spells_application, spells_static, spells_definable, spells_definition, spells_typed_definition, spells_theorem, spells_guard, spells_no_rule_name, spells_rule_name, spells_qualified_rule_name, spells_rules, IsBegun}
-use Rattle.dk_parser.specs.Parsing.{TermPart, term_due, term_next, term_argument, term_done, takes, Head, level_behind, with_param, PatternPart, left_due, pattern_depth, pattern_more, with_atom, pattern_next, pattern_argument, pattern_done, RuleHead, no_rules, with_entry, Purpose, as_param, as_type, as_body, as_entry, as_guard, as_right, Part, command_due, name_due, head_due, binder_due, binder_colon_due, rule_name_due, rule_brace_due, square_due, context_due, entry_due, entry_named, in_left, in_term, PartStep, goes, ends, refuses, body_due, term_goes, term_ends, in_term_next, behind_entry, behind_rule, behind_term, named_next, left_goes, right_due, left_next, dot_behind_type, body_behind_type, body_behind_head, head_next, part_next}
+use Rattle.dk_parser.specs.Parsing.{TermSoFar, term_due, term_next, term_argument, term_done, takes, Head, level_behind, with_param, LeftSoFar, left_due, pattern_depth, pattern_more, with_atom, pattern_next, pattern_argument, pattern_done, RuleHead, no_rules, with_entry, Purpose, as_param, as_type, as_body, as_entry, as_guard, as_right, CommandSoFar, command_due, name_due, head_due, binder_due, binder_colon_due, rule_name_due, rule_brace_due, square_due, context_due, entry_due, entry_named, in_left, in_term, Advance, goes, ends, refuses, body_due, term_goes, term_ends, in_term_next, behind_entry, behind_rule, behind_term, named_next, left_goes, right_due, left_next, dot_behind_type, body_behind_type, body_behind_head, head_next, advanced}
 use Rattle.dk_parser.proofs.Machine.{going, run, follow}
 use Rattle.dk_parser.proofs.Left.{left_atom_reached, left_sound}
 use Rattle.dk_parser.proofs.Rules.{Due, rules_head, RulesFrom, BehindRule, rules_end, rules_go, RightBehind, LeftBehind, LeftRest, EntriesRest, ContextRest, context_ends, context_goes, BehindEntry, comma_behind, square_behind, NamedRest, typed_rest, named_rest, SquareBehind, RuleBraceBehind, RuleNameBehind, named_is_entry, rules_from, named_rules_from, left_step, left_begins, rule_ended, left_goes_on, entry_ended, named_ended, entries_begin, context_ended, square_begins, rule_brace_begins, rule_name_begins}
@@ -79,7 +79,7 @@ abbrev pub Leads : List Terminal → (List Terminal → WrittenForm → Type 0) 
 Leads xs R = (zs : List Terminal) (form : WrittenForm) → R zs form → SpellsForm (xs ++ zs) form
 
 -- these lead to a part of a term
-pub record ReachedIn (xs : List Terminal) (purpose : Purpose) (p : TermPart) : Type 0 where
+pub record ReachedIn (xs : List Terminal) (purpose : Purpose) (p : TermSoFar) : Type 0 where
   pub before : List Terminal
   pub here : List Terminal
   pub is : xs ≡ before ++ here
@@ -87,7 +87,7 @@ pub record ReachedIn (xs : List Terminal) (purpose : Purpose) (p : TermPart) : T
   pub leads : Leads before (TermBehind purpose)
 
 -- these lead to a part of a command
-abbrev pub Reached : List Terminal → Part → Type 0
+abbrev pub Reached : List Terminal → CommandSoFar → Type 0
 Reached xs command_due = xs ≡ []
 Reached xs (name_due s) = Leads xs (NameBehind s)
 Reached xs (head_due h) = Leads xs (BehindHead h)
@@ -141,7 +141,7 @@ head_spelt {s} {n} {ps} (head_param {x} {v} {a} {ys} {zs} {form} b t r) xs h =
 begin_term : (xs : List Terminal) (purpose : Purpose) (level : ℕ) → Leads xs (TermBehind purpose) → ReachedIn xs purpose (term_due level)
 begin_term xs purpose level h = record { before = xs; here = []; is = sym (append_nil xs); term = nothing_reached level; leads = h }
 
-term_more : (xs : List Terminal) (purpose : Purpose) (p q : TermPart) (x : Terminal) → ReachedIn xs purpose p → term_next p x ≡ Some q → ReachedIn (xs ++ x ∷ []) purpose q
+term_more : (xs : List Terminal) (purpose : Purpose) (p q : TermSoFar) (x : Terminal) → ReachedIn xs purpose p → term_next p x ≡ Some q → ReachedIn (xs ++ x ∷ []) purpose q
 term_more xs purpose p q x h e = record {
   before = h.before;
   here = h.here ++ x ∷ [];
@@ -150,7 +150,7 @@ term_more xs purpose p q x h e = record {
   leads = h.leads;
 }
 
-term_leads : (xs : List Terminal) (purpose : Purpose) (p : TermPart) (a : Written) → ReachedIn xs purpose p → term_done p ≡ Some a → Leads xs (Behind purpose a)
+term_leads : (xs : List Terminal) (purpose : Purpose) (p : TermSoFar) (a : Written) → ReachedIn xs purpose p → term_done p ≡ Some a → Leads xs (Behind purpose a)
 term_leads xs purpose p a h e zs form b =
     subst (λ ys. SpellsForm ys form) (sym (ap (λ ys. ys ++ zs) h.is ∙ append_assoc h.before h.here zs))
     (h.leads (h.here ++ zs) form (record { ys = h.here; rest = zs; term = a; is = refl; spelt = term_sound h.here p a h.term e; behind = b }))
@@ -158,7 +158,7 @@ term_leads xs purpose p a h e zs form b =
 -- One terminal more
 
 -- what a step makes of these terminals
-abbrev Made : List Terminal → PartStep → Type 0
+abbrev Made : List Terminal → Advance → Type 0
 Made xs (goes made q) = Reached xs q
 Made xs (ends form) = SpellsForm xs form
 Made xs refuses = Unit {0}
@@ -218,15 +218,15 @@ made_behind (as_guard h part) a (terminal.Sign sign.CloseBrace) xs l = lead_more
 made_behind (as_right h l) a x xs m = made_behind_rule (h.rules ++ rule h.context l a ∷ []) x xs m
 made_behind purpose a x xs l = tt
 
-made_goes : (o : Option TermPart) (purpose : Purpose) (p : TermPart) (x : Terminal) (xs : List Terminal) → ReachedIn xs purpose p → term_next p x ≡ o → Made (xs ++ x ∷ []) (term_goes purpose (term_argument p x) o)
+made_goes : (o : Option TermSoFar) (purpose : Purpose) (p : TermSoFar) (x : Terminal) (xs : List Terminal) → ReachedIn xs purpose p → term_next p x ≡ o → Made (xs ++ x ∷ []) (term_goes purpose (term_argument p x) o)
 made_goes None purpose p x xs h e = tt
 made_goes (Some q) purpose p x xs h e = term_more xs purpose p q x h e
 
-made_ends : (o : Option Written) (purpose : Purpose) (p : TermPart) (x : Terminal) (xs : List Terminal) → ReachedIn xs purpose p → term_done p ≡ o → Made (xs ++ x ∷ []) (term_ends purpose x o)
+made_ends : (o : Option Written) (purpose : Purpose) (p : TermSoFar) (x : Terminal) (xs : List Terminal) → ReachedIn xs purpose p → term_done p ≡ o → Made (xs ++ x ∷ []) (term_ends purpose x o)
 made_ends None purpose p x xs h e = tt
 made_ends (Some a) purpose p x xs h e = made_behind purpose a x xs (term_leads xs purpose p a h e)
 
-made_in_term : (b : Bool) (purpose : Purpose) (p : TermPart) (x : Terminal) (xs : List Terminal) → ReachedIn xs purpose p → Made (xs ++ x ∷ []) (in_term_next b purpose p x)
+made_in_term : (b : Bool) (purpose : Purpose) (p : TermSoFar) (x : Terminal) (xs : List Terminal) → ReachedIn xs purpose p → Made (xs ++ x ∷ []) (in_term_next b purpose p x)
 made_in_term true purpose p x xs h = made_goes (term_next p x) purpose p x xs h refl
 made_in_term false purpose p x xs h = made_ends (term_done p) purpose p x xs h refl
 
@@ -254,30 +254,30 @@ made_named : (h : RuleHead) (n : List ℕ) (x : Terminal) (xs : List Terminal) �
 made_named h n (terminal.Sign sign.Colon) xs l = begin_term (xs ++ colon ∷ []) (as_entry h n) 0 (lead_more (NamedRest h n) (TermBehind (as_entry h n)) xs colon l (entry_behind_colon h n))
 made_named h n x xs l = made_behind_entry (with_entry h (entry n None)) x xs (λ zs form r. l zs form (named_rest r))
 
-right_is : (h : RuleHead) (part : PatternPart) (l : WrittenPattern) → pattern_done part ≡ Some l → (zs : List Terminal) (form : WrittenForm) → TermBehind (as_right h l) zs form → LeftRest h part (long_arrow ∷ zs) form
+right_is : (h : RuleHead) (part : LeftSoFar) (l : WrittenPattern) → pattern_done part ≡ Some l → (zs : List Terminal) (form : WrittenForm) → TermBehind (as_right h l) zs form → LeftRest h part (long_arrow ∷ zs) form
 right_is h part l e zs form t ws r =
     let right : RightBehind h l zs form = record { ys = t.ys; rest = t.rest; term = t.term; is = t.is; spelt = t.spelt; behind = t.behind } in
     record { ys = ws; rest = zs; left = l; is = refl; spelt = left_sound ws part l r e; right = right }
 
-made_right : (o : Option WrittenPattern) (h : RuleHead) (part : PatternPart) (xs : List Terminal) → Leads xs (LeftRest h part) → pattern_done part ≡ o → Made (xs ++ long_arrow ∷ []) (right_due h o)
+made_right : (o : Option WrittenPattern) (h : RuleHead) (part : LeftSoFar) (xs : List Terminal) → Leads xs (LeftRest h part) → pattern_done part ≡ o → Made (xs ++ long_arrow ∷ []) (right_due h o)
 made_right None h part xs m e = tt
 made_right (Some l) h part xs m e = begin_term (xs ++ long_arrow ∷ []) (as_right h l) 0 (lead_more (LeftRest h part) (TermBehind (as_right h l)) xs long_arrow m (right_is h part l e))
 
 guard_lists : (ws ys rest : List Terminal) → (ws ++ (open_brace ∷ (ys ++ close_brace ∷ []))) ++ rest ≡ ws ++ (open_brace ∷ (ys ++ close_brace ∷ rest))
 guard_lists ws ys rest = simp append_assoc
 
-guard_is : (h : RuleHead) (part : PatternPart) (zs : List Terminal) (form : WrittenForm) → TermBehind (as_guard h part) zs form → LeftRest h part (open_brace ∷ zs) form
+guard_is : (h : RuleHead) (part : LeftSoFar) (zs : List Terminal) (form : WrittenForm) → TermBehind (as_guard h part) zs form → LeftRest h part (open_brace ∷ zs) form
 guard_is h part zs form t ws r =
     let b = t.behind in
     let lists : (ws ++ (open_brace ∷ (t.ys ++ close_brace ∷ []))) ++ b.0 ≡ ws ++ open_brace ∷ zs = guard_lists ws t.ys b.0 ∙ ap (λ us. ws ++ open_brace ∷ us) (sym (t.is ∙ ap (λ us. t.ys ++ us) b.1)) in
     subst (λ us. LeftBehind h us form) lists
     (b.2 (ws ++ (open_brace ∷ (t.ys ++ close_brace ∷ []))) (left_atom_reached ws (open_brace ∷ (t.ys ++ close_brace ∷ [])) part (pattern_guard t.term) r (spells_guard t.spelt)))
 
-made_left_goes : (o : Option PatternPart) (h : RuleHead) (part : PatternPart) (x : Terminal) (argument : ℕ) (xs : List Terminal) → Leads xs (LeftRest h part) → pattern_next part x ≡ o → Made (xs ++ x ∷ []) (left_goes h argument o)
+made_left_goes : (o : Option LeftSoFar) (h : RuleHead) (part : LeftSoFar) (x : Terminal) (argument : ℕ) (xs : List Terminal) → Leads xs (LeftRest h part) → pattern_next part x ≡ o → Made (xs ++ x ∷ []) (left_goes h argument o)
 made_left_goes None h part x argument xs l e = tt
 made_left_goes (Some q) h part x argument xs l e = lead_more (LeftRest h part) (LeftRest h q) xs x l (λ zs form r. left_step h part q x zs form e r)
 
-made_left : (h : RuleHead) (part : PatternPart) (x : Terminal) (xs : List Terminal) → Leads xs (LeftRest h part) → Made (xs ++ x ∷ []) (left_next h part x)
+made_left : (h : RuleHead) (part : LeftSoFar) (x : Terminal) (xs : List Terminal) → Leads xs (LeftRest h part) → Made (xs ++ x ∷ []) (left_next h part x)
 made_left h part (terminal.Sign sign.LongArrow) xs l = made_right (pattern_done part) h part xs l refl
 made_left h part (terminal.Sign sign.OpenBrace) xs l = begin_term (xs ++ open_brace ∷ []) (as_guard h part) (pattern_depth part.frames + 1) (lead_more (LeftRest h part) (TermBehind (as_guard h part)) xs open_brace l (guard_is h part))
 made_left h part x xs l = made_left_goes (pattern_next part x) h part x (pattern_argument part x) xs l refl
@@ -298,7 +298,7 @@ named_is s zs form first e r =
     (head_spelt r.head [] spells_no_params)
 
 -- one terminal more
-made : (p : Part) (x : Terminal) (xs : List Terminal) → Reached xs p → Made (xs ++ x ∷ []) (part_next p x)
+made : (p : CommandSoFar) (x : Terminal) (xs : List Terminal) → Reached xs p → Made (xs ++ x ∷ []) (advanced p x)
 made command_due (terminal.Name n) xs h = λ zs form r. subst (λ us. SpellsForm ((us ++ terminal.Name n ∷ []) ++ zs) form) (sym h) (head_spelt r [] spells_no_params)
 made command_due terminal.Def xs h = λ zs form r. subst (λ us. SpellsForm ((us ++ terminal.Def ∷ []) ++ zs) form) (sym h) (named_is Definable zs form (terminal.Def ∷ []) (λ n. refl) r)
 made command_due terminal.Thm xs h = λ zs form r. subst (λ us. SpellsForm ((us ++ terminal.Thm ∷ []) ++ zs) form) (sym h) (named_is Theorem zs form (terminal.Thm ∷ []) (λ n. refl) r)
@@ -330,11 +330,11 @@ made (in_left h part) x xs l = made_left h part x xs l
 made (in_term purpose p) x xs h = made_in_term (takes p x) purpose p x xs h
 
 -- what leads to a part
-pub reached : (xs : List Terminal) (p : Part) → run command_due xs ≡ going p → Reached xs p
+pub reached : (xs : List Terminal) (p : CommandSoFar) → run command_due xs ≡ going p → Reached xs p
 reached xs p is = follow Reached (λ ys p q made_load x h e. subst (Made (ys ++ x ∷ [])) e (made p x ys h)) refl xs p is
 
 -- what is read is spelt so
-pub sound : (xs : List Terminal) (p : Part) (x : Terminal) (form : WrittenForm) → run command_due xs ≡ going p → part_next p x ≡ ends form → SpellsForm (xs ++ x ∷ []) form
+pub sound : (xs : List Terminal) (p : CommandSoFar) (x : Terminal) (form : WrittenForm) → run command_due xs ≡ going p → advanced p x ≡ ends form → SpellsForm (xs ++ x ∷ []) form
 sound xs p x form is e = subst (Made (xs ++ x ∷ [])) e (made p x xs (reached xs p is))
 
 -- More of a command is due
@@ -359,7 +359,7 @@ due_behind (as_param h v) a =
 due_behind (as_type h) a = type_due h.sort h.name h.params a
 due_behind (as_entry h n) a = entry_ended (with_entry h (entry n (Some a)))
 due_behind (as_guard h part) a =
-    let r = left_goes_on h part.frames (pattern_more part.slot (pattern_guard a)) in
+    let r = left_goes_on h part.frames (pattern_more part.application (pattern_guard a)) in
     record { first = close_brace; rest = r.first ∷ r.rest; form = r.form; is = (r.first ∷ r.rest, refl, r.is) }
 due_behind (as_right h l) a = rule_ended (h.rules ++ rule h.context l a ∷ [])
 due_behind (as_body h typ) b = record { first = dot; rest = []; form = written_declare h.sort h.name h.params typ (Some b); is = (refl, refl) }
@@ -395,7 +395,7 @@ term_lists : (xs before here zs rest : List Terminal) → xs ≡ before ++ here 
 term_lists xs before here zs rest e =
     ap (λ us. before ++ us) (append_assoc here zs rest) ∙ sym (append_assoc before here (zs ++ rest)) ∙ ap (λ us. us ++ (zs ++ rest)) (sym e)
 
-term_due_more : (xs : List Terminal) (purpose : Purpose) (p : TermPart) → ReachedIn xs purpose p → IsBegun xs
+term_due_more : (xs : List Terminal) (purpose : Purpose) (p : TermSoFar) → ReachedIn xs purpose p → IsBegun xs
 term_due_more xs purpose p h =
     let t = term_begun h.here p h.term in
     let r = due_behind purpose t.1 in
@@ -403,7 +403,7 @@ term_due_more xs purpose p h =
     (subst (λ us. SpellsForm us r.form) (term_lists xs h.before h.here t.0 (r.first ∷ r.rest) h.is)
     (h.leads ((h.here ++ t.0) ++ r.first ∷ r.rest) r.form (record { ys = h.here ++ t.0; rest = r.first ∷ r.rest; term = t.1; is = refl; spelt = t.2; behind = r.is })))
 
-begun_by : (p : Part) (xs : List Terminal) → Reached xs p → IsBegun xs
+begun_by : (p : CommandSoFar) (xs : List Terminal) → Reached xs p → IsBegun xs
 begun_by command_due xs h = (terminal.Name [], colon ∷ terminal.Star ∷ dot ∷ [], written_declare Static [] [] (Some written_star) None, subst (λ us. SpellsForm (us ++ (terminal.Name [] ∷ colon ∷ terminal.Star ∷ dot ∷ [])) (written_declare Static [] [] (Some written_star) None)) (sym h) (spells_static spells_no_params a_term))
 begun_by (name_due s) xs l = due_begun xs (NameBehind s) l (name_begins s)
 begun_by (head_due h) xs l = due_begun xs (BehindHead h) l (head_rest h.sort h.name h.params)
@@ -415,9 +415,9 @@ begun_by (square_due h) xs l = due_begun xs (SquareBehind h) l (square_begins h)
 begun_by (context_due h) xs l = due_begun xs (ContextRest h) l (context_ended h)
 begun_by (entry_due h) xs l = due_begun xs (EntriesRest h) l (entries_begin h)
 begun_by (entry_named h n) xs l = due_begun xs (NamedRest h n) l (named_ended h n)
-begun_by (in_left h part) xs l = due_begun xs (LeftRest h part) l (left_goes_on h part.frames part.slot)
+begun_by (in_left h part) xs l = due_begun xs (LeftRest h part) l (left_goes_on h part.frames part.application)
 begun_by (in_term purpose p) xs h = term_due_more xs purpose p h
 
 -- terminals that lead to a part begin a command
-pub begins : (xs : List Terminal) (p : Part) → run command_due xs ≡ going p → IsBegun xs
+pub begins : (xs : List Terminal) (p : CommandSoFar) → run command_due xs ≡ going p → IsBegun xs
 begins xs p is = begun_by p xs (reached xs p is)

@@ -5,7 +5,7 @@ use Rattle.dk_parser.specs.declared.terminal.Terminal.{Terminal}
 use Rattle.dk_parser.specs.declared.terminal.Terminal.TheVariants as terminal
 use Rattle.dk_parser.specs.Written.{Written, written_star, WrittenPattern, pattern_wild, WrittenNote, WrittenRule, WrittenForm, written_rules}
 use Rattle.dk_parser.specs.Grammar.{colon, dot, open_square, close_square, open_brace, close_brace, comma, long_arrow, close_bracket, entry, rule, SpellsTerm, spells_star, spells_head, spells_application, SpellsPatternApplication, spells_pattern_head, spells_pattern_wildcard, SpellsEntry, spells_entry, spells_typed_entry, SpellsEntries, spells_last_entry, spells_more_entries, SpellsContext, spells_no_context, spells_context, SpellsRuleName, spells_rule_name, SpellsRule, spells_rule, SpellsRules, spells_last_rule, spells_more_rules}
-use Rattle.dk_parser.specs.Parsing.{PatternSlot, pattern_due, pattern_bindable, pattern_applied, PatternFrames, no_bracket, bracket_on, PatternPart, left_due, binder_pattern, pattern_more, slot_pattern, under_binders, pattern_closed, pattern_next, RuleHead, with_entry}
+use Rattle.dk_parser.specs.Parsing.{LeftApplication, pattern_due, pattern_bindable, pattern_applied, PatternFrames, no_bracket, bracket_on, LeftSoFar, left_due, binder_pattern, pattern_more, left_pattern, under_binders, pattern_closed, pattern_next, RuleHead, with_entry}
 use Rattle.dk_parser.proofs.Left.{ReachedLeft, left_reached_nothing, left_reached, left_sound}
 
 -- something may stand behind
@@ -53,7 +53,7 @@ pub record LeftBehind (h : RuleHead) (zs : List Terminal) (form : WrittenForm) :
   pub right : RightBehind h left rest form
 
 -- behind a part of a left side
-abbrev pub LeftRest : RuleHead → PatternPart → List Terminal → WrittenForm → Type 0
+abbrev pub LeftRest : RuleHead → LeftSoFar → List Terminal → WrittenForm → Type 0
 LeftRest h part zs form = (ws : List Terminal) → ReachedLeft ws part → LeftBehind h (ws ++ zs) form
 
 -- where an entry is due
@@ -182,7 +182,7 @@ named_rules_from done zs form n =
 -- Left sides
 
 -- one terminal more of a left side
-pub left_step : (h : RuleHead) (p q : PatternPart) (x : Terminal) (zs : List Terminal) (form : WrittenForm) → pattern_next p x ≡ Some q → LeftRest h q zs form → LeftRest h p (x ∷ zs) form
+pub left_step : (h : RuleHead) (p q : LeftSoFar) (x : Terminal) (zs : List Terminal) (form : WrittenForm) → pattern_next p x ≡ Some q → LeftRest h q zs form → LeftRest h p (x ∷ zs) form
 left_step h p q x zs form e k ws r = subst (λ us. LeftBehind h us form) (append_assoc ws (x ∷ []) zs) (k (ws ++ x ∷ []) (left_reached ws p x q r e))
 
 pub left_begins : (h : RuleHead) (zs : List Terminal) (form : WrittenForm) → LeftRest h left_due zs form → LeftBehind h zs form
@@ -205,15 +205,15 @@ right_ended h l = record { ys = terminal.Star ∷ []; rest = dot ∷ []; term = 
 left_ended : (h : RuleHead) → LeftBehind h (terminal.Wildcard ∷ long_arrow ∷ terminal.Star ∷ dot ∷ []) (first_form h pattern_wild)
 left_ended h = record { ys = terminal.Wildcard ∷ []; rest = terminal.Star ∷ dot ∷ []; left = pattern_wild; is = refl; spelt = spells_pattern_head spells_pattern_wildcard; right = right_ended h pattern_wild }
 
-more_some : (s : PatternSlot) (p : WrittenPattern) → (l : WrittenPattern) × (slot_pattern (pattern_more s p) ≡ Some l)
+more_some : (s : LeftApplication) (p : WrittenPattern) → (l : WrittenPattern) × (left_pattern (pattern_more s p) ≡ Some l)
 more_some pattern_due p = (p, refl)
 more_some (pattern_bindable v) p = (_, refl)
 more_some (pattern_applied f n) p = (_, refl)
 
-abbrev left_at : PatternFrames → PatternSlot → PatternPart
-left_at fs s = record { frames = fs; slot = s }
+abbrev left_at : PatternFrames → LeftApplication → LeftSoFar
+left_at fs s = record { frames = fs; application = s }
 
-left_due_at : (h : RuleHead) (fs : PatternFrames) (s : PatternSlot) (l : WrittenPattern) → slot_pattern s ≡ Some l → Due (LeftRest h (left_at fs s))
+left_due_at : (h : RuleHead) (fs : PatternFrames) (s : LeftApplication) (l : WrittenPattern) → left_pattern s ≡ Some l → Due (LeftRest h (left_at fs s))
 left_due_at h no_bracket s l e = record {
   first = long_arrow;
   rest = terminal.Star ∷ dot ∷ [];
@@ -230,7 +230,7 @@ left_due_at h (bracket_on d t vs fs) s l e =
       is = left_step h (left_at (bracket_on d t vs fs) s) (left_at fs (pattern_more t (under_binders vs l))) close_bracket (r.first ∷ r.rest) r.form (ap (pattern_closed (bracket_on d t vs fs)) e) r.is;
     }
 
-pub left_goes_on : (h : RuleHead) (fs : PatternFrames) (s : PatternSlot) → Due (LeftRest h (left_at fs s))
+pub left_goes_on : (h : RuleHead) (fs : PatternFrames) (s : LeftApplication) → Due (LeftRest h (left_at fs s))
 left_goes_on h fs pattern_due =
     let r = left_due_at h fs (pattern_bindable None) pattern_wild refl in
     record {

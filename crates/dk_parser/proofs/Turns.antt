@@ -14,7 +14,7 @@ use Rattle.dk_parser.specs.declared.terminal.Terminal.TheVariants as terminal
 use Rattle.dk_parser.specs.Terminals.{terminal_of}
 use Rattle.dk_parser.specs.Written.{WrittenCommand}
 use Rattle.dk_parser.specs.RawViews.{written_command}
-use Rattle.dk_parser.specs.Parsing.{Part, PartStep, goes, ends, refuses, part_next, Parsing, started, Answer, more, command, refused, turn, turn_refused, turn_by_step, turn_by_terminal, turn_by_fault, parsing_from, parsing_after, answered, commands_from}
+use Rattle.dk_parser.specs.Parsing.{CommandSoFar, Advance, goes, ends, refuses, advanced, Parsing, started, Answer, more, command, refused, turn, turn_refused, turn_by_step, turn_by_terminal, turn_by_fault, parsing_from, parsing_after, answered, commands_from}
 use Rattle.dk_parser.specs.Reading.{TokenReading}
 use Rattle.dk_parser.specs.Steps.{read_tokens, fault_of, GoesOn, AddsCommand, AddsFault, AddsStep, Answers}
 use Rattle.dk_parser.specs.Views.{CameTo}
@@ -51,20 +51,20 @@ no_fault (Some code) e h = cc
 says_refused : (s : Parsing) (line : ℕ) (code : Code) → s.fault ≡ None → Says (turn_refused s line code).answer s (turn_refused s line code).state
 says_refused s line code e = (refl, refl, λ h. absurd (no_fault s.fault e h))
 
-says_level : (b : Bool) (s : Parsing) (line : ℕ) (part : Part) → s.fault ≡ None →
+says_level : (b : Bool) (s : Parsing) (line : ℕ) (part : CommandSoFar) → s.fault ≡ None →
     Says (if b then turn_refused s line E04 else record { state = record s { begun = Some line; part = part }; answer = more }).answer s
     (if b then turn_refused s line E04 else record { state = record s { begun = Some line; part = part }; answer = more }).state
 says_level true s line part e = says_refused s line E04 e
 says_level false s line part e = (e, e, refl)
 
-says_step : (s : Parsing) (line : ℕ) (p : PartStep) → s.fault ≡ None → Says (turn_by_step s line p).answer s (turn_by_step s line p).state
+says_step : (s : Parsing) (line : ℕ) (p : Advance) → s.fault ≡ None → Says (turn_by_step s line p).answer s (turn_by_step s line p).state
 says_step s line (goes made part) e = says_level (nat_lt s.limits.levels made) s line part e
 says_step s line (ends form) e = (e, e, refl)
 says_step s line refuses e = says_refused s line E02 e
 
 says_terminal : (s : Parsing) (line : ℕ) (x : Terminal) → s.fault ≡ None → Says (turn_by_terminal s line x).answer s (turn_by_terminal s line x).state
 says_terminal s line terminal.Profile e = says_refused s line E06 e
-says_terminal s line x e = says_step s line (part_next s.part x) e
+says_terminal s line x e = says_step s line (advanced s.part x) e
 
 says_fault : (f : Option Code) (s : Parsing) (t : Token) → s.fault ≡ f → Knows f s.begun → Says (turn_by_fault f s t).answer s (turn_by_fault f s t).state
 says_fault (Some code) s t e k = (e, k, λ h. refl)

@@ -10,16 +10,16 @@ abbrev pub is_dot : ℕ → Bool
 is_dot byte = byte == 46
 
 -- where the first dot of a spelling is, or its length where there is none
-abbrev pub dot_place : List ℕ → ℕ
-dot_place spelling = unwrap_or (position is_dot spelling) (length spelling)
+abbrev pub dot_role : List ℕ → ℕ
+dot_role spelling = unwrap_or (position is_dot spelling) (length spelling)
 
 -- the module of a qualified name as spelt: what stands before the first dot
 abbrev pub module_part : List ℕ → List ℕ
-module_part spelling = take (dot_place spelling) spelling
+module_part spelling = take (dot_role spelling) spelling
 
 -- the name in that module: what stands behind the first dot
 abbrev pub name_part : List ℕ → List ℕ
-name_part spelling = drop (dot_place spelling + 1) spelling
+name_part spelling = drop (dot_role spelling + 1) spelling
 
 abbrev pub terminal_by : TokenKind → List ℕ → Terminal
 terminal_by kind.Plain spelling = terminal.Name spelling

@@ -2,32 +2,32 @@
 use Rattle.std.specs.Prelude.{◌≡◌, Option, Some, None, Result, Ok, Err, map}
 use Rattle.dk_model.specs.declared.code.Fault.{Fault}
 use Rattle.dk_model.specs.declared.code.Fault.TheVariants as fault
-use Rattle.dk_parser.specs.declared.frames.Place.{Place}
-use Rattle.dk_parser.specs.declared.frames.Place.TheVariants as place
-use Rattle.dk_parser.specs.declared.frames.Slot.{Slot}
-use Rattle.dk_parser.specs.declared.frames.Slot.TheVariants as slot
+use Rattle.dk_parser.specs.declared.frames.Role.{Role}
+use Rattle.dk_parser.specs.declared.frames.Role.TheVariants as role
+use Rattle.dk_parser.specs.declared.frames.Application.{Application}
+use Rattle.dk_parser.specs.declared.frames.Application.TheVariants as application
 use Rattle.dk_parser.specs.declared.frames.Frame.{Frame}
 use Rattle.dk_parser.specs.declared.frames.Frame.TheVariants as frame
 use Rattle.dk_parser.specs.declared.frames.Around.{Around}
 use Rattle.dk_parser.specs.declared.frames.Around.TheVariants as around
 use Rattle.dk_parser.specs.declared.frames.Frames.{Frames, On'}
 use Rattle.dk_parser.specs.declared.frames.Frames.TheVariants.{Bottom}
-use Rattle.dk_parser.specs.declared.term_part.TermPart.{TermPart}
+use Rattle.dk_parser.specs.declared.term_so_far.TermSoFar.{TermSoFar}
 use Rattle.dk_parser.specs.declared.head.Head.{Head}
-use Rattle.dk_parser.specs.declared.pattern_slot.PatternSlot.{PatternSlot}
-use Rattle.dk_parser.specs.declared.pattern_slot.PatternSlot.TheVariants as pattern_slot
-use Rattle.dk_parser.specs.declared.pattern_part.Binders.{Binders, BinderOn'}
-use Rattle.dk_parser.specs.declared.pattern_part.Binders.TheVariants.{NoBinders}
-use Rattle.dk_parser.specs.declared.pattern_part.PatternFrames.{PatternFrames, BracketOn'}
-use Rattle.dk_parser.specs.declared.pattern_part.PatternFrames.TheVariants.{NoBracket}
-use Rattle.dk_parser.specs.declared.pattern_part.PatternPart.{PatternPart}
+use Rattle.dk_parser.specs.declared.left_application.LeftApplication.{LeftApplication}
+use Rattle.dk_parser.specs.declared.left_application.LeftApplication.TheVariants as left_application
+use Rattle.dk_parser.specs.declared.left_so_far.Binders.{Binders, BinderOn'}
+use Rattle.dk_parser.specs.declared.left_so_far.Binders.TheVariants.{NoBinders}
+use Rattle.dk_parser.specs.declared.left_so_far.PatternFrames.{PatternFrames, BracketOn'}
+use Rattle.dk_parser.specs.declared.left_so_far.PatternFrames.TheVariants.{NoBracket}
+use Rattle.dk_parser.specs.declared.left_so_far.LeftSoFar.{LeftSoFar}
 use Rattle.dk_parser.specs.declared.rule_head.RuleHead.{RuleHead}
-use Rattle.dk_parser.specs.declared.part.Purpose.{Purpose}
-use Rattle.dk_parser.specs.declared.part.Purpose.TheVariants as purpose
-use Rattle.dk_parser.specs.declared.part.Part.{Part}
-use Rattle.dk_parser.specs.declared.part.Part.TheVariants as part
-use Rattle.dk_parser.specs.declared.part.PartStep.{PartStep}
-use Rattle.dk_parser.specs.declared.part.PartStep.TheVariants as part_step
+use Rattle.dk_parser.specs.declared.command_so_far.Purpose.{Purpose}
+use Rattle.dk_parser.specs.declared.command_so_far.Purpose.TheVariants as purpose
+use Rattle.dk_parser.specs.declared.command_so_far.CommandSoFar.{CommandSoFar}
+use Rattle.dk_parser.specs.declared.command_so_far.CommandSoFar.TheVariants as part
+use Rattle.dk_parser.specs.declared.command_so_far.Advance.{Advance}
+use Rattle.dk_parser.specs.declared.command_so_far.Advance.TheVariants as advance
 use Rattle.dk_parser.specs.declared.parser.Parser.{Parser}
 use Rattle.dk_parser.specs.declared.parser.Step.{Step}
 use Rattle.dk_parser.specs.declared.parser.Step.TheVariants as step
@@ -40,18 +40,18 @@ abbrev pub maybe_pattern : Option RawPat → Option WrittenPattern
 maybe_pattern None = None
 maybe_pattern (Some p) = Some (written_pattern p)
 
-abbrev pub plain_place : Place → plain.Place
-plain_place place.Front = plain.at_front
-plain_place (place.Domain v) = plain.domain v
+abbrev pub plain_role : Role → plain.Role
+plain_role role.Front = plain.at_front
+plain_role (role.Domain v) = plain.domain v
 
-abbrev pub plain_slot : Slot → plain.Slot
-plain_slot (slot.Due p) = plain.due (plain_place p)
-plain_slot (slot.Bindable v) = plain.bindable v
-plain_slot (slot.Applied p a n) = plain.applied (plain_place p) (written a) n
-plain_slot (slot.Bracketed v a) = plain.bracketed v (written a)
+abbrev pub plain_application : Application → plain.Application
+plain_application (application.Due p) = plain.due (plain_role p)
+plain_application (application.Bindable v) = plain.bindable v
+plain_application (application.Applied p a n) = plain.applied (plain_role p) (written a) n
+plain_application (application.Bracketed v a) = plain.bracketed v (written a)
 
 abbrev pub plain_frame : Frame → plain.Frame
-plain_frame (frame.Bracket s) = plain.bracket_frame (plain_slot s)
+plain_frame (frame.Bracket s) = plain.bracket_frame (plain_application s)
 plain_frame (frame.Arrow a) = plain.arrow_frame (written a)
 plain_frame (frame.Product v a) = plain.product_frame v (written a)
 plain_frame (frame.Bare v) = plain.bare_frame v
@@ -59,14 +59,14 @@ plain_frame (frame.Annotated v a) = plain.annotated_frame v (written a)
 
 abbrev pub plain_around : Around → plain.Around
 plain_around (around.Term a) = plain.around_term (written a)
-plain_around (around.Bracket s a) = plain.around_bracket (plain_slot s) (written a)
+plain_around (around.Bracket s a) = plain.around_bracket (plain_application s) (written a)
 
 abbrev pub plain_frames : Frames → plain.Frames
 plain_frames (Bottom level) = plain.bottom level
 plain_frames (On' d f p fs) = plain.on d (plain_frame f) (plain_frames fs)
 
-abbrev pub plain_term : TermPart → plain.TermPart
-plain_term t = record { frames = plain_frames t.frames; slot = plain_slot t.slot }
+abbrev pub plain_term : TermSoFar → plain.TermSoFar
+plain_term t = record { frames = plain_frames t.frames; application = plain_application t.application }
 
 abbrev pub plain_head : Head → plain.Head
 plain_head h = record { sort = h.sort; name = h.name; params = map written_param h.params }
@@ -74,10 +74,10 @@ plain_head h = record { sort = h.sort; name = h.name; params = map written_param
 abbrev pub plain_rule_head : RuleHead → plain.RuleHead
 plain_rule_head h = record { rules = map written_rule h.rules; context = map written_note h.context }
 
-abbrev pub plain_pattern_slot : PatternSlot → plain.PatternSlot
-plain_pattern_slot pattern_slot.Due = plain.pattern_due
-plain_pattern_slot (pattern_slot.Bindable v) = plain.pattern_bindable v
-plain_pattern_slot (pattern_slot.Applied p n) = plain.pattern_applied (written_pattern p) n
+abbrev pub plain_left_application : LeftApplication → plain.LeftApplication
+plain_left_application left_application.Due = plain.pattern_due
+plain_left_application (left_application.Bindable v) = plain.pattern_bindable v
+plain_left_application (left_application.Applied p n) = plain.pattern_applied (written_pattern p) n
 
 abbrev pub plain_binders : Binders → plain.Binders
 plain_binders NoBinders = plain.no_binders
@@ -85,10 +85,10 @@ plain_binders (BinderOn' v p vs) = plain.binder_on v (plain_binders vs)
 
 abbrev pub plain_pattern_frames : PatternFrames → plain.PatternFrames
 plain_pattern_frames NoBracket = plain.no_bracket
-plain_pattern_frames (BracketOn' d s vs p fs) = plain.bracket_on d (plain_pattern_slot s) (plain_binders vs) (plain_pattern_frames fs)
+plain_pattern_frames (BracketOn' d s vs p fs) = plain.bracket_on d (plain_left_application s) (plain_binders vs) (plain_pattern_frames fs)
 
-abbrev pub plain_pattern : PatternPart → plain.PatternPart
-plain_pattern p = record { frames = plain_pattern_frames p.frames; slot = plain_pattern_slot p.slot }
+abbrev pub plain_pattern : LeftSoFar → plain.LeftSoFar
+plain_pattern p = record { frames = plain_pattern_frames p.frames; application = plain_left_application p.application }
 
 abbrev pub plain_purpose : Purpose → plain.Purpose
 plain_purpose (purpose.Param h v) = plain.as_param (plain_head h) v
@@ -98,29 +98,29 @@ plain_purpose (purpose.Entry h n) = plain.as_entry (plain_rule_head h) n
 plain_purpose (purpose.Guard h p) = plain.as_guard (plain_rule_head h) (plain_pattern p)
 plain_purpose (purpose.Right h l) = plain.as_right (plain_rule_head h) (written_pattern l)
 
-abbrev pub plain_part : Part → plain.Part
-plain_part part.CommandDue = plain.command_due
-plain_part (part.NameDue sort) = plain.name_due sort
-plain_part (part.HeadDue h) = plain.head_due (plain_head h)
-plain_part (part.BinderDue h) = plain.binder_due (plain_head h)
-plain_part (part.BinderColonDue h v) = plain.binder_colon_due (plain_head h) v
-plain_part (part.RuleNameDue h) = plain.rule_name_due (plain_rule_head h)
-plain_part (part.RuleBraceDue h) = plain.rule_brace_due (plain_rule_head h)
-plain_part (part.SquareDue h) = plain.square_due (plain_rule_head h)
-plain_part (part.ContextDue h) = plain.context_due (plain_rule_head h)
-plain_part (part.EntryDue h) = plain.entry_due (plain_rule_head h)
-plain_part (part.EntryNamed h n) = plain.entry_named (plain_rule_head h) n
-plain_part (part.InLeft h p) = plain.in_left (plain_rule_head h) (plain_pattern p)
-plain_part (part.InTerm u p) = plain.in_term (plain_purpose u) (plain_term p)
+abbrev pub plain_command : CommandSoFar → plain.CommandSoFar
+plain_command part.CommandDue = plain.command_due
+plain_command (part.NameDue sort) = plain.name_due sort
+plain_command (part.HeadDue h) = plain.head_due (plain_head h)
+plain_command (part.BinderDue h) = plain.binder_due (plain_head h)
+plain_command (part.BinderColonDue h v) = plain.binder_colon_due (plain_head h) v
+plain_command (part.RuleNameDue h) = plain.rule_name_due (plain_rule_head h)
+plain_command (part.RuleBraceDue h) = plain.rule_brace_due (plain_rule_head h)
+plain_command (part.SquareDue h) = plain.square_due (plain_rule_head h)
+plain_command (part.ContextDue h) = plain.context_due (plain_rule_head h)
+plain_command (part.EntryDue h) = plain.entry_due (plain_rule_head h)
+plain_command (part.EntryNamed h n) = plain.entry_named (plain_rule_head h) n
+plain_command (part.InLeft h p) = plain.in_left (plain_rule_head h) (plain_pattern p)
+plain_command (part.InTerm u p) = plain.in_term (plain_purpose u) (plain_term p)
 
-abbrev pub plain_step : PartStep → plain.PartStep
-plain_step (part_step.Goes made p) = plain.goes made (plain_part p)
-plain_step (part_step.Ends form) = plain.ends (written_form form)
-plain_step part_step.Refuses = plain.refuses
+abbrev pub plain_step : Advance → plain.Advance
+plain_step (advance.Goes made p) = plain.goes made (plain_command p)
+plain_step (advance.Ends form) = plain.ends (written_form form)
+plain_step advance.Refuses = plain.refuses
 
 -- the parser as plain data
 abbrev pub parsing : Parser → plain.Parsing
-parsing p = record { limits = p.limits; begun = p.begun; part = plain_part p.part.value; fault = p.fault }
+parsing p = record { limits = p.limits; begun = p.begun; part = plain_command p.part.value; fault = p.fault }
 
 -- the turn came to this answer and left this parser; want of memory says nothing
 abbrev pub CameTo : plain.Turn → Result Step Fault → plain.Parsing → Type 0

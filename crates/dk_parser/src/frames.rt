@@ -1,19 +1,19 @@
 //! What stands around the part of a term that is being read.
 ghost use Rattle.std.specs.Prelude.{◌≡◌, ◌+◌, IfOk, Some, option_map};
-ghost use Rattle.dk_parser.specs.Parsing.{around, atoms, binder_term, depth, in_bracket, in_frames, pushed, slot_binder, slot_more, slot_term, takes_atom, unwound, unwound_all};
+ghost use Rattle.dk_parser.specs.Parsing.{around, atoms, binder_term, depth, in_bracket, in_frames, pushed, application_binder, application_more, application_term, takes_atom, unwound, unwound_all};
 ghost use Rattle.dk_parser.specs.Parsing as plain;
-ghost use Rattle.dk_parser.specs.Views.{plain_place, plain_around, plain_frame, plain_frames, plain_slot, plain_term};
+ghost use Rattle.dk_parser.specs.Views.{plain_role, plain_around, plain_frame, plain_frames, plain_application, plain_term};
 ghost use Rattle.dk_parser.specs.Written.{written_annotated, written_apply, written_arrow, written_bare, written_product};
 ghost use Rattle.dk_parser.specs.RawViews.{maybe_written, written};
 
 use crate::RawTerm;
-use crate::term_part::TermPart;
+use crate::term_so_far::TermSoFar;
 use dk_model::{Listed, NoMemory};
 use std::alloc::Global;
 
 /// Where an application stands.
 #[derive(Drop)]
-pub enum Place {
+pub enum Role {
     /// At the front of a term.
     Front,
     /// As the domain of a binder. None is the wildcard.
@@ -22,13 +22,13 @@ pub enum Place {
 
 /// What has been read of an application and before it.
 #[derive(Drop)]
-pub enum Slot {
+pub enum Application {
     /// Nothing: an application is due.
-    Due(Place),
+    Due(Role),
     /// A name or a wildcard at the front of a term: a binder or the first atom.
     Bindable(Option<Listed<u8>>),
     /// An application of so many atoms.
-    Applied(Place, RawTerm, u64),
+    Applied(Role, RawTerm, u64),
     /// A binder and its domain in brackets: an arrow is due.
     Bracketed(Option<Listed<u8>>, RawTerm),
 }
@@ -37,7 +37,7 @@ pub enum Slot {
 #[derive(Drop)]
 pub enum Frame {
     /// An open bracket, and what stood before it.
-    Bracket(Slot),
+    Bracket(Application),
     /// `A ->`.
     Arrow(RawTerm),
     /// `x : A ->`.
@@ -54,7 +54,7 @@ pub enum Around {
     /// A longer term.
     Term(RawTerm),
     /// A bracket, and the last term in it.
-    Bracket(Slot, RawTerm),
+    Bracket(Application, RawTerm),
 }
 
 /// The frames, the innermost first, each with the level from it on.
@@ -133,42 +133,42 @@ fn next(n: u64) -> Result<u64, NoMemory>
     }
 }
 
-impl Slot {
+impl Application {
     /// The atoms of the application.
     pub fn atoms(&self) -> u64
-        ensures { result ≡ atoms (plain_slot self.now) }
+        ensures { result ≡ atoms (plain_application self.now) }
     {
         match self {
-            Slot::Due(_) => 0,
-            Slot::Bindable(_) => 1,
-            Slot::Applied(_, _, n) => *n,
-            Slot::Bracketed(_, _) => 1,
+            Application::Due(_) => 0,
+            Application::Bindable(_) => 1,
+            Application::Applied(_, _, n) => *n,
+            Application::Bracketed(_, _) => 1,
         }
     }
 
     /// Whether an atom may stand here.
     pub fn takes_atom(&self) -> bool
-        ensures { result ≡ takes_atom (plain_slot self.now) }
+        ensures { result ≡ takes_atom (plain_application self.now) }
     {
         match self {
-            Slot::Bracketed(_, _) => false,
+            Application::Bracketed(_, _) => false,
             _ => true,
         }
     }
 
     /// Adds an atom, where one may stand.
-    pub fn more(self, alloc: Global, a: RawTerm) -> Result<Option<Slot>, NoMemory>
-        ensures { IfOk result (λ slot. option_map plain_slot slot
-            ≡ slot_more (plain_slot self) (written a)) }
+    pub fn more(self, alloc: Global, a: RawTerm) -> Result<Option<Application>, NoMemory>
+        ensures { IfOk result (λ application. option_map plain_application application
+            ≡ application_more (plain_application self) (written a)) }
     {
         match self {
-            Slot::Due(place) => Ok(Some(Slot::Applied(place, a, 1))),
-            Slot::Bindable(binder) => {
+            Application::Due(role) => Ok(Some(Application::Applied(role, a, 1))),
+            Application::Bindable(binder) => {
                 let f = apply(alloc, binder_term(binder), a)?;
-                Ok(Some(Slot::Applied(Place::Front, f, 2)))
+                Ok(Some(Application::Applied(Role::Front, f, 2)))
             }
-            Slot::Applied(place, f, n) => applied(alloc, place, f, n, a),
-            Slot::Bracketed(binder, b) => {
+            Application::Applied(role, f, n) => applied(alloc, role, f, n, a),
+            Application::Bracketed(binder, b) => {
                 drop(binder);
                 drop(b);
                 drop(a);
@@ -178,32 +178,32 @@ impl Slot {
     }
 
     /// Adds a name or a wildcard.
-    pub fn binder(self, alloc: Global, binder: Option<Listed<u8>>) -> Result<Option<Slot>, NoMemory>
-        ensures { IfOk result (λ slot. option_map plain_slot slot
-            ≡ slot_binder (plain_slot self) binder) }
+    pub fn binder(self, alloc: Global, binder: Option<Listed<u8>>) -> Result<Option<Application>, NoMemory>
+        ensures { IfOk result (λ application. option_map plain_application application
+            ≡ application_binder (plain_application self) binder) }
     {
         match self {
-            Slot::Due(Place::Front) => Ok(Some(Slot::Bindable(binder))),
-            slot => slot.more(alloc, binder_term(binder)),
+            Application::Due(Role::Front) => Ok(Some(Application::Bindable(binder))),
+            application => application.more(alloc, binder_term(binder)),
         }
     }
 
     /// The application, where a term may end behind it.
     pub fn term(self) -> Option<RawTerm>
-        ensures { maybe_written result ≡ slot_term (plain_slot self) }
+        ensures { maybe_written result ≡ application_term (plain_application self) }
     {
         match self {
-            Slot::Bindable(binder) => Some(binder_term(binder)),
-            Slot::Applied(place, a, _) => match place {
-                Place::Front => Some(a),
-                Place::Domain(binder) => {
+            Application::Bindable(binder) => Some(binder_term(binder)),
+            Application::Applied(role, a, _) => match role {
+                Role::Front => Some(a),
+                Role::Domain(binder) => {
                     drop(binder);
                     drop(a);
                     None
                 }
             },
-            slot => {
-                drop(slot);
+            application => {
+                drop(application);
                 None
             }
         }
@@ -243,7 +243,7 @@ impl Frames {
     }
 
     /// Closes the innermost bracket behind a term. Recurses once for each arrow in it.
-    pub fn unwind(self, alloc: Global, a: RawTerm) -> Result<Option<TermPart>, NoMemory>
+    pub fn unwind(self, alloc: Global, a: RawTerm) -> Result<Option<TermSoFar>, NoMemory>
         ensures { IfOk result (λ part. option_map plain_term part
             ≡ unwound (plain_frames self) (written a)) }
     {
@@ -254,7 +254,7 @@ impl Frames {
             }
             Frames::On(_, frame, rest) => match frame.around(alloc, a) {
                 Ok(Around::Term(term)) => Box::into_inner(rest).unwind(alloc, term),
-                Ok(Around::Bracket(slot, a)) => atom_more(alloc, Box::into_inner(rest), slot, a),
+                Ok(Around::Bracket(application, a)) => atom_more(alloc, Box::into_inner(rest), application, a),
                 Err(e) => {
                     drop(rest);
                     Err(e)
@@ -272,8 +272,8 @@ impl Frames {
             Frames::Bottom(_) => Ok(Some(a)),
             Frames::On(_, frame, rest) => match frame.around(alloc, a) {
                 Ok(Around::Term(term)) => Box::into_inner(rest).unwind_all(alloc, term),
-                Ok(Around::Bracket(slot, a)) => {
-                    drop(slot);
+                Ok(Around::Bracket(application, a)) => {
+                    drop(application);
                     drop(a);
                     drop(rest);
                     Ok(None)
@@ -291,14 +291,14 @@ impl Frames {
 pub fn atom_more(
     alloc: Global,
     frames: Frames,
-    slot: Slot,
+    application: Application,
     a: RawTerm,
-) -> Result<Option<TermPart>, NoMemory>
+) -> Result<Option<TermSoFar>, NoMemory>
     ensures { IfOk result (λ part. option_map plain_term part
-        ≡ in_frames (plain_frames frames) (slot_more (plain_slot slot) (written a))) }
+        ≡ in_frames (plain_frames frames) (application_more (plain_application application) (written a))) }
 {
-    match slot.more(alloc, a) {
-        Ok(slot) => Ok(in_frames(frames, slot)),
+    match application.more(alloc, a) {
+        Ok(application) => Ok(in_frames(frames, application)),
         Err(e) => {
             drop(frames);
             Err(e)
@@ -310,14 +310,14 @@ pub fn atom_more(
 pub fn binder_more(
     alloc: Global,
     frames: Frames,
-    slot: Slot,
+    application: Application,
     binder: Option<Listed<u8>>,
-) -> Result<Option<TermPart>, NoMemory>
+) -> Result<Option<TermSoFar>, NoMemory>
     ensures { IfOk result (λ part. option_map plain_term part
-        ≡ in_frames (plain_frames frames) (slot_binder (plain_slot slot) binder)) }
+        ≡ in_frames (plain_frames frames) (application_binder (plain_application application) binder)) }
 {
-    match slot.binder(alloc, binder) {
-        Ok(slot) => Ok(in_frames(frames, slot)),
+    match application.binder(alloc, binder) {
+        Ok(application) => Ok(in_frames(frames, application)),
         Err(e) => {
             drop(frames);
             Err(e)
@@ -328,25 +328,25 @@ pub fn binder_more(
 // An application with one argument more.
 fn applied(
     alloc: Global,
-    place: Place,
+    role: Role,
     f: RawTerm,
     n: u64,
     a: RawTerm,
-) -> Result<Option<Slot>, NoMemory>
-    ensures { IfOk result (λ slot. option_map plain_slot slot
-        ≡ Some (plain.applied (plain_place place) (written_apply (written f) (written a))
+) -> Result<Option<Application>, NoMemory>
+    ensures { IfOk result (λ application. option_map plain_application application
+        ≡ Some (plain.applied (plain_role role) (written_apply (written f) (written a))
         (n + 1))) }
 {
     match n.checked_add(1) {
         Some(n) => match apply(alloc, f, a) {
-            Ok(f) => Ok(Some(Slot::Applied(place, f, n))),
+            Ok(f) => Ok(Some(Application::Applied(role, f, n))),
             Err(e) => {
-                drop(place);
+                drop(role);
                 Err(e)
             }
         },
         None => {
-            drop(place);
+            drop(role);
             drop(f);
             drop(a);
             Err(NoMemory)
@@ -361,7 +361,7 @@ impl Frame {
             ≡ around (plain_frame self) (written a)) }
     {
         match self {
-            Frame::Bracket(slot) => Ok(Around::Bracket(slot, a)),
+            Frame::Bracket(application) => Ok(Around::Bracket(application, a)),
             Frame::Arrow(b) => Ok(Around::Term(arrow(alloc, b, a)?)),
             Frame::Product(v, b) => Ok(Around::Term(product(alloc, v, b, a)?)),
             Frame::Bare(v) => Ok(Around::Term(bare(alloc, v, a)?)),
@@ -370,13 +370,13 @@ impl Frame {
     }
 }
 
-/// A term with this slot in these frames.
-pub fn in_frames(frames: Frames, slot: Option<Slot>) -> Option<TermPart>
+/// A term with this application in these frames.
+pub fn in_frames(frames: Frames, application: Option<Application>) -> Option<TermSoFar>
     ensures { option_map plain_term result
-        ≡ in_frames (plain_frames frames) (option_map plain_slot slot) }
+        ≡ in_frames (plain_frames frames) (option_map plain_application application) }
 {
-    match slot {
-        Some(slot) => Some(TermPart { frames, slot }),
+    match application {
+        Some(application) => Some(TermSoFar { frames, application }),
         None => {
             drop(frames);
             None

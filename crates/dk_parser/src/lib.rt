@@ -8,13 +8,13 @@ mod frames;
 mod head;
 mod laws;
 mod parser;
-mod part;
-mod pattern_part;
-mod pattern_slot;
+mod command_so_far;
+mod left_so_far;
+mod left_application;
 mod raw;
 mod rule_head;
 mod rule_part;
-mod term_part;
+mod term_so_far;
 mod terminal;
 
 pub use laws::{grammar_law, reading_law};

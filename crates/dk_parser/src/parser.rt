@@ -4,12 +4,12 @@ ghost use Rattle.dk_lexer.specs.declared.token.Token.{Token};
 ghost use Rattle.dk_model.specs.declared.code.Fault.{Fault};
 ghost use Rattle.dk_model.specs.declared.limits.Limits.{Limits};
 ghost use Rattle.dk_parser.specs.declared.parser.Step.{Step};
-ghost use Rattle.dk_parser.specs.Parsing.{parsing_after, part_next, turn, turn_by_step};
+ghost use Rattle.dk_parser.specs.Parsing.{parsing_after, advanced, turn, turn_by_step};
 ghost use Rattle.dk_parser.specs.Parsing as plain;
 ghost use Rattle.dk_parser.specs.Steps.{AddsStep, Answers, finished, read_tokens};
-ghost use Rattle.dk_parser.specs.Views.{CameTo, parsing, plain_part, plain_step};
+ghost use Rattle.dk_parser.specs.Views.{CameTo, parsing, plain_command, plain_step};
 
-use crate::part::{Part, PartStep};
+use crate::command_so_far::{CommandSoFar, Advance};
 use crate::terminal::Terminal;
 use crate::{Raw, RawForm};
 use dk_lexer::Token;
@@ -35,7 +35,7 @@ pub struct Parser {
     limits: Limits,
     begun: Option<u32>,
     // Behind a box, since it is large and what holds a parser is moved.
-    part: Box<Part>,
+    part: Box<CommandSoFar>,
     fault: Option<Code>,
 }
 
@@ -44,7 +44,7 @@ impl Parser {
     pub fn new(alloc: Global, limits: Limits) -> Result<Parser, NoMemory>
         ensures { IfOk result (λ parser. parsing parser ≡ parsing_after limits []) }
     {
-        let part = Box::new(alloc, Part::CommandDue)?;
+        let part = Box::new(alloc, CommandSoFar::CommandDue)?;
         Ok(Parser {
             limits,
             begun: None,
@@ -108,36 +108,36 @@ impl Parser {
 
     fn advance(&mut self, alloc: Global, line: u32, x: Terminal) -> Result<Step, Fault>
         ensures { CameTo
-            (turn_by_step (parsing self.old) line (part_next (parsing self.old).part x))
+            (turn_by_step (parsing self.old) line (advanced (parsing self.old).part x))
             result (parsing self.new) }
     {
-        let step = self.part_step(alloc, x)?;
+        let step = self.advance_command(alloc, x)?;
         self.step(line, step)
     }
 
     // The step of the part; the part is taken out.
-    fn part_step(&mut self, alloc: Global, x: Terminal) -> Result<PartStep, NoMemory>
+    fn advance_command(&mut self, alloc: Global, x: Terminal) -> Result<Advance, NoMemory>
         ensures ok { IfOk result (λ step. plain_step step
-            ≡ part_next (parsing self.old).part x) }
+            ≡ advanced (parsing self.old).part x) }
         ensures after { parsing self.new ≡ record (parsing self.old) { part = plain.command_due } }
     {
-        let part = replace(&mut *self.part, Part::CommandDue);
+        let part = replace(&mut *self.part, CommandSoFar::CommandDue);
         part.next(alloc, x)
     }
 
-    fn step(&mut self, line: u32, step: PartStep) -> Result<Step, Fault>
+    fn step(&mut self, line: u32, step: Advance) -> Result<Step, Fault>
         ensures { CameTo (turn_by_step (parsing self.old) line (plain_step step))
             result (parsing self.new) }
     {
         match step {
-            PartStep::Goes(made, part) => self.goes(line, made, part),
-            PartStep::Ends(form) => self.end(line, form),
-            PartStep::Refuses => self.refuse(line, Code::E02),
+            Advance::Goes(made, part) => self.goes(line, made, part),
+            Advance::Ends(form) => self.end(line, form),
+            Advance::Refuses => self.refuse(line, Code::E02),
         }
     }
 
-    fn goes(&mut self, line: u32, made: u64, part: Part) -> Result<Step, Fault>
-        ensures { CameTo (turn_by_step (parsing self.old) line (plain.goes made (plain_part part)))
+    fn goes(&mut self, line: u32, made: u64, part: CommandSoFar) -> Result<Step, Fault>
+        ensures { CameTo (turn_by_step (parsing self.old) line (plain.goes made (plain_command part)))
             result (parsing self.new) }
     {
         if made > self.limits.levels as u64 {
@@ -148,10 +148,10 @@ impl Parser {
         }
     }
 
-    fn go_on(&mut self, line: u32, part: Part) -> Result<Step, Fault>
+    fn go_on(&mut self, line: u32, part: CommandSoFar) -> Result<Step, Fault>
         ensures answer { result ≡ Ok Step.More }
         ensures after { parsing self.new
-            ≡ record (parsing self.old) { begun = Some line; part = plain_part part } }
+            ≡ record (parsing self.old) { begun = Some line; part = plain_command part } }
     {
         self.begun = Some(line);
         drop(replace(&mut *self.part, part));
@@ -164,7 +164,7 @@ impl Parser {
             ≡ record (parsing self.old) { begun = None; part = plain.command_due } }
     {
         self.begun = None;
-        drop(replace(&mut *self.part, Part::CommandDue));
+        drop(replace(&mut *self.part, CommandSoFar::CommandDue));
         Ok(Step::Command(Raw { line, form }))
     }
 
@@ -177,7 +177,7 @@ impl Parser {
         } }
     {
         self.begun = Some(line);
-        drop(replace(&mut *self.part, Part::CommandDue));
+        drop(replace(&mut *self.part, CommandSoFar::CommandDue));
         self.fault = Some(code);
         Err(Fault::Refused(code))
     }

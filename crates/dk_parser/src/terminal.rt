@@ -1,6 +1,6 @@
 //! Terminals: what a token is to the grammar (docs/grammar.md).
 ghost use Rattle.std.specs.Prelude.{◌≡◌, ◌+◌, IfOk, drop, position, take};
-ghost use Rattle.dk_parser.specs.Terminals.{dot_place, is_dot, module_part, name_part, terminal_of};
+ghost use Rattle.dk_parser.specs.Terminals.{dot_role, is_dot, module_part, name_part, terminal_of};
 
 use dk_lexer::{Sign, Token, TokenKind};
 use dk_model::{Listed, NoMemory};
@@ -54,7 +54,7 @@ fn qualified(alloc: Global, spelling: Listed<u8>) -> Result<Terminal, NoMemory>
         (λ x. x ≡ Terminal.Qualified (module_part spelling) (name_part spelling)) }
 {
     let bytes = spelling.as_slice();
-    let dot = dot_place(bytes);
+    let dot = dot_role(bytes);
     let module = Listed::from_slice(alloc, before(bytes, dot))?;
     let name = Listed::from_slice(alloc, behind(bytes, dot))?;
     Ok(Terminal::Qualified(module, name))
@@ -68,29 +68,29 @@ fn first_dot(bytes: &[u8]) -> Option<usize>
 }
 
 // Where the first dot is, or the length.
-fn dot_place(bytes: &[u8]) -> usize
-    ensures { result ≡ dot_place bytes.now }
+fn dot_role(bytes: &[u8]) -> usize
+    ensures { result ≡ dot_role bytes.now }
 {
     first_dot(bytes).unwrap_or(bytes.len())
 }
 
 // What stands before a place.
-fn before(bytes: &[u8], place: usize) -> &[u8]
-    ensures { result.now ≡ take place bytes.now }
+fn before(bytes: &[u8], role: usize) -> &[u8]
+    ensures { result.now ≡ take role bytes.now }
 {
-    if place < bytes.len() {
-        &bytes[..place]
+    if role < bytes.len() {
+        &bytes[..role]
     } else {
         bytes
     }
 }
 
 // What stands behind a place.
-fn behind(bytes: &[u8], place: usize) -> &[u8]
-    ensures { result.now ≡ drop (place + 1) bytes.now }
+fn behind(bytes: &[u8], role: usize) -> &[u8]
+    ensures { result.now ≡ drop (role + 1) bytes.now }
 {
-    if place < bytes.len() {
-        &bytes[place + 1..]
+    if role < bytes.len() {
+        &bytes[role + 1..]
     } else {
         &[]
     }

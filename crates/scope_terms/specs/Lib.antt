@@ -1,3 +1,3 @@
 pub mod Scopes
 pub mod Answers
-pub mod Places
+pub mod Meanings

@@ -67,15 +67,15 @@ abbrev pub binds : Spelling → Binder → Bool
 binds x None = false
 binds x (Some y) = same_spelling x y
 
--- the place of the first that passes the test, the first of all being place `n`
-abbrev pub place_from : {A : Type 0} → ℕ → (A → Bool) → List A → Option ℕ
-place_from n test [] = None
-place_from n test (x ∷ xs) = if test x then Some n else place_from (n + 1) test xs
+-- the number of the first that passes the test, the first of all having number `n`
+abbrev pub number_from : {A : Type 0} → ℕ → (A → Bool) → List A → Option ℕ
+number_from n test [] = None
+number_from n test (x ∷ xs) = if test x then Some n else number_from (n + 1) test xs
 
 -- the innermost binder so spelt, else the rule variable, else the symbol; `bound` has the binders, innermost first
 abbrev pub meaning_of : Numbered → Numbered → List Binder → Spelling → Meaning
 meaning_of names variables bound x =
-    option_map_or means_variable (place_from 0 (binds x) bound)
+    option_map_or means_variable (number_from 0 (binds x) bound)
     (option_map_or means_rule_variable (number_of variables x)
     (option_map_or means_symbol (number_of names x) unknown))
 
@@ -142,7 +142,7 @@ notes_of names before [] = scoped []
 notes_of names before (e ∷ es) =
     if is_some (number_of before e.name) then refused E13 else (both (λ n ns. n ∷ ns) (maybe_term_of names before [] e.note) (notes_of names (with_name before e.name) es))
 
--- the rule variables of a context, each with its place there
+-- the rule variables of a context, each with its number there
 abbrev pub variables_of : Numbered → List WrittenNote → Numbered
 variables_of before [] = before
 variables_of before (e ∷ es) = variables_of (with_name before e.name) es

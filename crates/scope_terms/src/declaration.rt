@@ -3,9 +3,9 @@ ghost use Rattle.std.specs.Prelude.{◌≡◌, IfOk, IfErr};
 ghost use Rattle.dk_model.specs.Trees.{tree};
 ghost use Rattle.scope_terms.specs.Scopes.{no_names, scoped, with_parameter};
 ghost use Rattle.scope_terms.specs.Answers.{IsFaultOf};
-ghost use Rattle.scope_terms.specs.Places.{declaration, declaring};
+ghost use Rattle.scope_terms.specs.Meanings.{declaration, declaring};
 
-use crate::place::{Binders, Scope};
+use crate::meaning::{Binders, Scope};
 use crate::term::{maybe_term_at, term_at};
 use dk_model::{Fault, NoMemory, Term, make_annotated, make_product};
 use dk_parser::{RawParam, RawTerm};

@@ -3,9 +3,9 @@ ghost use Rattle.std.specs.Prelude.{◌≡◌, IfOk, IfErr};
 ghost use Rattle.dk_model.specs.Scoping.{plain_left, left_apply, left_abstraction};
 ghost use Rattle.scope_terms.specs.Scopes.{scoped};
 ghost use Rattle.scope_terms.specs.Answers.{IsFaultOf};
-ghost use Rattle.scope_terms.specs.Places.{named_left, left_sense};
+ghost use Rattle.scope_terms.specs.Meanings.{named_left, left_sense};
 
-use crate::place::{Binders, Named, Scope, look_up};
+use crate::meaning::{Binders, Named, Scope, look_up};
 use crate::term::term_at;
 use dk_model::{Code, Fault, Left, Listed, NoMemory};
 use dk_parser::RawPat;
@@ -26,11 +26,11 @@ fn make_left_abs(alloc: Global, body: Left) -> Result<Left, NoMemory>
 }
 
 /// The number of a bound variable in a left side.
-fn narrow(place: u64) -> Result<u32, NoMemory>
-    ensures { IfOk result (λ n. n ≡ place) }
+fn narrow(number: u64) -> Result<u32, NoMemory>
+    ensures { IfOk result (λ n. n ≡ number) }
 {
-    match u32::try_from(place) {
-        Ok(place) => Ok(place),
+    match u32::try_from(number) {
+        Ok(number) => Ok(number),
         Err(_) => Err(NoMemory),
     }
 }
@@ -41,8 +41,8 @@ fn name_at<'a>(scope: &Scope, name: &Listed<u8>, bound: &'a Binders<'a>) -> Resu
     ensures refused { IfErr result (IsFaultOf (named_left scope.now bound.now name.now)) }
 {
     match look_up(scope, bound, name.as_slice())? {
-        Named::Variable(place) => Ok(Left::Var(narrow(place)?)),
-        Named::RuleVariable(place) => Ok(Left::Rvar(place)),
+        Named::Variable(number) => Ok(Left::Var(narrow(number)?)),
+        Named::RuleVariable(number) => Ok(Left::Rvar(number)),
         Named::Symbol(number) => Ok(Left::Sym(number)),
         Named::Unknown => Err(Fault::Refused(Code::E10)),
     }

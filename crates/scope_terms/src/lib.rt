@@ -8,7 +8,7 @@ mod declaration;
 pub mod laws;
 mod left;
 mod names;
-mod place;
+mod meaning;
 mod rule;
 mod term;
 #[cfg(test)]

@@ -4,10 +4,10 @@ ghost use Rattle.dk_model.specs.Scoping.{plain_command};
 ghost use Rattle.dk_parser.specs.RawViews.{written_form};
 ghost use Rattle.scope_terms.specs.Scopes.{no_names, number_of, with_name, names_after, scoped};
 ghost use Rattle.scope_terms.specs.Answers.{IsFaultOf};
-ghost use Rattle.scope_terms.specs.Places.{scoping_of};
+ghost use Rattle.scope_terms.specs.Meanings.{scoping_of};
 
 use crate::declaration::{TypeAndBody, declaration_at};
-use crate::place::{Binders, Scope};
+use crate::meaning::{Binders, Scope};
 use crate::rule::rules_at;
 use dk_model::{Code, Fault, Listed, NoMemory, Scoped};
 use dk_parser::{Raw, RawForm};

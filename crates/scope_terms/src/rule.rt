@@ -3,11 +3,11 @@ ghost use Rattle.std.specs.Prelude.{◌≡◌, IfOk, IfErr};
 ghost use Rattle.dk_model.specs.Scoping.{plain_scoped_rule};
 ghost use Rattle.scope_terms.specs.Scopes.{scoped};
 ghost use Rattle.scope_terms.specs.Answers.{IsFaultOf};
-ghost use Rattle.scope_terms.specs.Places.{noted, plain_rules, notes_sense, declared, rule_sense, rules_sense};
+ghost use Rattle.scope_terms.specs.Meanings.{noted, plain_rules, notes_sense, declared, rule_sense, rules_sense};
 
 use crate::Names;
 use crate::left::left_at;
-use crate::place::{Binders, Scope};
+use crate::meaning::{Binders, Scope};
 use crate::term::{maybe_term_at, term_at};
 use dk_model::{Code, Fault, Listed, ScopedRule, Term};
 use dk_parser::{RawNote, RawRule};
@@ -15,13 +15,13 @@ use std::alloc::Global;
 
 /// A scoped context: its rule variables by number and their annotations.
 #[derive(Drop)]
-struct Context {
+struct ScopedContext {
     variables: Names,
     notes: Listed<Option<Term>>,
 }
 
 /// The context, or its first code.
-fn context_at(alloc: Global, context: &[RawNote], names: &Names) -> Result<Context, Fault>
+fn context_at(alloc: Global, context: &[RawNote], names: &Names) -> Result<ScopedContext, Fault>
     ensures ok { IfOk result (λ c. notes_sense names.now context.now ≡ scoped (noted c)) }
     ensures variables { IfOk result (λ c. c.variables ≡ declared context.now) }
     ensures refused { IfErr result (IsFaultOf (notes_sense names.now context.now)) }
@@ -43,7 +43,7 @@ fn context_at(alloc: Global, context: &[RawNote], names: &Names) -> Result<Conte
         }
         variables.add(alloc, &entry.name)?;
     }
-    Ok(Context { variables, notes })
+    Ok(ScopedContext { variables, notes })
 }
 
 /// The rule, or its first code.
@@ -51,7 +51,7 @@ fn rule_at(alloc: Global, rule: &RawRule, names: &Names) -> Result<ScopedRule, F
     ensures ok { IfOk result (λ r. rule_sense names.now rule.now ≡ scoped (plain_scoped_rule r)) }
     ensures refused { IfErr result (IsFaultOf (rule_sense names.now rule.now)) }
 {
-    let Context { variables, notes } = context_at(alloc, rule.context.as_slice(), names)?;
+    let ScopedContext { variables, notes } = context_at(alloc, rule.context.as_slice(), names)?;
     let scope = Scope {
         names,
         variables: &variables,

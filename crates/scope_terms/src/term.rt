@@ -5,9 +5,9 @@ ghost use Rattle.dk_model.specs.Signatures.{maybe_tree};
 ghost use Rattle.dk_parser.specs.RawViews.{written};
 ghost use Rattle.scope_terms.specs.Scopes.{scoped};
 ghost use Rattle.scope_terms.specs.Answers.{IsFaultOf};
-ghost use Rattle.scope_terms.specs.Places.{named_term, term_sense, maybe_sense};
+ghost use Rattle.scope_terms.specs.Meanings.{named_term, term_sense, maybe_sense};
 
-use crate::place::{Binders, Named, Scope, look_up};
+use crate::meaning::{Binders, Named, Scope, look_up};
 use dk_model::{Code, Fault, Listed, Term, make_annotated, make_app, make_bare, make_product};
 use dk_parser::RawTerm;
 use std::alloc::Global;
@@ -17,8 +17,8 @@ fn name_at<'a>(scope: &Scope, name: &Listed<u8>, bound: &'a Binders<'a>) -> Resu
     ensures refused { IfErr result (IsFaultOf (named_term scope.now bound.now name.now)) }
 {
     match look_up(scope, bound, name.as_slice())? {
-        Named::Variable(place) => Ok(Term::Var(place)),
-        Named::RuleVariable(place) => Ok(Term::Rvar(place)),
+        Named::Variable(number) => Ok(Term::Var(number)),
+        Named::RuleVariable(number) => Ok(Term::Rvar(number)),
         Named::Symbol(number) => Ok(Term::Sym(number)),
         Named::Unknown => Err(Fault::Refused(Code::E10)),
     }

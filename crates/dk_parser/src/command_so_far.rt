@@ -1,21 +1,21 @@
 //! Commands, one terminal at a time.
 ghost use Rattle.std.specs.Prelude.{◌≡◌, IfOk, option_map};
-ghost use Rattle.dk_parser.specs.Parsing.{behind_term, in_term_next, part_next, takes, term_ends, term_goes};
+ghost use Rattle.dk_parser.specs.Parsing.{behind_term, in_term_next, advanced, takes, term_ends, term_goes};
 ghost use Rattle.dk_parser.specs.Parsing as plain;
-ghost use Rattle.dk_parser.specs.Views.{plain_part, plain_purpose, plain_step, plain_term};
+ghost use Rattle.dk_parser.specs.Views.{plain_command, plain_purpose, plain_step, plain_term};
 ghost use Rattle.dk_parser.specs.RawViews.{maybe_written, written};
 
 use crate::declare_part::{
     binder_colon_next, binder_next, body_read, head_next, name_next, named, param_read, type_read,
 };
 use crate::head::Head;
-use crate::pattern_part::PatternPart;
+use crate::left_so_far::LeftSoFar;
 use crate::rule_head::RuleHead;
 use crate::rule_part::{
     context_next, entry_next, entry_read, guard_read, left_next, named_next, rule_brace_next,
     rule_name_next, rule_read, square_next,
 };
-use crate::term_part::TermPart;
+use crate::term_so_far::TermSoFar;
 use crate::terminal::Terminal;
 use crate::{RawForm, RawPat, RawTerm};
 use dk_lexer::Sign;
@@ -34,14 +34,14 @@ pub enum Purpose {
     /// The type of an entry of a context.
     Entry(RuleHead, Listed<u8>),
     /// A guard behind this part of a left side.
-    Guard(RuleHead, PatternPart),
+    Guard(RuleHead, LeftSoFar),
     /// The right side of a rule with this left side.
     Right(RuleHead, RawPat),
 }
 
 /// A command that has begun, by what is due next.
 #[derive(Drop)]
-pub enum Part {
+pub enum CommandSoFar {
     /// The first token.
     CommandDue,
     /// The name of a definition or a theorem.
@@ -65,62 +65,62 @@ pub enum Part {
     /// What stands behind the name of an entry.
     EntryNamed(RuleHead, Listed<u8>),
     /// More of a left side, or what ends it.
-    InLeft(RuleHead, PatternPart),
+    InLeft(RuleHead, LeftSoFar),
     /// More of a term, or what ends it.
-    InTerm(Purpose, TermPart),
+    InTerm(Purpose, TermSoFar),
 }
 
 /// What a terminal makes of a command that has begun.
 #[derive(Drop)]
-pub enum PartStep {
+pub enum Advance {
     /// It goes on. The level that the terminal stands on, or the number of the argument that it
     /// begins, whichever is greater.
-    Goes(u64, Part),
+    Goes(u64, CommandSoFar),
     Ends(RawForm),
     /// No command begins so.
     Refuses,
 }
 
-impl Part {
+impl CommandSoFar {
     /// Takes a terminal.
-    pub fn next(self, alloc: Global, x: Terminal) -> Result<PartStep, NoMemory>
-        ensures { IfOk result (λ step. plain_step step ≡ part_next (plain_part self) x) }
+    pub fn next(self, alloc: Global, x: Terminal) -> Result<Advance, NoMemory>
+        ensures { IfOk result (λ step. plain_step step ≡ advanced (plain_command self) x) }
     {
         match self {
-            Part::CommandDue => Ok(command_next(alloc, x)),
-            Part::NameDue(sort) => Ok(name_next(alloc, sort, x)),
-            Part::HeadDue(head) => head_next(head, x),
-            Part::BinderDue(head) => binder_next(head, x),
-            Part::BinderColonDue(head, binder) => binder_colon_next(head, binder, x),
-            Part::RuleNameDue(head) => Ok(rule_name_next(head, x)),
-            Part::RuleBraceDue(head) => Ok(rule_brace_next(head, x)),
-            Part::SquareDue(head) => Ok(square_next(head, x)),
-            Part::ContextDue(head) => Ok(context_next(head, x)),
-            Part::EntryDue(head) => Ok(entry_next(head, x)),
-            Part::EntryNamed(head, name) => named_next(head, name, x),
-            Part::InLeft(head, part) => left_next(alloc, head, part, x),
-            Part::InTerm(purpose, part) => in_term_next(alloc, purpose, part, x),
+            CommandSoFar::CommandDue => Ok(command_next(alloc, x)),
+            CommandSoFar::NameDue(sort) => Ok(name_next(alloc, sort, x)),
+            CommandSoFar::HeadDue(head) => head_next(head, x),
+            CommandSoFar::BinderDue(head) => binder_next(head, x),
+            CommandSoFar::BinderColonDue(head, binder) => binder_colon_next(head, binder, x),
+            CommandSoFar::RuleNameDue(head) => Ok(rule_name_next(head, x)),
+            CommandSoFar::RuleBraceDue(head) => Ok(rule_brace_next(head, x)),
+            CommandSoFar::SquareDue(head) => Ok(square_next(head, x)),
+            CommandSoFar::ContextDue(head) => Ok(context_next(head, x)),
+            CommandSoFar::EntryDue(head) => Ok(entry_next(head, x)),
+            CommandSoFar::EntryNamed(head, name) => named_next(head, name, x),
+            CommandSoFar::InLeft(head, part) => left_next(alloc, head, part, x),
+            CommandSoFar::InTerm(purpose, part) => in_term_next(alloc, purpose, part, x),
         }
     }
 }
 
 // The first terminal of a command.
-fn command_next(alloc: Global, x: Terminal) -> PartStep
-    ensures { plain_step result ≡ part_next plain.command_due x }
+fn command_next(alloc: Global, x: Terminal) -> Advance
+    ensures { plain_step result ≡ advanced plain.command_due x }
 {
     match x {
         Terminal::Name(name) => named(alloc, SymSort::Static, name),
-        Terminal::Def => PartStep::Goes(0, Part::NameDue(SymSort::Definable)),
-        Terminal::Thm => PartStep::Goes(0, Part::NameDue(SymSort::Theorem)),
+        Terminal::Def => Advance::Goes(0, CommandSoFar::NameDue(SymSort::Definable)),
+        Terminal::Thm => Advance::Goes(0, CommandSoFar::NameDue(SymSort::Theorem)),
         Terminal::Sign(Sign::OpenBrace) => {
-            PartStep::Goes(0, Part::RuleNameDue(RuleHead::new(alloc)))
+            Advance::Goes(0, CommandSoFar::RuleNameDue(RuleHead::new(alloc)))
         }
         Terminal::Sign(Sign::OpenSquare) => {
-            PartStep::Goes(0, Part::ContextDue(RuleHead::new(alloc)))
+            Advance::Goes(0, CommandSoFar::ContextDue(RuleHead::new(alloc)))
         }
         x => {
             drop(x);
-            PartStep::Refuses
+            Advance::Refuses
         }
     }
 }
@@ -128,9 +128,9 @@ fn command_next(alloc: Global, x: Terminal) -> PartStep
 fn in_term_next(
     alloc: Global,
     purpose: Purpose,
-    part: TermPart,
+    part: TermSoFar,
     x: Terminal,
-) -> Result<PartStep, NoMemory>
+) -> Result<Advance, NoMemory>
     ensures { IfOk result (λ step. plain_step step
         ≡ in_term_next (takes (plain_term part) x) (plain_purpose purpose) (plain_term part) x) }
 {
@@ -155,18 +155,18 @@ fn in_term_next(
     }
 }
 
-fn term_goes(purpose: Purpose, argument: u64, part: Option<TermPart>) -> PartStep
+fn term_goes(purpose: Purpose, argument: u64, part: Option<TermSoFar>) -> Advance
     ensures { plain_step result
         ≡ term_goes (plain_purpose purpose) argument (option_map plain_term part) }
 {
     match part {
-        Some(part) => PartStep::Goes(
+        Some(part) => Advance::Goes(
             part.frames.depth().max(argument),
-            Part::InTerm(purpose, part),
+            CommandSoFar::InTerm(purpose, part),
         ),
         None => {
             drop(purpose);
-            PartStep::Refuses
+            Advance::Refuses
         }
     }
 }
@@ -176,7 +176,7 @@ fn term_ends(
     purpose: Purpose,
     x: Terminal,
     term: Option<RawTerm>,
-) -> Result<PartStep, NoMemory>
+) -> Result<Advance, NoMemory>
     ensures { IfOk result (λ step. plain_step step
         ≡ term_ends (plain_purpose purpose) x (maybe_written term)) }
 {
@@ -185,7 +185,7 @@ fn term_ends(
         None => {
             drop(purpose);
             drop(x);
-            Ok(PartStep::Refuses)
+            Ok(Advance::Refuses)
         }
     }
 }
@@ -196,7 +196,7 @@ fn behind_term(
     purpose: Purpose,
     term: RawTerm,
     x: Terminal,
-) -> Result<PartStep, NoMemory>
+) -> Result<Advance, NoMemory>
     ensures { IfOk result (λ step. plain_step step
         ≡ behind_term (plain_purpose purpose) (written term) x) }
 {

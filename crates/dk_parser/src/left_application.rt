@@ -1,8 +1,8 @@
 //! What has been read of an application of patterns.
 ghost use Rattle.std.specs.Prelude.{◌≡◌, ◌+◌, IfOk};
-ghost use Rattle.dk_parser.specs.Parsing.{binder_pattern, pattern_atoms, pattern_binder, pattern_more, slot_pattern};
+ghost use Rattle.dk_parser.specs.Parsing.{binder_pattern, pattern_atoms, pattern_binder, pattern_more, left_pattern};
 ghost use Rattle.dk_parser.specs.Parsing as plain;
-ghost use Rattle.dk_parser.specs.Views.{maybe_pattern, plain_pattern_slot};
+ghost use Rattle.dk_parser.specs.Views.{maybe_pattern, plain_left_application};
 ghost use Rattle.dk_parser.specs.Written.{pattern_apply};
 ghost use Rattle.dk_parser.specs.RawViews.{written_pattern};
 
@@ -12,7 +12,7 @@ use std::alloc::Global;
 
 /// What has been read of an application of patterns.
 #[derive(Drop)]
-pub enum PatternSlot {
+pub enum LeftApplication {
     /// Nothing.
     Due,
     /// A name or a wildcard: a binder or the first atom.
@@ -40,65 +40,65 @@ fn apply(alloc: Global, f: RawPat, p: RawPat) -> Result<RawPat, NoMemory>
     Ok(RawPat::App(f, p))
 }
 
-impl PatternSlot {
+impl LeftApplication {
     /// The atoms of the application.
     pub fn atoms(&self) -> u64
-        ensures { result ≡ pattern_atoms (plain_pattern_slot self.now) }
+        ensures { result ≡ pattern_atoms (plain_left_application self.now) }
     {
         match self {
-            PatternSlot::Due => 0,
-            PatternSlot::Bindable(_) => 1,
-            PatternSlot::Applied(_, n) => *n,
+            LeftApplication::Due => 0,
+            LeftApplication::Bindable(_) => 1,
+            LeftApplication::Applied(_, n) => *n,
         }
     }
 
     /// Adds an atom.
-    pub fn more(self, alloc: Global, p: RawPat) -> Result<PatternSlot, NoMemory>
-        ensures { IfOk result (λ slot. plain_pattern_slot slot
-            ≡ pattern_more (plain_pattern_slot self) (written_pattern p)) }
+    pub fn more(self, alloc: Global, p: RawPat) -> Result<LeftApplication, NoMemory>
+        ensures { IfOk result (λ application. plain_left_application application
+            ≡ pattern_more (plain_left_application self) (written_pattern p)) }
     {
         match self {
-            PatternSlot::Due => Ok(PatternSlot::Applied(p, 1)),
-            PatternSlot::Bindable(binder) => {
+            LeftApplication::Due => Ok(LeftApplication::Applied(p, 1)),
+            LeftApplication::Bindable(binder) => {
                 let f = apply(alloc, binder_pattern(binder), p)?;
-                Ok(PatternSlot::Applied(f, 2))
+                Ok(LeftApplication::Applied(f, 2))
             }
-            PatternSlot::Applied(f, n) => applied(alloc, f, n, p),
+            LeftApplication::Applied(f, n) => applied(alloc, f, n, p),
         }
     }
 
     /// Adds a name or a wildcard.
-    pub fn binder(self, alloc: Global, binder: Option<Listed<u8>>) -> Result<PatternSlot, NoMemory>
-        ensures { IfOk result (λ slot. plain_pattern_slot slot
-            ≡ pattern_binder (plain_pattern_slot self) binder) }
+    pub fn binder(self, alloc: Global, binder: Option<Listed<u8>>) -> Result<LeftApplication, NoMemory>
+        ensures { IfOk result (λ application. plain_left_application application
+            ≡ pattern_binder (plain_left_application self) binder) }
     {
         match self {
-            PatternSlot::Due => Ok(PatternSlot::Bindable(binder)),
-            slot => slot.more(alloc, binder_pattern(binder)),
+            LeftApplication::Due => Ok(LeftApplication::Bindable(binder)),
+            application => application.more(alloc, binder_pattern(binder)),
         }
     }
 
     /// The application, where it may end.
     pub fn pattern(self) -> Option<RawPat>
-        ensures { maybe_pattern result ≡ slot_pattern (plain_pattern_slot self) }
+        ensures { maybe_pattern result ≡ left_pattern (plain_left_application self) }
     {
         match self {
-            PatternSlot::Due => None,
-            PatternSlot::Bindable(binder) => Some(binder_pattern(binder)),
-            PatternSlot::Applied(p, _) => Some(p),
+            LeftApplication::Due => None,
+            LeftApplication::Bindable(binder) => Some(binder_pattern(binder)),
+            LeftApplication::Applied(p, _) => Some(p),
         }
     }
 }
 
 // An application with one argument more.
-fn applied(alloc: Global, f: RawPat, n: u64, p: RawPat) -> Result<PatternSlot, NoMemory>
-    ensures { IfOk result (λ slot. plain_pattern_slot slot
+fn applied(alloc: Global, f: RawPat, n: u64, p: RawPat) -> Result<LeftApplication, NoMemory>
+    ensures { IfOk result (λ application. plain_left_application application
         ≡ plain.pattern_applied (pattern_apply (written_pattern f) (written_pattern p)) (n + 1)) }
 {
     match n.checked_add(1) {
         Some(n) => {
             let f = apply(alloc, f, p)?;
-            Ok(PatternSlot::Applied(f, n))
+            Ok(LeftApplication::Applied(f, n))
         }
         None => {
             drop(f);

@@ -1,13 +1,13 @@
 //! Left sides of rules, one terminal at a time; their guards are read as terms.
 ghost use Rattle.std.specs.Prelude.{◌≡◌, ◌+◌, IfOk, Some, option_map};
-ghost use Rattle.dk_parser.specs.Parsing.{left_due, pattern_argument, pattern_bound, pattern_closed, pattern_depth, pattern_done, pattern_next, pattern_opened, slot_pattern, under_binders, with_atom, with_binder};
+ghost use Rattle.dk_parser.specs.Parsing.{left_due, pattern_argument, pattern_bound, pattern_closed, pattern_depth, pattern_done, pattern_next, pattern_opened, left_pattern, under_binders, with_atom, with_binder};
 ghost use Rattle.dk_parser.specs.Parsing as plain;
-ghost use Rattle.dk_parser.specs.Views.{maybe_pattern, plain_binders, plain_pattern, plain_pattern_frames, plain_pattern_slot};
+ghost use Rattle.dk_parser.specs.Views.{maybe_pattern, plain_binders, plain_pattern, plain_pattern_frames, plain_left_application};
 ghost use Rattle.dk_parser.specs.Written.{pattern_bare};
 ghost use Rattle.dk_parser.specs.RawViews.{written_pattern};
 
 use crate::RawPat;
-use crate::pattern_slot::PatternSlot;
+use crate::left_application::LeftApplication;
 use crate::terminal::Terminal;
 use dk_lexer::Sign;
 use dk_model::{Listed, NoMemory};
@@ -25,14 +25,14 @@ pub enum Binders {
 #[derive(Drop)]
 pub enum PatternFrames {
     NoBracket,
-    BracketOn(u64, PatternSlot, Binders, Box<PatternFrames>),
+    BracketOn(u64, LeftApplication, Binders, Box<PatternFrames>),
 }
 
 /// A left side that has begun.
 #[derive(Drop)]
-pub struct PatternPart {
+pub struct LeftSoFar {
     pub frames: PatternFrames,
-    pub slot: PatternSlot,
+    pub application: LeftApplication,
 }
 
 fn bare(alloc: Global, binder: Option<Listed<u8>>, p: RawPat) -> Result<RawPat, NoMemory>
@@ -90,14 +90,14 @@ impl PatternFrames {
     }
 }
 
-impl PatternPart {
+impl LeftSoFar {
     /// Before the first terminal.
-    pub fn new() -> PatternPart
+    pub fn new() -> LeftSoFar
         ensures { plain_pattern result ≡ left_due }
     {
-        PatternPart {
+        LeftSoFar {
             frames: PatternFrames::NoBracket,
-            slot: PatternSlot::Due,
+            application: LeftApplication::Due,
         }
     }
 
@@ -106,16 +106,16 @@ impl PatternPart {
         ensures { result ≡ pattern_argument (plain_pattern self.now) x.now }
     {
         match x {
-            Terminal::Name(_) => self.slot.atoms(),
-            Terminal::Wildcard => self.slot.atoms(),
-            Terminal::Qualified(_, _) => self.slot.atoms(),
-            Terminal::Sign(Sign::OpenBracket) => self.slot.atoms(),
+            Terminal::Name(_) => self.application.atoms(),
+            Terminal::Wildcard => self.application.atoms(),
+            Terminal::Qualified(_, _) => self.application.atoms(),
+            Terminal::Sign(Sign::OpenBracket) => self.application.atoms(),
             _ => 0,
         }
     }
 
     /// Takes a terminal that is in no guard, or answers None where the left side can't go on so.
-    pub fn next(self, alloc: Global, x: Terminal) -> Result<Option<PatternPart>, NoMemory>
+    pub fn next(self, alloc: Global, x: Terminal) -> Result<Option<LeftSoFar>, NoMemory>
         ensures { IfOk result (λ next. option_map plain_pattern next
             ≡ pattern_next (plain_pattern self) x) }
     {
@@ -137,13 +137,13 @@ impl PatternPart {
     }
 
     /// With an atom more.
-    pub fn with_atom(self, alloc: Global, p: RawPat) -> Result<PatternPart, NoMemory>
+    pub fn with_atom(self, alloc: Global, p: RawPat) -> Result<LeftSoFar, NoMemory>
         ensures { IfOk result (λ part. plain_pattern part
             ≡ with_atom (plain_pattern self) (written_pattern p)) }
     {
-        let PatternPart { frames, slot } = self;
-        match slot.more(alloc, p) {
-            Ok(slot) => Ok(PatternPart { frames, slot }),
+        let LeftSoFar { frames, application } = self;
+        match application.more(alloc, p) {
+            Ok(application) => Ok(LeftSoFar { frames, application }),
             Err(e) => {
                 drop(frames);
                 Err(e)
@@ -151,13 +151,13 @@ impl PatternPart {
         }
     }
 
-    fn with_binder(self, alloc: Global, binder: Option<Listed<u8>>) -> Result<PatternPart, NoMemory>
+    fn with_binder(self, alloc: Global, binder: Option<Listed<u8>>) -> Result<LeftSoFar, NoMemory>
         ensures { IfOk result (λ part. plain_pattern part
             ≡ with_binder (plain_pattern self) binder) }
     {
-        let PatternPart { frames, slot } = self;
-        match slot.binder(alloc, binder) {
-            Ok(slot) => Ok(PatternPart { frames, slot }),
+        let LeftSoFar { frames, application } = self;
+        match application.binder(alloc, binder) {
+            Ok(application) => Ok(LeftSoFar { frames, application }),
             Err(e) => {
                 drop(frames);
                 Err(e)
@@ -165,22 +165,22 @@ impl PatternPart {
         }
     }
 
-    fn opened(self, alloc: Global) -> Result<PatternPart, NoMemory>
+    fn opened(self, alloc: Global) -> Result<LeftSoFar, NoMemory>
         ensures { IfOk result (λ part. plain_pattern part ≡ pattern_opened (plain_pattern self)) }
     {
-        let PatternPart { frames, slot } = self;
+        let LeftSoFar { frames, application } = self;
         let depth = frames.depth();
-        frames_more(alloc, depth, slot, Binders::NoBinders, frames)
+        frames_more(alloc, depth, application, Binders::NoBinders, frames)
     }
 
-    fn closed(self, alloc: Global) -> Result<Option<PatternPart>, NoMemory>
+    fn closed(self, alloc: Global) -> Result<Option<LeftSoFar>, NoMemory>
         ensures { IfOk result (λ part. option_map plain_pattern part
-            ≡ pattern_closed (plain_pattern self).frames (slot_pattern (plain_pattern self).slot)) }
+            ≡ pattern_closed (plain_pattern self).frames (left_pattern (plain_pattern self).application)) }
     {
-        let PatternPart { frames, slot } = self;
-        match (frames, slot.pattern()) {
-            (PatternFrames::BracketOn(_, slot, binders, rest), Some(p)) => {
-                bracket_closed(alloc, slot, binders, Box::into_inner(rest), p)
+        let LeftSoFar { frames, application } = self;
+        match (frames, application.pattern()) {
+            (PatternFrames::BracketOn(_, application, binders, rest), Some(p)) => {
+                bracket_closed(alloc, application, binders, Box::into_inner(rest), p)
             }
             (frames, p) => {
                 drop(frames);
@@ -190,18 +190,18 @@ impl PatternPart {
         }
     }
 
-    fn bound(self, alloc: Global) -> Result<Option<PatternPart>, NoMemory>
+    fn bound(self, alloc: Global) -> Result<Option<LeftSoFar>, NoMemory>
         ensures { IfOk result (λ part. option_map plain_pattern part
-            ≡ pattern_bound (plain_pattern self).frames (plain_pattern self).slot) }
+            ≡ pattern_bound (plain_pattern self).frames (plain_pattern self).application) }
     {
-        let PatternPart { frames, slot } = self;
-        match (frames, slot) {
-            (PatternFrames::BracketOn(depth, before, binders, rest), PatternSlot::Bindable(v)) => {
+        let LeftSoFar { frames, application } = self;
+        match (frames, application) {
+            (PatternFrames::BracketOn(depth, before, binders, rest), LeftApplication::Bindable(v)) => {
                 binder_bound(alloc, depth, before, binders, Box::into_inner(rest), v)
             }
-            (frames, slot) => {
+            (frames, application) => {
                 drop(frames);
-                drop(slot);
+                drop(application);
                 Ok(None)
             }
         }
@@ -211,12 +211,12 @@ impl PatternPart {
     pub fn done(self) -> Option<RawPat>
         ensures { maybe_pattern result ≡ pattern_done (plain_pattern self) }
     {
-        let PatternPart { frames, slot } = self;
+        let LeftSoFar { frames, application } = self;
         match frames {
-            PatternFrames::NoBracket => slot.pattern(),
+            PatternFrames::NoBracket => application.pattern(),
             frames => {
                 drop(frames);
-                drop(slot);
+                drop(application);
                 None
             }
         }
@@ -226,17 +226,17 @@ impl PatternPart {
 // A bracket closes behind this pattern.
 fn bracket_closed(
     alloc: Global,
-    slot: PatternSlot,
+    application: LeftApplication,
     binders: Binders,
     frames: PatternFrames,
     p: RawPat,
-) -> Result<Option<PatternPart>, NoMemory>
+) -> Result<Option<LeftSoFar>, NoMemory>
     ensures { IfOk result (λ part. option_map plain_pattern part
         ≡ Some (with_atom
-        (record { frames = plain_pattern_frames frames; slot = plain_pattern_slot slot })
+        (record { frames = plain_pattern_frames frames; application = plain_left_application application })
         (under_binders (plain_binders binders) (written_pattern p)))) }
 {
-    let part = PatternPart { frames, slot };
+    let part = LeftSoFar { frames, application };
     match binders.around(alloc, p) {
         Ok(p) => match part.with_atom(alloc, p) {
             Ok(part) => Ok(Some(part)),
@@ -253,25 +253,25 @@ fn bracket_closed(
 fn binder_bound(
     alloc: Global,
     depth: u64,
-    slot: PatternSlot,
+    application: LeftApplication,
     binders: Binders,
     rest: PatternFrames,
     binder: Option<Listed<u8>>,
-) -> Result<Option<PatternPart>, NoMemory>
+) -> Result<Option<LeftSoFar>, NoMemory>
     ensures { IfOk result (λ part. option_map plain_pattern part
         ≡ Some (record {
-          frames = plain.bracket_on (depth + 1) (plain_pattern_slot slot)
+          frames = plain.bracket_on (depth + 1) (plain_left_application application)
               (plain.binder_on binder (plain_binders binders)) (plain_pattern_frames rest);
-          slot = plain.pattern_due;
+          application = plain.pattern_due;
         })) }
 {
     match binders.more(alloc, binder) {
-        Ok(binders) => match frames_more(alloc, depth, slot, binders, rest) {
+        Ok(binders) => match frames_more(alloc, depth, application, binders, rest) {
             Ok(part) => Ok(Some(part)),
             Err(e) => Err(e),
         },
         Err(e) => {
-            drop(slot);
+            drop(application);
             drop(rest);
             Err(e)
         }
@@ -282,21 +282,21 @@ fn binder_bound(
 fn frames_more(
     alloc: Global,
     depth: u64,
-    slot: PatternSlot,
+    application: LeftApplication,
     binders: Binders,
     rest: PatternFrames,
-) -> Result<PatternPart, NoMemory>
+) -> Result<LeftSoFar, NoMemory>
     ensures { IfOk result (λ part. plain_pattern part
         ≡ record {
-          frames = plain.bracket_on (depth + 1) (plain_pattern_slot slot)
+          frames = plain.bracket_on (depth + 1) (plain_left_application application)
               (plain_binders binders) (plain_pattern_frames rest);
-          slot = plain.pattern_due;
+          application = plain.pattern_due;
         }) }
 {
-    match bracket_on(alloc, depth, slot, binders, rest) {
-        Ok(frames) => Ok(PatternPart {
+    match bracket_on(alloc, depth, application, binders, rest) {
+        Ok(frames) => Ok(LeftSoFar {
             frames,
-            slot: PatternSlot::Due,
+            application: LeftApplication::Due,
         }),
         Err(e) => Err(e),
     }
@@ -305,20 +305,20 @@ fn frames_more(
 fn bracket_on(
     alloc: Global,
     depth: u64,
-    slot: PatternSlot,
+    application: LeftApplication,
     binders: Binders,
     rest: PatternFrames,
 ) -> Result<PatternFrames, NoMemory>
     ensures { IfOk result (λ frames. plain_pattern_frames frames
-        ≡ plain.bracket_on (depth + 1) (plain_pattern_slot slot) (plain_binders binders)
+        ≡ plain.bracket_on (depth + 1) (plain_left_application application) (plain_binders binders)
         (plain_pattern_frames rest)) }
 {
     match (next(depth), Box::new(alloc, rest)) {
-        (Ok(depth), Ok(rest)) => Ok(PatternFrames::BracketOn(depth, slot, binders, rest)),
+        (Ok(depth), Ok(rest)) => Ok(PatternFrames::BracketOn(depth, application, binders, rest)),
         (depth, rest) => {
             drop(depth);
             drop(rest);
-            drop(slot);
+            drop(application);
             drop(binders);
             Err(NoMemory)
         }

@@ -1,8 +1,8 @@
 //! What a name means at a place of a command.
 ghost use Rattle.std.specs.Prelude.{◌≡◌, IfOk};
 ghost use Rattle.std.specs.Option.{option_map};
-ghost use Rattle.scope_terms.specs.Scopes.{binds, place_from};
-ghost use Rattle.scope_terms.specs.Places.{binders, meaning, sense};
+ghost use Rattle.scope_terms.specs.Scopes.{binds, number_from};
+ghost use Rattle.scope_terms.specs.Meanings.{binders, meaning, sense};
 
 use crate::Names;
 use dk_model::{Listed, NoMemory};
@@ -41,7 +41,7 @@ fn is_bound_by(binder: Option<&Listed<u8>>, name: &[u8]) -> bool
 
 /// The number of the innermost binder so spelt.
 fn variable<'a>(bound: &'a Binders<'a>, name: &[u8]) -> Result<Option<u64>, NoMemory>
-    ensures { IfOk result (λ place. place ≡ place_from 0 (binds name.now) (binders bound.now)) }
+    ensures { IfOk result (λ found. found ≡ number_from 0 (binds name.now) (binders bound.now)) }
 {
     let mut at: u64 = 0;
     let mut rest = bound;
@@ -66,8 +66,8 @@ pub(crate) fn look_up<'a>(
 ) -> Result<Named, NoMemory>
     ensures { IfOk result (λ m. meaning m ≡ sense scope.now bound.now name.now) }
 {
-    if let Some(place) = variable(bound, name)? {
-        return Ok(Named::Variable(place));
+    if let Some(number) = variable(bound, name)? {
+        return Ok(Named::Variable(number));
     }
     if let Some(number) = scope.variables.number(name) {
         return Ok(Named::RuleVariable(number));

@@ -14,11 +14,11 @@ use Rattle.dk_parser.specs.declared.raw.RawRule.{RawRule}
 use Rattle.scope_terms.specs.Scopes.{Binder, Meaning, means_variable, means_rule_variable, means_symbol, unknown, Declaration, Numbered, no_names, Scoping, meant_term, meant_left, meaning_of, term_of, maybe_term_of, left_of, declaration_of, notes_of, variables_of, rule_of, rules_of, scope_of}
 use Rattle.dk_model.specs.Signatures.{maybe_tree}
 use Rattle.scope_terms.specs.declared.declaration.TypeAndBody.{TypeAndBody}
-use Rattle.scope_terms.specs.declared.place.Binders.{Binders, Outermost, Under'}
-use Rattle.scope_terms.specs.declared.rule.Context.{Context}
-use Rattle.scope_terms.specs.declared.place.Scope.{Scope}
-use Rattle.scope_terms.specs.declared.place.Named.{Named}
-use Rattle.scope_terms.specs.declared.place.Named.TheVariants.{Variable, RuleVariable, Symbol, Unknown}
+use Rattle.scope_terms.specs.declared.meaning.Binders.{Binders, Outermost, Under'}
+use Rattle.scope_terms.specs.declared.rule.ScopedContext.{ScopedContext}
+use Rattle.scope_terms.specs.declared.meaning.Scope.{Scope}
+use Rattle.scope_terms.specs.declared.meaning.Named.{Named}
+use Rattle.scope_terms.specs.declared.meaning.Named.TheVariants.{Variable, RuleVariable, Symbol, Unknown}
 
 -- innermost first
 abbrev pub binders : Binders → List Binder
@@ -61,7 +61,7 @@ abbrev pub declaring : Scope → Binders → List RawParam → Option RawTerm �
 declaring scope bound params typ body = declaration_of scope.names.now (binders bound) (map written_param params) (maybe_written typ) (maybe_written body)
 
 -- the annotations of a context
-abbrev pub noted : Context → List (Option Tree)
+abbrev pub noted : ScopedContext → List (Option Tree)
 noted c = map maybe_tree c.notes
 
 abbrev pub notes_sense : Numbered → List RawNote → Scoping (List (Option Tree))
