@@ -1,5 +1,5 @@
 -- What is spelt so is read so.
-use Rattle.std.proofs.Common.{◌≡◌, ℕ, ◌+◌, true, false, List, [], ◌∷◌, ◌++◌, refl, sym, ap, ◌∙◌, append_assoc, inl, inr}
+use Rattle.std.proofs.Common.{◌≡◌, ℕ, ◌+◌, true, false, List, [], ◌∷◌, ◌++◌, refl, sym, ap, ◌∙◌, append_assoc, inl, inr, append-nil}
 use Rattle.std.specs.Prelude.{Option, Some, None, ◌⊎◌}
 use Rattle.dk_model.specs.declared.signature.SymSort.{SymSort}
 use Rattle.dk_lexer.specs.declared.token.Sign.TheVariants as sign
@@ -9,10 +9,6 @@ use Rattle.dk_parser.specs.Written.{Written, written_qualified, written_star, wr
 use Rattle.dk_parser.specs.Grammar.{colon, dot, arrow, double_arrow, open_bracket, close_bracket, param, SpellsBinder, spells_binder, spells_no_binder, SpellsAtom, spells_name, spells_qualified, spells_star, spells_wildcard, spells_brackets, SpellsApplication, spells_head, spells_applied, SpellsTerm, spells_application, spells_arrow, spells_product, spells_bracketed_product, spells_bare, spells_annotated, SpellsParams, spells_no_params, spells_params}
 use Rattle.dk_parser.specs.Parsing.{Role, at_front, domain, Application, due, bindable, applied, bracketed, bracket_frame, arrow_frame, product_frame, bare_frame, annotated_frame, Frames, bottom, on, TermSoFar, term_due, pushed, binder_term, application_more, application_binder, takes_atom, application_term, in_frames, unwound, unwound_all, next_open, next_close, next_close_term, next_close_domain, next_arrow, framed, term_next, term_argument, term_done, application_ended, in_bracket, takes, Head, level_behind, with_param, Purpose, as_param, as_type, as_body, CommandSoFar, head_due, binder_due, binder_colon_due, in_term, behind_term, term_goes, term_ends, in_term_next}
 use Rattle.dk_parser.proofs.Machine.{ended, run_by, run}
-
-append_nil : {A : Type 0} (xs : List A) → xs ++ [] ≡ xs
-append_nil [] = refl
-append_nil (x ∷ xs) = ap (λ ys. x ∷ ys) (append_nil xs)
 
 -- a term that goes on is no whole one in a bracket
 unwound_in : (fs : Frames) (a : Written) (q : TermSoFar) → unwound fs a ≡ Some q → in_bracket fs ≡ true
@@ -224,8 +220,8 @@ module _ (purpose : Purpose) where
         kind = behind_more role f a r.application q.application r.kind q.kind;
       }
 
-  application_term : (xs : List Terminal) (a : Written) → ApplicationRuns xs a → TermRuns xs a
-  application_term xs a h fs rest =
+  whole_application : (xs : List Terminal) (a : Written) → ApplicationRuns xs a → TermRuns xs a
+  whole_application xs a h fs rest =
       let r = h fs at_front rest in
       record { frames = fs; application = r.application; runs = r.runs; last = a; ends_in = behind_whole a r.application r.kind; closes = refl; ends_all = refl }
 
@@ -341,7 +337,7 @@ module _ (purpose : Purpose) where
     application_runs (spells_applied {xs} {ys} {f} {a} h k) = applied_runs xs ys f a (application_runs h) (atom_runs k)
 
     term_runs : {xs : List Terminal} {a : Written} → SpellsTerm xs a → TermRuns xs a
-    term_runs (spells_application {xs} {a} h) = application_term xs a (application_runs h)
+    term_runs (spells_application {xs} {a} h) = whole_application xs a (application_runs h)
     term_runs (spells_arrow {xs} {ys} {a} {b} h k) = arrow_runs xs ys a b (application_runs h) (term_runs k)
     term_runs (spells_product {x} {v} {xs} {ys} {a} {b} s h k) = product_runs x v xs ys a b s (application_runs h) (term_runs k)
     term_runs (spells_bracketed_product {x} {v} {xs} {ys} {a} {b} s h k) = bracketed_runs x v xs ys a b s (application_runs h) (term_runs k)
@@ -372,7 +368,7 @@ abbrev pub head_of : SymSort → List ℕ → List WrittenParam → Head
 head_of s n ps = record { sort = s; name = n; params = ps }
 
 pub params_complete : (s : SymSort) (n : List ℕ) (ps : List WrittenParam) {xs : List Terminal} {qs : List WrittenParam} → SpellsParams xs qs → (rest : List Terminal) → run (head_due (head_of s n ps)) (xs ++ rest) ≡ run (head_due (head_of s n (ps ++ qs))) rest
-params_complete s n ps spells_no_params rest = ap (λ qs. run (head_due (head_of s n qs)) rest) (sym (append_nil ps))
+params_complete s n ps spells_no_params rest = ap (λ qs. run (head_due (head_of s n qs)) rest) (sym (append-nil ps))
 params_complete s n ps (spells_params {x} {v} {xs} {ys} {a} {ps = qs} b k h) rest =
     ap (λ zs. run (head_due (head_of s n ps)) (open_bracket ∷ x ∷ colon ∷ zs)) (append_assoc xs (close_bracket ∷ ys) rest)
     ∙ param_complete (head_of s n ps) b k (ys ++ rest)

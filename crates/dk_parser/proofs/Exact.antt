@@ -1,5 +1,5 @@
 -- Reading is exact: what the parser makes of a list of tokens is its one reading.
-use Rattle.std.proofs.Common.{◌≡◌, ℕ, ◌<◌, ◌≤◌, Bool, true, false, List, [], ◌∷◌, ◌++◌, refl, sym, ap, ◌∙◌, subst, append_assoc, arith, inl, inr}
+use Rattle.std.proofs.Common.{◌≡◌, ℕ, ◌<◌, ◌≤◌, Bool, true, false, List, [], ◌∷◌, ◌++◌, refl, sym, ap, ◌∙◌, subst, append_assoc, arith, inl, inr, append-nil}
 use Rattle.std.specs.Prelude.{Option, Some, None, IsSome, option_map, unwrap_or, if◌then◌else◌, nat_lt, ◌⊎◌}
 use Rattle.std.proofs.lemmas.Bool.Decides.{nat_tests}
 use Rattle.dk_model.specs.declared.code.Code.{Code}
@@ -22,10 +22,6 @@ use Rattle.dk_parser.proofs.Leveled.{loaded, end_load, profile_refused}
 use Rattle.dk_parser.proofs.Turns.{reading_at}
 
 -- Lists
-
-append_nil : {A : Type 0} (xs : List A) → xs ++ [] ≡ xs
-append_nil [] = refl
-append_nil (x ∷ xs) = ap (λ ys. x ∷ ys) (append_nil xs)
 
 terminals_append : (ts us : List Token) → terminals (ts ++ us) ≡ terminals ts ++ terminals us
 terminals_append [] us = refl
@@ -208,7 +204,7 @@ goes_begins xs p q made x is e =
     (b.0 ∷ b.1, b.2, b.3)
 
 ends_begins : (xs : List Terminal) (p : CommandSoFar) (x : Terminal) (form : WrittenForm) → run command_due xs ≡ going p → advanced p x ≡ ends form → Begins (xs ++ x ∷ [])
-ends_begins xs p x form is e = ([], form, subst (λ ys. SpellsForm ys form) (sym (append_nil (xs ++ x ∷ []))) (sound xs p x form is e))
+ends_begins xs p x form is e = ([], form, subst (λ ys. SpellsForm ys form) (sym (append-nil (xs ++ x ∷ []))) (sound xs p x form is e))
 
 terminals_more : (front : List Token) (t : Token) → terminals (front ++ t ∷ []) ≡ terminals front ++ terminal_of t ∷ []
 terminals_more front t = terminals_append front (t ∷ [])
@@ -262,7 +258,7 @@ module _ (limits : Limits) where
   exact_from : (us : List Token) → Behind us
   exact_from [] [] p is w = reads_nothing
   exact_from [] (f ∷ front) p is w =
-      subst (λ ts. Reads limits ts (read_from (state_at limits (first_begun (f ∷ front)) p) [])) (sym (append_nil (f ∷ front)))
+      subst (λ ts. Reads limits ts (read_from (state_at limits (first_begun (f ∷ front)) p) [])) (sym (append-nil (f ∷ front)))
       (reads_front (front_ok (f ∷ front) p is w))
   exact_from (t ∷ us) front p is w = exact_token front p t us is w (profile_or_not (terminal_of t)) (exact_from us)
 
@@ -309,10 +305,10 @@ module _ (limits : Limits) where
 
   walk : (us : List Token) → Walks us
   walk [] front p q rest is whole w =
-      let whole_front : run command_due (terminals front) ≡ going q = subst (λ ts. run command_due (terminals ts) ≡ going q) (append_nil front) whole in
+      let whole_front : run command_due (terminals front) ≡ going q = subst (λ ts. run command_due (terminals ts) ≡ going q) (append-nil front) whole in
       let same : p ≡ q = cc in
       ap (λ p. read_from (state_at limits (first_begun front) p) rest) same
-      ∙ ap (λ ts. read_from (state_at limits (first_begun ts) q) rest) (sym (append_nil front))
+      ∙ ap (λ ts. read_from (state_at limits (first_begun ts) q) rest) (sym (append-nil front))
   walk (t ∷ us) front p q rest is whole w =
       let r = stuck_goes (advanced p (terminal_of t)) p (terminal_of t) (terminals us) q refl (sym (step_run front p t us is) ∙ whole) in
       walk_goes front p r.1 q r.0 t us rest is r.2 whole w (walk us)
@@ -344,7 +340,7 @@ module _ (limits : Limits) where
 
   end_walk : (us : List Token) → Ends us
   end_walk [] front p form rest is whole w =
-      let whole_front : run command_due (terminals front) ≡ ended form [] = subst (λ ts. run command_due (terminals ts) ≡ ended form []) (append_nil front) whole in
+      let whole_front : run command_due (terminals front) ≡ ended form [] = subst (λ ts. run command_due (terminals ts) ≡ ended form []) (append-nil front) whole in
       cc
   end_walk (t ∷ us) front p form rest is whole w =
       end_step (advanced p (terminal_of t)) front p form t us rest is refl (sym (step_run front p t us is) ∙ whole) whole w (end_walk us)
@@ -368,7 +364,7 @@ pub only : {limits : Limits} {ts : List Token} {r : TokenReading} → Reads limi
 only reads_nothing = refl
 only (reads_front {limits} {t} {ts} f) =
     let p = front_part limits (t ∷ ts) f in
-    sym (ap (read_tokens limits) (sym (append_nil (t ∷ ts))) ∙ walk limits (t ∷ ts) [] command_due p.0 [] refl p.1 f.within)
+    sym (ap (read_tokens limits) (sym (append-nil (t ∷ ts))) ∙ walk limits (t ∷ ts) [] command_due p.0 [] refl p.1 f.within)
 only (reads_fault {limits} {front} {code} t rest f h) =
     let p = front_part limits front f in
     sym (walk limits front [] command_due p.0 (t ∷ rest) refl p.1 f.within ∙ fault_read code limits front p.0 t rest f p.1 h)
@@ -398,7 +394,7 @@ fault_stays None s cs us e h =
     absurd (no_some (subst (λ (o : Option (ℕ × Code)). IsSome o) nothing h))
 fault_stays (Some code) s cs us e h =
     ap (λ later. reading_at (cs ++ later) (parsing_from s us)) (faulty_commands s code us e)
-    ∙ ap (λ all. reading_at all (parsing_from s us)) (append_nil cs)
+    ∙ ap (λ all. reading_at all (parsing_from s us)) (append-nil cs)
     ∙ ap (reading_at cs) (faulty_parsing s code us e)
 
 -- the reading of more tokens begins with the reading of fewer

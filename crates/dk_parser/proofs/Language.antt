@@ -1,5 +1,5 @@
 -- The terminals that lead to a part of a term.
-use Rattle.std.proofs.Common.{◌≡◌, ℕ, ◌+◌, Bool, true, false, List, [], ◌∷◌, ◌++◌, refl, sym, ap, ◌∙◌, subst, append_assoc}
+use Rattle.std.proofs.Common.{◌≡◌, ℕ, ◌+◌, Bool, true, false, List, [], ◌∷◌, ◌++◌, refl, sym, ap, ◌∙◌, subst, append_assoc, append-nil}
 use Rattle.std.specs.Prelude.{Option, Some, None}
 use Rattle.dk_lexer.specs.declared.token.Sign.TheVariants as sign
 use Rattle.dk_parser.specs.declared.terminal.Terminal.{Terminal}
@@ -8,10 +8,6 @@ use Rattle.dk_parser.specs.Written.{Written, written_qualified, written_star, wr
 use Rattle.dk_parser.specs.Grammar.{colon, arrow, double_arrow, open_bracket, close_bracket, SpellsBinder, spells_binder, spells_no_binder, SpellsAtom, spells_name, spells_qualified, spells_star, spells_wildcard, spells_brackets, SpellsApplication, spells_head, spells_applied, SpellsTerm, spells_application, spells_arrow, spells_product, spells_bracketed_product, spells_bare, spells_annotated}
 use Rattle.dk_parser.specs.Parsing.{at_front, domain, Application, due, bindable, applied, bracketed, Frame, bracket_frame, arrow_frame, product_frame, bare_frame, annotated_frame, Frames, bottom, on, TermSoFar, pushed, binder_term, application_more, application_binder, takes_atom, application_term, in_frames, unwound, unwound_all, next_open, next_close, next_close_term, next_close_domain, next_colon, next_arrow, next_double_arrow, framed, term_next, term_done, application_ended}
 use Rattle.dk_parser.proofs.Complete.{at, atom_more}
-
-append_nil : (xs : List Terminal) → xs ++ [] ≡ xs
-append_nil [] = refl
-append_nil (x ∷ xs) = ap (λ ys. x ∷ ys) (append_nil xs)
 
 binder_atom : {x : Terminal} {v : Option (List ℕ)} → SpellsBinder x v → SpellsAtom (x ∷ []) (binder_term v)
 binder_atom spells_binder = spells_name
@@ -112,7 +108,7 @@ framed_reached xs ys ws x f fs q is k h e =
     (record {
       before = ys ++ (ws ++ x ∷ []);
       here = [];
-      is = behind xs (x ∷ []) (ys ++ ws) is ∙ append_assoc ys ws (x ∷ []) ∙ sym (append_nil (ys ++ (ws ++ x ∷ [])));
+      is = behind xs (x ∷ []) (ys ++ ws) is ∙ append_assoc ys ws (x ∷ []) ∙ sym (append-nil (ys ++ (ws ++ x ∷ [])));
       frames = (ys, ws ++ x ∷ [], refl, k, h);
       application = refl;
     })
@@ -273,8 +269,8 @@ application_begun (due (domain v)) ws h = record {
   term = written_product v written_star written_star;
   spelt = subst (λ us. SpellsTerm us (written_product v written_star written_star)) (sym (behind ws (terminal.Star ∷ arrow ∷ terminal.Star ∷ []) (h.0 ∷ colon ∷ []) h.1)) (spells_product h.2 (spells_head spells_star) a_term);
 }
-application_begun (bindable v) ws h = record { rest = []; term = binder_term v; spelt = subst (λ us. SpellsTerm us (binder_term v)) (sym (append_nil ws)) (spells_application (application_sound (bindable v) ws (binder_term v) h refl)) }
-application_begun (applied at_front a n) ws h = record { rest = []; term = a; spelt = subst (λ us. SpellsTerm us a) (sym (append_nil ws)) (spells_application h) }
+application_begun (bindable v) ws h = record { rest = []; term = binder_term v; spelt = subst (λ us. SpellsTerm us (binder_term v)) (sym (append-nil ws)) (spells_application (application_sound (bindable v) ws (binder_term v) h refl)) }
+application_begun (applied at_front a n) ws h = record { rest = []; term = a; spelt = subst (λ us. SpellsTerm us a) (sym (append-nil ws)) (spells_application h) }
 application_begun (applied (domain v) a n) ws h = record {
   rest = arrow ∷ terminal.Star ∷ [];
   term = written_product v a written_star;
@@ -305,7 +301,7 @@ record CompletedIn (ys zs : List Terminal) : Type 0 where
   pub spelt : SpellsTerm (ys ++ (zs ++ rest)) term
 
 frames_begun : (fs : Frames) (ys zs : List Terminal) (a : Written) → SpellsFrames ys fs → SpellsTerm zs a → CompletedIn ys zs
-frames_begun (bottom level) ys zs a k t = record { rest = []; term = a; spelt = subst (λ us. SpellsTerm us a) (sym (behind ys (zs ++ []) [] k ∙ append_nil zs)) t }
+frames_begun (bottom level) ys zs a k t = record { rest = []; term = a; spelt = subst (λ us. SpellsTerm us a) (sym (behind ys (zs ++ []) [] k ∙ append-nil zs)) t }
 frames_begun (on d (bracket_frame s) fs) ys zs a k t =
     let f = k.4 in
     let m = atom_more s a f.3 in

@@ -1,5 +1,5 @@
 -- The terminals that lead to a part of a left side.
-use Rattle.std.proofs.Common.{◌≡◌, ℕ, ◌+◌, List, [], ◌∷◌, ◌++◌, refl, sym, ap, ◌∙◌, subst, append_assoc}
+use Rattle.std.proofs.Common.{◌≡◌, ℕ, ◌+◌, List, [], ◌∷◌, ◌++◌, refl, sym, ap, ◌∙◌, subst, append_assoc, append-nil}
 use Rattle.std.specs.Prelude.{Option, Some, None}
 use Rattle.dk_lexer.specs.declared.token.Sign.TheVariants as sign
 use Rattle.dk_parser.specs.declared.terminal.Terminal.{Terminal}
@@ -7,10 +7,6 @@ use Rattle.dk_parser.specs.declared.terminal.Terminal.TheVariants as terminal
 use Rattle.dk_parser.specs.Written.{WrittenPattern, pattern_qualified, pattern_apply, pattern_bare}
 use Rattle.dk_parser.specs.Grammar.{double_arrow, open_bracket, close_bracket, SpellsBinder, spells_binder, spells_no_binder, SpellsPatternAtom, spells_pattern_name, spells_pattern_qualified, spells_pattern_wildcard, spells_pattern_brackets, SpellsPatternApplication, spells_pattern_head, spells_pattern_applied, SpellsPattern, spells_pattern_application, spells_pattern_bare}
 use Rattle.dk_parser.specs.Parsing.{LeftApplication, pattern_due, pattern_bindable, pattern_applied, Binders, binder_on, PatternFrames, no_bracket, bracket_on, LeftSoFar, left_due, binder_pattern, pattern_more, pattern_binder, left_pattern, under_binders, with_atom, with_binder, pattern_opened, pattern_closed, pattern_bound, pattern_next, pattern_done, done_outside}
-
-append_nil : (xs : List Terminal) → xs ++ [] ≡ xs
-append_nil [] = refl
-append_nil (x ∷ xs) = ap (λ ys. x ∷ ys) (append_nil xs)
 
 binder_atom : {x : Terminal} {v : Option (List ℕ)} → SpellsBinder x v → SpellsPatternAtom (x ∷ []) (binder_pattern v)
 binder_atom spells_binder = spells_pattern_name
@@ -90,7 +86,7 @@ opened_reached : (xs : List Terminal) (part : LeftSoFar) → ReachedLeft xs part
 opened_reached xs part h = record {
   before = h.before ++ (h.here ++ open_bracket ∷ []);
   here = [];
-  is = behind xs (open_bracket ∷ []) (h.before ++ h.here) h.is ∙ append_assoc h.before h.here (open_bracket ∷ []) ∙ sym (append_nil (h.before ++ (h.here ++ open_bracket ∷ [])));
+  is = behind xs (open_bracket ∷ []) (h.before ++ h.here) h.is ∙ append_assoc h.before h.here (open_bracket ∷ []) ∙ sym (append-nil (h.before ++ (h.here ++ open_bracket ∷ [])));
   frames = (h.before, h.here, [], refl, h.frames, h.application, λ zs p t. t);
   application = refl;
 }
@@ -122,7 +118,7 @@ bound_reached (bracket_on d s vs fs) (pattern_bindable v) xs before here q is k 
     (record {
       before = k.0 ++ (k.1 ++ (open_bracket ∷ (k.2 ++ (h.0 ∷ double_arrow ∷ []))));
       here = [];
-      is = behind xs (double_arrow ∷ []) ((k.0 ++ (k.1 ++ open_bracket ∷ k.2)) ++ h.0 ∷ []) all ∙ bound_lists k.0 k.1 k.2 h.0 ∙ sym (append_nil (k.0 ++ (k.1 ++ (open_bracket ∷ (k.2 ++ (h.0 ∷ double_arrow ∷ []))))));
+      is = behind xs (double_arrow ∷ []) ((k.0 ++ (k.1 ++ open_bracket ∷ k.2)) ++ h.0 ∷ []) all ∙ bound_lists k.0 k.1 k.2 h.0 ∙ sym (append-nil (k.0 ++ (k.1 ++ (open_bracket ∷ (k.2 ++ (h.0 ∷ double_arrow ∷ []))))));
       frames = (k.0, k.1, k.2 ++ (h.0 ∷ double_arrow ∷ []), refl, k.4, k.5, λ zs p t. subst (λ us. SpellsPattern us (under_binders vs (pattern_bare v p))) (sym (append_assoc k.2 (h.0 ∷ double_arrow ∷ []) zs)) (k.6 (h.0 ∷ double_arrow ∷ zs) (pattern_bare v p) (spells_pattern_bare h.2 t)));
       application = refl;
     })

@@ -1,5 +1,5 @@
 -- The parts of a command, one terminal after the other.
-use Rattle.std.proofs.Common.{◌≡◌, ℕ, List, [], ◌∷◌, ◌++◌, refl, sym, ap, ◌∙◌, subst, append_assoc}
+use Rattle.std.proofs.Common.{◌≡◌, ℕ, List, [], ◌∷◌, ◌++◌, refl, sym, ap, ◌∙◌, subst, append_assoc, append-nil}
 use Rattle.dk_parser.specs.declared.terminal.Terminal.{Terminal}
 use Rattle.dk_parser.specs.Written.{WrittenForm}
 use Rattle.dk_parser.specs.Parsing.{CommandSoFar, Advance, goes, ends, refuses, advanced, command_due}
@@ -56,10 +56,6 @@ going_before stuck form y ys e = cc
 pub front_goes : (p : CommandSoFar) (xs : List Terminal) (y : Terminal) (ys : List Terminal) (form : WrittenForm) → run p (xs ++ y ∷ ys) ≡ ended form [] → (q : CommandSoFar) × (run p xs ≡ going q)
 front_goes p xs y ys form e = going_before (run p xs) form y ys (sym (run_append p xs (y ∷ ys)) ∙ e)
 
-append_nil : (xs : List Terminal) → xs ++ [] ≡ xs
-append_nil [] = refl
-append_nil (x ∷ xs) = ap (λ ys. x ∷ ys) (append_nil xs)
-
 -- a fact of the terminals so far and the part, that each step keeps
 module _ (R : List Terminal → CommandSoFar → Type 0) (keeps : (xs : List Terminal) (p q : CommandSoFar) (made : ℕ) (x : Terminal) → R xs p → advanced p x ≡ goes made q → R (xs ++ x ∷ []) q) where
   follow_by : (s : Advance) (front : List Terminal) (p : CommandSoFar) (x : Terminal) (xs : List Terminal) (q : CommandSoFar) → R front p → advanced p x ≡ s → ((r : CommandSoFar) → R (front ++ x ∷ []) r → run r xs ≡ going q → R ((front ++ x ∷ []) ++ xs) q) → run_by s (λ r. run r xs) xs ≡ going q → R ((front ++ x ∷ []) ++ xs) q
@@ -70,7 +66,7 @@ module _ (R : List Terminal → CommandSoFar → Type 0) (keeps : (xs : List Ter
   pub follow_from : (front : List Terminal) (p : CommandSoFar) (xs : List Terminal) (q : CommandSoFar) → R front p → run p xs ≡ going q → R (front ++ xs) q
   follow_from front p [] q h is =
       let same : p ≡ q = cc in
-      subst (R (front ++ [])) same (subst (λ ys. R ys p) (sym (append_nil front)) h)
+      subst (R (front ++ [])) same (subst (λ ys. R ys p) (sym (append-nil front)) h)
   follow_from front p (x ∷ xs) q h is =
       subst (λ ys. R ys q) (append_assoc front (x ∷ []) xs)
       (follow_by (advanced p x) front p x xs q h refl (λ r k j. follow_from (front ++ x ∷ []) r xs q k j) is)

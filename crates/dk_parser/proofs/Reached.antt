@@ -1,5 +1,5 @@
 -- The terminals that lead to a part of a command, and what may stand behind them.
-use Rattle.std.proofs.Common.{◌≡◌, ℕ, ◌+◌, Bool, true, false, List, [], ◌∷◌, ◌++◌, refl, sym, ap, ◌∙◌, subst, append_assoc}
+use Rattle.std.proofs.Common.{◌≡◌, ℕ, ◌+◌, Bool, true, false, List, [], ◌∷◌, ◌++◌, refl, sym, ap, ◌∙◌, subst, append_assoc, append-nil}
 use Rattle.std.specs.Prelude.{Option, Some, None}
 use Rattle.dk_model.specs.declared.signature.SymSort.{SymSort}
 use Rattle.dk_model.specs.declared.signature.SymSort.TheVariants.{Static, Definable, Theorem}
@@ -13,10 +13,6 @@ use Rattle.dk_parser.proofs.Machine.{going, run, follow}
 use Rattle.dk_parser.proofs.Left.{left_atom_reached, left_sound}
 use Rattle.dk_parser.proofs.Rules.{Due, rules_head, RulesFrom, BehindRule, rules_end, rules_go, RightBehind, LeftBehind, LeftRest, EntriesRest, ContextRest, context_ends, context_goes, BehindEntry, comma_behind, square_behind, NamedRest, typed_rest, named_rest, SquareBehind, RuleBraceBehind, RuleNameBehind, named_is_entry, rules_from, named_rules_from, left_step, left_begins, rule_ended, left_goes_on, entry_ended, named_ended, entries_begin, context_ended, square_begins, rule_brace_begins, rule_name_begins}
 use Rattle.dk_parser.proofs.Language.{ReachedTerm, nothing_reached, term_reached, term_sound, term_begun}
-
-append_nil : (xs : List Terminal) → xs ++ [] ≡ xs
-append_nil [] = refl
-append_nil (x ∷ xs) = ap (λ ys. x ∷ ys) (append_nil xs)
 
 -- What may stand behind a part
 
@@ -139,7 +135,7 @@ head_spelt {s} {n} {ps} (head_param {x} {v} {a} {ys} {zs} {form} b t r) xs h =
 -- Terms in a command
 
 begin_term : (xs : List Terminal) (purpose : Purpose) (level : ℕ) → Leads xs (TermBehind purpose) → ReachedIn xs purpose (term_due level)
-begin_term xs purpose level h = record { before = xs; here = []; is = sym (append_nil xs); term = nothing_reached level; leads = h }
+begin_term xs purpose level h = record { before = xs; here = []; is = sym (append-nil xs); term = nothing_reached level; leads = h }
 
 term_more : (xs : List Terminal) (purpose : Purpose) (p q : TermSoFar) (x : Terminal) → ReachedIn xs purpose p → term_next p x ≡ Some q → ReachedIn (xs ++ x ∷ []) purpose q
 term_more xs purpose p q x h e = record {

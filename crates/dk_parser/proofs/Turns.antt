@@ -1,5 +1,5 @@
 -- One token more: what the turn says of the parser and of the reading.
-use Rattle.std.proofs.Common.{◌≡◌, ℕ, Bool, true, false, List, [], ◌∷◌, ◌++◌, refl, sym, ap, ◌∙◌, subst, append_assoc}
+use Rattle.std.proofs.Common.{◌≡◌, ℕ, Bool, true, false, List, [], ◌∷◌, ◌++◌, refl, sym, ap, ◌∙◌, subst, append_assoc, append-nil}
 use Rattle.std.specs.Prelude.{Option, Some, None, Result, Ok, Err, IsSome, option_map, unwrap_or, if◌then◌else◌, nat_lt}
 use Rattle.dk_model.specs.declared.code.Code.{Code}
 use Rattle.dk_model.specs.declared.code.Code.TheVariants.{E02, E04, E06}
@@ -23,12 +23,8 @@ pub parsing_more : (s : Parsing) (ts : List Token) (t : Token) → parsing_from 
 parsing_more s [] t = refl
 parsing_more s (u ∷ ts) t = parsing_more (turn s u).state ts t
 
-append_nil : (xs : List WrittenCommand) → xs ++ [] ≡ xs
-append_nil [] = refl
-append_nil (x ∷ xs) = ap (λ ys. x ∷ ys) (append_nil xs)
-
 pub commands_more : (s : Parsing) (ts : List Token) (t : Token) → commands_from s (ts ++ t ∷ []) ≡ commands_from s ts ++ answered (turn (parsing_from s ts) t).answer
-commands_more s [] t = append_nil (answered (turn s t).answer)
+commands_more s [] t = append-nil (answered (turn s t).answer)
 commands_more s (u ∷ ts) t =
     ap (λ cs. answered (turn s u).answer ++ cs) (commands_more (turn s u).state ts t)
     ∙ sym (append_assoc (answered (turn s u).answer) (commands_from (turn s u).state ts) (answered (turn (parsing_from (turn s u).state ts) t).answer))
@@ -127,7 +123,7 @@ adds_more : (limits : Limits) (ts : List Token) (t : Token) → (turn (parsing_a
 adds_more limits ts t e =
     let said = says_at limits ts t more e in
     record {
-      commands = commands_said limits ts t more e ∙ append_nil (read_tokens limits ts).commands;
+      commands = commands_said limits ts t more e ∙ append-nil (read_tokens limits ts).commands;
       begun = said.2;
       before = fault_none (parsing_after limits ts) said.0;
       after = fault_none (parsing_after limits (ts ++ t ∷ [])) said.1;
@@ -147,7 +143,7 @@ adds_fault : (limits : Limits) (ts : List Token) (t : Token) (code : Code) → (
 adds_fault limits ts t code e =
     let said = says_at limits ts t (refused code) e in
     let line = some_value (parsing_after limits (ts ++ t ∷ [])).begun said.1 in
-    let commands = commands_said limits ts t (refused code) e ∙ append_nil (read_tokens limits ts).commands in
+    let commands = commands_said limits ts t (refused code) e ∙ append-nil (read_tokens limits ts).commands in
     record {
       commands = commands;
       line = line.0;

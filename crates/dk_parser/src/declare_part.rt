@@ -6,8 +6,8 @@ ghost use Rattle.dk_parser.specs.Views.{plain_head, plain_step};
 ghost use Rattle.dk_parser.specs.RawViews.{maybe_written, written};
 
 use crate::RawTerm;
+use crate::command_so_far::{Advance, CommandSoFar, Purpose};
 use crate::head::Head;
-use crate::command_so_far::{CommandSoFar, Advance, Purpose};
 use crate::term_so_far::TermSoFar;
 use crate::terminal::Terminal;
 use dk_lexer::Sign;

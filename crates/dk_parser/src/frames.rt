@@ -178,7 +178,11 @@ impl Application {
     }
 
     /// Adds a name or a wildcard.
-    pub fn binder(self, alloc: Global, binder: Option<Listed<u8>>) -> Result<Option<Application>, NoMemory>
+    pub fn binder(
+        self,
+        alloc: Global,
+        binder: Option<Listed<u8>>,
+    ) -> Result<Option<Application>, NoMemory>
         ensures { IfOk result (λ application. option_map plain_application application
             ≡ application_binder (plain_application self) binder) }
     {
@@ -254,7 +258,12 @@ impl Frames {
             }
             Frames::On(_, frame, rest) => match frame.around(alloc, a) {
                 Ok(Around::Term(term)) => Box::into_inner(rest).unwind(alloc, term),
-                Ok(Around::Bracket(application, a)) => atom_more(alloc, Box::into_inner(rest), application, a),
+                Ok(Around::Bracket(application, a)) => atom_more(
+                    alloc,
+                    Box::into_inner(rest),
+                    application,
+                    a,
+                ),
                 Err(e) => {
                     drop(rest);
                     Err(e)
@@ -376,7 +385,10 @@ pub fn in_frames(frames: Frames, application: Option<Application>) -> Option<Ter
         ≡ in_frames (plain_frames frames) (option_map plain_application application) }
 {
     match application {
-        Some(application) => Some(TermSoFar { frames, application }),
+        Some(application) => Some(TermSoFar {
+            frames,
+            application,
+        }),
         None => {
             drop(frames);
             None

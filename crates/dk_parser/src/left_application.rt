@@ -68,7 +68,11 @@ impl LeftApplication {
     }
 
     /// Adds a name or a wildcard.
-    pub fn binder(self, alloc: Global, binder: Option<Listed<u8>>) -> Result<LeftApplication, NoMemory>
+    pub fn binder(
+        self,
+        alloc: Global,
+        binder: Option<Listed<u8>>,
+    ) -> Result<LeftApplication, NoMemory>
         ensures { IfOk result (λ application. plain_left_application application
             ≡ pattern_binder (plain_left_application self) binder) }
     {

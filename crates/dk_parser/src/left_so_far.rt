@@ -141,9 +141,15 @@ impl LeftSoFar {
         ensures { IfOk result (λ part. plain_pattern part
             ≡ with_atom (plain_pattern self) (written_pattern p)) }
     {
-        let LeftSoFar { frames, application } = self;
+        let LeftSoFar {
+            frames,
+            application,
+        } = self;
         match application.more(alloc, p) {
-            Ok(application) => Ok(LeftSoFar { frames, application }),
+            Ok(application) => Ok(LeftSoFar {
+                frames,
+                application,
+            }),
             Err(e) => {
                 drop(frames);
                 Err(e)
@@ -155,9 +161,15 @@ impl LeftSoFar {
         ensures { IfOk result (λ part. plain_pattern part
             ≡ with_binder (plain_pattern self) binder) }
     {
-        let LeftSoFar { frames, application } = self;
+        let LeftSoFar {
+            frames,
+            application,
+        } = self;
         match application.binder(alloc, binder) {
-            Ok(application) => Ok(LeftSoFar { frames, application }),
+            Ok(application) => Ok(LeftSoFar {
+                frames,
+                application,
+            }),
             Err(e) => {
                 drop(frames);
                 Err(e)
@@ -168,7 +180,10 @@ impl LeftSoFar {
     fn opened(self, alloc: Global) -> Result<LeftSoFar, NoMemory>
         ensures { IfOk result (λ part. plain_pattern part ≡ pattern_opened (plain_pattern self)) }
     {
-        let LeftSoFar { frames, application } = self;
+        let LeftSoFar {
+            frames,
+            application,
+        } = self;
         let depth = frames.depth();
         frames_more(alloc, depth, application, Binders::NoBinders, frames)
     }
@@ -177,7 +192,10 @@ impl LeftSoFar {
         ensures { IfOk result (λ part. option_map plain_pattern part
             ≡ pattern_closed (plain_pattern self).frames (left_pattern (plain_pattern self).application)) }
     {
-        let LeftSoFar { frames, application } = self;
+        let LeftSoFar {
+            frames,
+            application,
+        } = self;
         match (frames, application.pattern()) {
             (PatternFrames::BracketOn(_, application, binders, rest), Some(p)) => {
                 bracket_closed(alloc, application, binders, Box::into_inner(rest), p)
@@ -194,11 +212,15 @@ impl LeftSoFar {
         ensures { IfOk result (λ part. option_map plain_pattern part
             ≡ pattern_bound (plain_pattern self).frames (plain_pattern self).application) }
     {
-        let LeftSoFar { frames, application } = self;
+        let LeftSoFar {
+            frames,
+            application,
+        } = self;
         match (frames, application) {
-            (PatternFrames::BracketOn(depth, before, binders, rest), LeftApplication::Bindable(v)) => {
-                binder_bound(alloc, depth, before, binders, Box::into_inner(rest), v)
-            }
+            (
+                PatternFrames::BracketOn(depth, before, binders, rest),
+                LeftApplication::Bindable(v),
+            ) => { binder_bound(alloc, depth, before, binders, Box::into_inner(rest), v) }
             (frames, application) => {
                 drop(frames);
                 drop(application);
@@ -211,7 +233,10 @@ impl LeftSoFar {
     pub fn done(self) -> Option<RawPat>
         ensures { maybe_pattern result ≡ pattern_done (plain_pattern self) }
     {
-        let LeftSoFar { frames, application } = self;
+        let LeftSoFar {
+            frames,
+            application,
+        } = self;
         match frames {
             PatternFrames::NoBracket => application.pattern(),
             frames => {
@@ -236,7 +261,10 @@ fn bracket_closed(
         (record { frames = plain_pattern_frames frames; application = plain_left_application application })
         (under_binders (plain_binders binders) (written_pattern p)))) }
 {
-    let part = LeftSoFar { frames, application };
+    let part = LeftSoFar {
+        frames,
+        application,
+    };
     match binders.around(alloc, p) {
         Ok(p) => match part.with_atom(alloc, p) {
             Ok(part) => Ok(Some(part)),

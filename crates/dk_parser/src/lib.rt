@@ -3,14 +3,14 @@
 //! Begin at `Parser`. The meaning is in specs/Grammar.antt and specs/Reading.antt (docs/grammar.md).
 #![tactic(auto)]
 
+mod command_so_far;
 mod declare_part;
 mod frames;
 mod head;
 mod laws;
-mod parser;
-mod command_so_far;
-mod left_so_far;
 mod left_application;
+mod left_so_far;
+mod parser;
 mod raw;
 mod rule_head;
 mod rule_part;

@@ -9,7 +9,7 @@ ghost use Rattle.dk_parser.specs.Parsing as plain;
 ghost use Rattle.dk_parser.specs.Steps.{AddsStep, Answers, finished, read_tokens};
 ghost use Rattle.dk_parser.specs.Views.{CameTo, parsing, plain_command, plain_step};
 
-use crate::command_so_far::{CommandSoFar, Advance};
+use crate::command_so_far::{Advance, CommandSoFar};
 use crate::terminal::Terminal;
 use crate::{Raw, RawForm};
 use dk_lexer::Token;

@@ -6,7 +6,7 @@ ghost use Rattle.dk_parser.specs.Parsing as plain;
 ghost use Rattle.dk_parser.specs.Views.{maybe_pattern, plain_pattern, plain_rule_head, plain_step};
 ghost use Rattle.dk_parser.specs.RawViews.{maybe_written, written, written_pattern};
 
-use crate::command_so_far::{CommandSoFar, Advance, Purpose};
+use crate::command_so_far::{Advance, CommandSoFar, Purpose};
 use crate::left_so_far::LeftSoFar;
 use crate::rule_head::RuleHead;
 use crate::term_so_far::TermSoFar;
@@ -170,7 +170,10 @@ fn left_goes(head: RuleHead, argument: u64, part: Option<LeftSoFar>) -> Advance
         ≡ left_goes (plain_rule_head head) argument (option_map plain_pattern part) }
 {
     match part {
-        Some(part) => Advance::Goes(part.frames.depth().max(argument), CommandSoFar::InLeft(head, part)),
+        Some(part) => Advance::Goes(
+            part.frames.depth().max(argument),
+            CommandSoFar::InLeft(head, part),
+        ),
         None => {
             drop(head);
             Advance::Refuses

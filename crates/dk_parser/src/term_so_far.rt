@@ -5,7 +5,7 @@ ghost use Rattle.dk_parser.specs.Views.{plain_frame, plain_frames, plain_applica
 ghost use Rattle.dk_parser.specs.RawViews.{maybe_written, written};
 
 use crate::RawTerm;
-use crate::frames::{Frame, Frames, Role, Application, atom_more, binder_more, binder_term};
+use crate::frames::{Application, Frame, Frames, Role, atom_more, binder_more, binder_term};
 use crate::terminal::Terminal;
 use dk_lexer::Sign;
 use dk_model::{Listed, NoMemory};
@@ -65,7 +65,10 @@ impl TermSoFar {
     pub fn next(self, alloc: Global, x: Terminal) -> Result<Option<TermSoFar>, NoMemory>
         ensures { IfOk result (λ next. option_map plain_term next ≡ term_next (plain_term self) x) }
     {
-        let TermSoFar { frames, application } = self;
+        let TermSoFar {
+            frames,
+            application,
+        } = self;
         match x {
             Terminal::Name(n) => binder_more(alloc, frames, application, Some(n)),
             Terminal::Wildcard => binder_more(alloc, frames, application, None),
@@ -91,7 +94,10 @@ impl TermSoFar {
     pub fn done(self, alloc: Global) -> Result<Option<RawTerm>, NoMemory>
         ensures { IfOk result (λ term. maybe_written term ≡ term_done (plain_term self)) }
     {
-        let TermSoFar { frames, application } = self;
+        let TermSoFar {
+            frames,
+            application,
+        } = self;
         match application.term() {
             Some(a) => frames.unwind_all(alloc, a),
             None => {
@@ -113,7 +119,11 @@ fn framed(alloc: Global, frame: Frame, frames: Frames) -> Result<Option<TermSoFa
     }))
 }
 
-fn open(alloc: Global, frames: Frames, application: Application) -> Result<Option<TermSoFar>, NoMemory>
+fn open(
+    alloc: Global,
+    frames: Frames,
+    application: Application,
+) -> Result<Option<TermSoFar>, NoMemory>
     ensures { IfOk result (λ next. option_map plain_term next
         ≡ next_open (takes_atom (plain_application application)) (plain_frames frames) (plain_application application)) }
 {
@@ -126,7 +136,11 @@ fn open(alloc: Global, frames: Frames, application: Application) -> Result<Optio
     }
 }
 
-fn close(alloc: Global, frames: Frames, application: Application) -> Result<Option<TermSoFar>, NoMemory>
+fn close(
+    alloc: Global,
+    frames: Frames,
+    application: Application,
+) -> Result<Option<TermSoFar>, NoMemory>
     ensures { IfOk result (λ next. option_map plain_term next
         ≡ next_close (plain_frames frames) (plain_application application)) }
 {
@@ -179,7 +193,11 @@ fn colon(frames: Frames, application: Application) -> Option<TermSoFar>
     }
 }
 
-fn arrow(alloc: Global, frames: Frames, application: Application) -> Result<Option<TermSoFar>, NoMemory>
+fn arrow(
+    alloc: Global,
+    frames: Frames,
+    application: Application,
+) -> Result<Option<TermSoFar>, NoMemory>
     ensures { IfOk result (λ next. option_map plain_term next
         ≡ next_arrow (plain_frames frames) (plain_application application)) }
 {
@@ -198,7 +216,11 @@ fn arrow(alloc: Global, frames: Frames, application: Application) -> Result<Opti
     }
 }
 
-fn double_arrow(alloc: Global, frames: Frames, application: Application) -> Result<Option<TermSoFar>, NoMemory>
+fn double_arrow(
+    alloc: Global,
+    frames: Frames,
+    application: Application,
+) -> Result<Option<TermSoFar>, NoMemory>
     ensures { IfOk result (λ next. option_map plain_term next
         ≡ next_double_arrow (plain_frames frames) (plain_application application)) }
 {

@@ -7,8 +7,8 @@
 mod declaration;
 pub mod laws;
 mod left;
-mod names;
 mod meaning;
+mod names;
 mod rule;
 mod term;
 #[cfg(test)]
