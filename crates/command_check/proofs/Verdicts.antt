@@ -5,7 +5,8 @@ use Rattle.dk_model.specs.Trees.{Tree}
 use Rattle.dk_model.specs.Signatures.{PlainRule, PlainSignature}
 use Rattle.dk_model.specs.Scoping.{PlainCommand, declare, rule_command}
 use Rattle.dk_model.specs.Typing.{Judged, answer, refused, ended, next}
-use Rattle.dk_model.specs.Verdicts.{answer_of, body_type, inferred_type, is_untyped, rules_checked, verdict, verdict_of, IsVerdictOrMemory}
+use Rattle.dk_model.specs.Verdicts.{answer_of, body_type, inferred_type, rules_checked, verdict, verdict_of}
+use Rattle.dk_model.specs.Answering.{is_untyped, IsVerdictOrMemory}
 use Rattle.dk_model.specs.declared.code.Code.{Code}
 use Rattle.dk_model.specs.declared.code.Verdict.{Verdict}
 use Rattle.dk_model.specs.declared.code.Verdict.TheVariants.{Accepted}
@@ -17,7 +18,8 @@ use Rattle.dk_model.specs.RuleTyping.{rules_typed}
 use Rattle.shared_term.specs.Storage.{stored_term}
 use Rattle.shared_term.specs.declared.stored.Stored.{Stored}
 use Rattle.typing_model.specs.Derivations.{HasDerivation}
-use Rattle.typing_model.specs.Laws.{AcceptedHasDerivation, HasNoAnnotations, IsNumbered}
+use Rattle.dk_model.specs.WellFormed.{IsSignature}
+use Rattle.typing_model.specs.Laws.{AcceptedHasDerivation}
 use Rattle.command_check.specs.Given.{fault_verdict, FailsShapes, HasBodyType}
 
 pub shapes_typed : (S : PlainSignature) (due : Result (List PlainRule) Code) (rs : List PlainRule) (n : ℕ) (o : Result Unit TypeFault) (m : ℕ) → due ≡ Ok rs
@@ -42,9 +44,9 @@ fault_refuses (Refused c) e = cc
 fault_refuses Ended e = cc
 fault_refuses NoMemory e = cc
 
-pub derived : (S : PlainSignature) (c : PlainCommand) (budget : ℕ) → ((T : PlainSignature) → IsNumbered T → HasNoAnnotations T → AcceptedHasDerivation T) → verdict_of S c budget ≡ Accepted
-    → IsNumbered S → HasNoAnnotations S → HasDerivation S c
-derived S c budget law e h p = law S h p c budget e
+pub derived : (S : PlainSignature) (c : PlainCommand) (budget : ℕ) → ((T : PlainSignature) → IsSignature T → AcceptedHasDerivation T) → verdict_of S c budget ≡ Accepted
+    → IsSignature S → HasDerivation S c
+derived S c budget law e formed = law S formed c budget e
 
 abbrev untyped_fits : Tree → ℕ → Judged (Unit {0})
 untyped_fits T m = answer tt m
@@ -64,9 +66,9 @@ module _ (S : PlainSignature) (s : SymSort) (b : Tree) (budget : ℕ) where
   pub body_due : (v : Verdict) → IsVerdictOrMemory (verdict (body_type S b budget)) v → IsVerdictOrMemory (verdict_of S (declare s None (Some b)) budget) v
   body_due v h = subst (λ (d : Verdict). IsVerdictOrMemory d v) (flip (same_verdict (body_type S b budget))) h
 
-  pub untyped_derives : ((T : PlainSignature) → IsNumbered T → HasNoAnnotations T → AcceptedHasDerivation T) → (c : PlainCommand) → c ≡ declare s None (Some b) → (o : Result Stored Verdict)
-      → IfOk o (λ t. HasBodyType S b budget (stored_term t)) → IfOk o (λ t. IsNumbered S → HasNoAnnotations S → HasDerivation S c)
-  untyped_derives law c e (Ok t) h = λ n p. subst (HasDerivation S) (flip e) (derived S (declare s None (Some b)) budget law (body_verdict (stored_term t) h) n p)
+  pub untyped_derives : ((T : PlainSignature) → IsSignature T → AcceptedHasDerivation T) → (c : PlainCommand) → c ≡ declare s None (Some b) → (o : Result Stored Verdict)
+      → IfOk o (λ t. HasBodyType S b budget (stored_term t)) → IfOk o (λ t. IsSignature S → HasDerivation S c)
+  untyped_derives law c e (Ok t) h = λ formed. subst (HasDerivation S) (flip e) (derived S (declare s None (Some b)) budget law (body_verdict (stored_term t) h) formed)
   untyped_derives law c e (Err v) h = tt
 
   pub untyped_due : (c : PlainCommand) → c ≡ declare s None (Some b) → (o : Result Stored Verdict)

@@ -22,28 +22,24 @@ use Rattle.dk_check_run.specs.Outcomes.{FileReport, Theory, by_verdict, no_theor
 use Rattle.dk_check_run.specs.Answers.{Answers}
 use Rattle.dk_check_run.specs.Run.{AllDerived, AsksFor, IsDerived, ShelfState, SinkState}
 use Rattle.dk_check_run.proofs.Clauses.{own}
-use Rattle.typing_model.specs.Laws.{HasNoAnnotations, IsNumbered}
-use Rattle.typing_model.proofs.PlainEntries.{entry_plain, plain_more}
-use Rattle.typing_model.proofs.Shapes.{entry_numbered, numbered_more}
+use Rattle.dk_model.specs.WellFormed.{IsSignature}
+use Rattle.typing_model.proofs.Formed.{command_entry, formed_more, formed_numbered, formed_plain, none_formed}
 use Rattle.std.proofs.Common.{inl}
 
-scoped_derives : (S : PlainSignature) (budget : ℕ) (T : Theory) (s : Scoping PlainCommand) → T.signature ≡ S → IsNumbered S → HasNoAnnotations S → scoped_verdict S budget s ≡ verdict.Accepted → IsDerived T s
-scoped_derives S budget T (refused code) same numbered plain e = cc
-scoped_derives S budget T (scoped command) same numbered plain e =
+scoped_derives : (S : PlainSignature) (budget : ℕ) (T : Theory) (s : Scoping PlainCommand) → T.signature ≡ S → IsSignature S → scoped_verdict S budget s ≡ verdict.Accepted → IsDerived T s
+scoped_derives S budget T (refused code) same formed e = cc
+scoped_derives S budget T (scoped command) same formed e =
+    let numbered = formed_numbered S formed in
     subst (λ (U : PlainSignature). HasDerivation U command) (sym same)
-    (accepted_derives S (whnf_reduces S numbered) (normal_reduces S numbered) (comparison_joins S numbered) plain command budget e)
+    (accepted_derives S (whnf_reduces S numbered) (normal_reduces S numbered) (comparison_joins S numbered) (formed_plain S formed) command budget e)
 
 append_none : (xs : List PlainEntry) → xs ++ [] ≡ xs
 append_none [] = refl
 append_none (x ∷ xs) = ap (λ ys. x ∷ ys) (append_none xs)
 
-entries_more : (S : PlainSignature) (budget : ℕ) (s : Scoping PlainCommand) → IsNumbered S → IsNumbered (S ++ scoped_entry S budget s)
-entries_more S budget (refused code) numbered = subst IsNumbered (sym (append_none S)) numbered
-entries_more S budget (scoped c) numbered = numbered_more S (entry_of S c (inferred_type S c budget)) numbered (entry_numbered S c (inferred_type S c budget))
-
-plain_after : (S : PlainSignature) (budget : ℕ) (s : Scoping PlainCommand) → IsNumbered S → HasNoAnnotations S → HasNoAnnotations (S ++ scoped_entry S budget s)
-plain_after S budget (refused code) numbered plain = subst HasNoAnnotations (sym (append_none S)) plain
-plain_after S budget (scoped c) numbered plain = plain_more S (entry_of S c (inferred_type S c budget)) plain (entry_plain S plain (whnf_reduces S numbered) (comparison_joins S numbered) c budget)
+formed_after : (S : PlainSignature) (budget : ℕ) (s : Scoping PlainCommand) → IsSignature S → IsSignature (S ++ scoped_entry S budget s)
+formed_after S budget (refused code) formed = subst IsSignature (sym (append_none S)) formed
+formed_after S budget (scoped c) formed = formed_more S (entry_of S c (inferred_type S c budget)) formed (command_entry S formed c budget)
 
 -- below the limit of commands
 accepted_after : (b : Bool) (v : Verdict) → (if b then verdict.Refused E08 else v) ≡ verdict.Accepted → v ≡ verdict.Accepted
@@ -56,17 +52,16 @@ accepted_first (verdict.Refused code) n c rest e = absurd (omega (arith, e))
 accepted_first verdict.Ended n c rest e = absurd (omega (arith, e))
 accepted_first verdict.Memory n c rest e = absurd (omega (arith, e))
 
-all_derived : (limits : Limits) (budget : ℕ) (T : Theory) (n : ℕ) (cs : List WrittenCommand) (tail : Tail) → IsNumbered T.signature → HasNoAnnotations T.signature → status_of (report_from limits budget T n cs tail).outcome ≡ 0 → AllDerived budget T cs
-all_derived limits budget T n [] tail numbered plain e = tt
-all_derived limits budget T n (c ∷ cs) tail numbered plain e =
+all_derived : (limits : Limits) (budget : ℕ) (T : Theory) (n : ℕ) (cs : List WrittenCommand) (tail : Tail) → IsSignature T.signature → status_of (report_from limits budget T n cs tail).outcome ≡ 0 → AllDerived budget T cs
+all_derived limits budget T n [] tail formed e = tt
+all_derived limits budget T n (c ∷ cs) tail formed e =
     let first = accepted_first (verdict_at limits budget T n c.form) n c (report_from limits budget (theory_after T budget c.form) (n + 1) cs tail) e in (
-      scoped_derives T.signature budget T (scope_of T.names c.form) refl numbered plain (accepted_after (nat_le limits.commands n) (verdict_after T budget c.form) first.0),
-      all_derived limits budget (theory_after T budget c.form) (n + 1) cs tail (entries_more T.signature budget (scope_of T.names c.form) numbered)
-          (plain_after T.signature budget (scope_of T.names c.form) numbered plain) first.1,
+      scoped_derives T.signature budget T (scope_of T.names c.form) refl formed (accepted_after (nat_le limits.commands n) (verdict_after T budget c.form) first.0),
+      all_derived limits budget (theory_after T budget c.form) (n + 1) cs tail (formed_after T.signature budget (scope_of T.names c.form) formed) first.1,
     )
 
 pub derived : (request : Option Request) (old new : ShelfState) (before after : SinkState) (result : ℕ) → Answers request old new before after result
     → (q : Request) (bytes : List ℕ) → AsksFor request old.books q (Some bytes) → result ≡ 0 → AllDerived q.budget no_theory (read standard bytes whole).commands
 derived request old new before after result answers q bytes asks zero =
     let report = own request old new before after result answers q bytes asks (inl zero) in
-    all_derived standard q.budget no_theory 0 (read standard bytes whole).commands (read standard bytes whole).tail tt tt (sym report.status ∙ zero)
+    all_derived standard q.budget no_theory 0 (read standard bytes whole).commands (read standard bytes whole).tail none_formed (sym report.status ∙ zero)

@@ -1,6 +1,6 @@
 -- For proofs: the theory that the program keeps, and a step of it.
 use Rattle.std.specs.Prelude.{◌≡◌, ◌≢◌, ℕ, List, [], ◌∷◌, ◌++◌, length}
-use Rattle.dk_model.specs.Verdicts.{IsVerdictOrMemory}
+use Rattle.dk_model.specs.Answering.{IsVerdictOrMemory}
 use Rattle.dk_model.specs.declared.code.Verdict.{Verdict}
 use Rattle.dk_model.specs.declared.code.Verdict.TheVariants as verdict
 use Rattle.dk_model.specs.declared.limits.Limits.{Limits}
@@ -8,7 +8,7 @@ use Rattle.dk_parser.specs.Written.{WrittenForm}
 use Rattle.scope_terms.specs.Scopes.{names_after, scope_of}
 use Rattle.dk_model.specs.Signatures.{PlainEntry}
 use Rattle.signature_log.specs.Versions.{entries_of}
-use Rattle.typing_model.specs.Laws.{IsNumbered}
+use Rattle.dk_model.specs.WellFormed.{IsSignature}
 use Rattle.dk_check_run.specs.declared.theory.Theory.{Theory as Kept}
 use Rattle.dk_check_run.specs.Outcomes.{Theory, no_theory, scoped_entry, theory_after, verdict_after, verdict_at, shown_name}
 
@@ -24,10 +24,10 @@ checked_of t = record { theory = record { names = t.names; signature = entries_o
 abbrev pub nothing_checked : Checked
 nothing_checked = record { theory = no_theory; shown = [] }
 
--- each accepted command has a number, and the rules number their variables
+-- each accepted command has a number, and their entries are a signature
 pub record IsSound (c : Checked) : Type 0 where
   pub counted : c.theory.names.count ≡ length c.shown
-  pub numbered : IsNumbered c.theory.signature
+  pub formed : IsSignature c.theory.signature
 
 -- a theory that is sound
 pub record IsKept (t : Kept) : Type 0 where

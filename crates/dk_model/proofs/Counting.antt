@@ -5,7 +5,8 @@ use Rattle.std.specs.Prelude.{slice_get, slice_set, replicate, not}
 use Rattle.dk_model.specs.Trees.{Tree, apply, bare, annotated, product}
 use Rattle.dk_model.specs.Substitution.{shift, equal}
 use Rattle.dk_model.specs.Signatures.{rule_variable_pattern, guard_pattern, PlainSignature}
-use Rattle.dk_model.specs.Units.{Units, bind, Takes}
+use Rattle.dk_model.specs.Units.{Units, bind}
+use Rattle.dk_model.specs.Taking.{Takes}
 use Rattle.dk_model.specs.Spines.{head_symbol, contraction, pairs_of}
 use Rattle.dk_model.specs.Matrix.{Cell, cell, Column, Row, rigid_at}
 use Rattle.dk_model.specs.Captures.{filled, mentions_others, captured, Captures, capture_at}

@@ -1,6 +1,6 @@
 -- Which variables a tree mentions.
 use Rattle.std.specs.Prelude.{ℕ, ◌+◌, ◌<◌}
-use Rattle.dk_model.specs.Trees.{Tree, star, kind, symbol, variable, rule_variable, apply, bare, annotated, product}
+use Rattle.dk_model.specs.PlainTerms.{Tree, star, kind, symbol, variable, rule_variable, apply, bare, annotated, product}
 
 -- each variable that is not bound in the tree lies below the number
 abbrev pub IsClosedAt : ℕ → Tree → Type 0

@@ -1,6 +1,6 @@
 -- Trusted: what a rule variable captures of a part, and a term under the captures (docs/evaluation.md).
 use Rattle.std.specs.Prelude.{ℕ, ◌+◌, ◌-◌, Option, Some, None, Bool, false, ◌&&◌, ◌||◌, not, List, [], ◌∷◌, slice_get, eqb, nat_lt, if◌then◌else◌, length}
-use Rattle.dk_model.specs.Trees.{Tree, variable, rule_variable, apply, bare, annotated, product}
+use Rattle.dk_model.specs.PlainTerms.{Tree, variable, rule_variable, apply, bare, annotated, product}
 use Rattle.dk_model.specs.Substitution.{shift}
 
 -- whether the number is one of these

@@ -1,14 +1,18 @@
--- Trusted: the rules of evaluation as equations without fuel, which a law states (docs/evaluation.md).
-use Rattle.std.specs.Prelude.{ℕ, suc, ◌≡◌, Option, Some, None, Bool, true, false, List, if◌then◌else◌}
-use Rattle.dk_model.specs.Trees.{Tree}
+-- What a law says: the rules of evaluation as equations without fuel (docs/evaluation.md).
+use Rattle.std.specs.Prelude.{ℕ, suc, ◌+◌, ◌*◌, ◌≡◌, Option, Some, None, Bool, true, false, List, if◌then◌else◌}
+use Rattle.dk_model.specs.PlainTerms.{Tree}
 use Rattle.dk_model.specs.Substitution.{equal}
-use Rattle.dk_model.specs.Signatures.{PlainSignature}
+use Rattle.dk_model.specs.PlainEntries.{PlainSignature}
 use Rattle.dk_model.specs.Units.{Units, bind}
 use Rattle.dk_model.specs.Spines.{head_symbol, contraction, pairs_of}
 use Rattle.dk_model.specs.Matrix.{Column, Row}
 use Rattle.dk_model.specs.Selection.{Selected, select_from}
 use Rattle.dk_model.specs.Parts.{each_same, each_normal}
-use Rattle.dk_model.specs.Evaluation.{whnf_of, selection_of, comparison_of, normal_of, columns, rows, rewritten}
+use Rattle.dk_model.specs.Evaluation.{whnf_of, comparison_of, normal_of, selection_with, columns, rows, rewritten}
+
+-- the first row that takes the columns, with its captures
+abbrev pub selection_of : PlainSignature → ℕ → List Column → List Row → Units (Option Selected)
+selection_of S n cols rs = selection_with (2 * n + 1) S n cols rs
 
 -- where the weak head form goes on after a selection: with what the rule makes of the term, or with the term as its answer
 abbrev pub after_selection : PlainSignature → Tree → Option Selected → ℕ → Units Tree

@@ -2,13 +2,17 @@ pub mod formers
 pub mod Codes
 pub mod Stops
 pub mod Limits
+pub mod PlainTerms
 pub mod Trees
 pub mod Substitution
 pub mod Bounds
 pub mod Erasure
+pub mod PlainEntries
 pub mod Signatures
+pub mod PlainCommands
 pub mod Scoping
 pub mod Units
+pub mod Taking
 pub mod Spines
 pub mod SymbolRules
 pub mod Matrix
@@ -21,3 +25,5 @@ pub mod Typing
 pub mod RuleTyping
 pub mod Shapes
 pub mod Verdicts
+pub mod Answering
+pub mod WellFormed

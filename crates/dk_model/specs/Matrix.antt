@@ -1,8 +1,8 @@
 -- Trusted: the matrix of a selection, with a row for each rule and a column for each part of the arguments
 -- (docs/evaluation.md).
 use Rattle.std.specs.Prelude.{ℕ, zero, suc, ◌+◌, ◌-◌, Option, Some, None, Bool, true, false, ◌&&◌, List, [], ◌∷◌, ◌++◌, replicate, take, drop, eqb, nat_lt, if◌then◌else◌, length, map, max}
-use Rattle.dk_model.specs.Trees.{Tree, symbol, variable, bare}
-use Rattle.dk_model.specs.Signatures.{Pattern, symbol_pattern, variable_pattern, abstraction_pattern, pattern_list, PlainRule}
+use Rattle.dk_model.specs.PlainTerms.{Tree, symbol, variable, bare}
+use Rattle.dk_model.specs.PlainEntries.{Pattern, symbol_pattern, variable_pattern, abstraction_pattern, pattern_list, PlainRule}
 use Rattle.dk_model.specs.Spines.{head, arguments}
 
 -- what a row asks of a column: nothing, or that its term matches a pattern

@@ -1,6 +1,6 @@
 -- Trusted: the comparison and the normal form of a term's parts, from left to right (docs/evaluation.md).
 use Rattle.std.specs.Prelude.{ℕ, Some, Bool, true, false, List, [], ◌∷◌, if◌then◌else◌}
-use Rattle.dk_model.specs.Trees.{Tree, apply, bare, annotated, product}
+use Rattle.dk_model.specs.PlainTerms.{Tree, apply, bare, annotated, product}
 use Rattle.dk_model.specs.Units.{Units, bind}
 
 -- the comparison `C` of pairs of parts, up to the first no

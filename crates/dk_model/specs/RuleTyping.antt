@@ -1,9 +1,9 @@
 -- Trusted: the types of rules, that of the left side, then of annotations, guards and right side, with their units (docs/typing.md).
 use Rattle.std.specs.Prelude.{ℕ, zero, suc, Option, Some, None, Bool, true, false, if◌then◌else◌, List, [], ◌∷◌, ◌++◌, map, length, replicate, slice_get, slice_set}
-use Rattle.dk_model.specs.Trees.{Tree, kind, symbol, variable, rule_variable, apply, bare, product}
+use Rattle.dk_model.specs.PlainTerms.{Tree, kind, symbol, variable, rule_variable, apply, bare, product}
 use Rattle.dk_model.specs.Substitution.{shift, substitute}
 use Rattle.dk_model.specs.Erasure.{erased}
-use Rattle.dk_model.specs.Signatures.{Pattern, Patterns, no_patterns, more_patterns, rule_variable_pattern, wildcard_pattern, guard_pattern, symbol_pattern, variable_pattern, abstraction_pattern, PlainRule, PlainSignature}
+use Rattle.dk_model.specs.PlainEntries.{Pattern, Patterns, no_patterns, more_patterns, rule_variable_pattern, wildcard_pattern, guard_pattern, symbol_pattern, variable_pattern, abstraction_pattern, PlainRule, PlainSignature}
 use Rattle.dk_model.specs.Spines.{applied}
 use Rattle.dk_model.specs.Captures.{renamed}
 use Rattle.dk_model.specs.Selection.{PartTrial, part_at}

@@ -1,6 +1,6 @@
 -- Trusted: the rules of a symbol (docs/evaluation.md).
 use Rattle.std.specs.Prelude.{ℕ, ◌++◌, Option, Some, List, [], ◌∷◌, eqb, slice_get, if◌then◌else◌}
-use Rattle.dk_model.specs.Signatures.{PlainRule, PlainEntry, symbol_entry, rules_entry, PlainSignature}
+use Rattle.dk_model.specs.PlainEntries.{PlainRule, PlainEntry, symbol_entry, rules_entry, PlainSignature}
 
 -- those of the rules whose head is this symbol
 abbrev pub rules_of_head : ℕ → List PlainRule → List PlainRule

@@ -1,17 +1,17 @@
--- The verdict on a command and the entry that an accepted one adds (docs/typing.md).
-use Rattle.std.specs.Prelude.{Bool, true, false, ◌≡◌, ℕ, Option, Some, None, Result, Ok, Err, List, []}
-use Rattle.dk_model.specs.Trees.{Tree, kind}
+-- Trusted: the verdict on a command and the entry that an accepted one adds (docs/typing.md).
+use Rattle.std.specs.Prelude.{ℕ, Option, Some, None, Result, Ok, Err, List, []}
+use Rattle.dk_model.specs.PlainTerms.{Tree, kind}
 use Rattle.dk_model.specs.Erasure.{erased}
-use Rattle.dk_model.specs.Signatures.{PlainRule, PlainEntry, symbol_entry, rules_entry, PlainSignature}
+use Rattle.dk_model.specs.PlainEntries.{PlainRule, PlainEntry, symbol_entry, rules_entry, PlainSignature}
 use Rattle.dk_model.specs.Shapes.{shapes_of, kept_rules}
-use Rattle.dk_model.specs.Scoping.{PlainCommand, declare, rule_command}
+use Rattle.dk_model.specs.PlainCommands.{PlainCommand, declare, rule_command}
 use Rattle.dk_model.specs.Typing.{Judged, answer, refused, ended, next, not_kind, inferred, checked, sort_of}
 use Rattle.dk_model.specs.RuleTyping.{rules_typed}
 use Rattle.dk_model.specs.declared.signature.SymSort.{SymSort}
 use Rattle.dk_model.specs.declared.signature.SymSort.TheVariants.{Static, Definable, Theorem}
 use Rattle.dk_model.specs.declared.code.Code.{Code}
 use Rattle.dk_model.specs.declared.code.Verdict.{Verdict}
-use Rattle.dk_model.specs.declared.code.Verdict.TheVariants.{Accepted, Refused, Ended, Memory}
+use Rattle.dk_model.specs.declared.code.Verdict.TheVariants.{Accepted, Refused, Ended}
 
 abbrev pub verdict : {A : Type 0} → Judged A → Verdict
 verdict (answer a n) = Accepted
@@ -79,15 +79,3 @@ kept_body Theorem b = None
 abbrev pub entry_of : PlainSignature → PlainCommand → Option Tree → PlainEntry
 entry_of S (declare s A b) T = symbol_entry s (entry_type_of A T) (kept_body s b)
 entry_of S (rule_command rs) T = rules_entry (kept_rules (shapes_of S rs))
-
--- whether the command is a definition without a declared type
-abbrev pub is_untyped : PlainCommand → Bool
-is_untyped (declare s None (Some b)) = true
-is_untyped (declare s None None) = false
-is_untyped (declare s (Some A) b) = false
-is_untyped (rule_command rs) = false
-
--- the verdict that is due, or want of memory
-abbrev pub IsVerdictOrMemory : Verdict → Verdict → Type 0
-IsVerdictOrMemory due Memory = Unit {0}
-IsVerdictOrMemory due given = given ≡ due

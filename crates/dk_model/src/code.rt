@@ -45,9 +45,10 @@ pub enum Code {
     E25,
     /// The head of a rule isn't definable.
     E30,
-    /// The left side isn't a symbol applied to patterns.
+    /// The head of a left side isn't a symbol.
     E31,
-    /// Not a Miller pattern.
+    /// An argument of a left side isn't a pattern: a rule variable applied to distinct bound variables, the wildcard, a
+    /// guard, an abstraction of a pattern, or a symbol or bound variable applied to patterns.
     E32,
     /// A rule variable is used outside the pattern and missing in it.
     E33,

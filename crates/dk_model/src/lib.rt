@@ -3,7 +3,9 @@
 //! Begin at `Term`, then specs/.
 #![tactic(auto)]
 
+mod carry;
 mod code;
+mod copies;
 pub mod laws;
 mod limits;
 mod listed;
@@ -14,6 +16,7 @@ mod signature;
 mod stop;
 mod term;
 
+pub use carry::{Carry, carry_entry, carry_pattern, carry_rule, carry_rules};
 pub use code::{Code, Fault, Verdict};
 pub use limits::Limits;
 pub use listed::Listed;

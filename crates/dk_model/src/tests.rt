@@ -96,7 +96,7 @@ fn want_of_memory_is_a_fault_and_codes_are_spelt(rt: HostRuntime) -> Result<(), 
         (Code::E13, b"E13"),
         (Code::E35, b"E35"),
     ] {
-        assert_eq!(rt; code.spelling(), text.as_slice());
+        assert_eq!(rt; code.spelling(), text.as_slice(), "of {code:?}");
     }
     Ok(())
 }

@@ -3,7 +3,8 @@ use Rattle.std.specs.Prelude.{ℕ, Option}
 use Rattle.dk_model.specs.Trees.{Tree}
 use Rattle.dk_model.specs.Signatures.{plain_signature}
 use Rattle.dk_model.specs.Scoping.{plain_command}
-use Rattle.dk_model.specs.Verdicts.{verdict_of, inferred_type, IsVerdictOrMemory}
+use Rattle.dk_model.specs.Verdicts.{verdict_of, inferred_type}
+use Rattle.dk_model.specs.Answering.{IsVerdictOrMemory}
 use Rattle.dk_model.specs.declared.code.Verdict.{Verdict}
 use Rattle.dk_model.specs.declared.signature.Signature.{Signature}
 use Rattle.dk_model.specs.declared.scoped.Scoped.{Scoped}

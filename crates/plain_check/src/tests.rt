@@ -102,22 +102,30 @@ fn third(alloc: Global, row: usize) -> Result<Scoped, NoMemory> {
 #[test]
 fn each_code_comes_where_it_is_due(rt: HostRuntime) -> Result<(), Fail> {
     let alloc = rt.alloc();
-    for (row, verdict) in [
-        (0, Verdict::Refused(Code::E20)),
-        (1, Verdict::Refused(Code::E22)),
-        (2, Verdict::Refused(Code::E22)),
-        (3, Verdict::Refused(Code::E22)),
-        (4, Verdict::Refused(Code::E23)),
-        (5, Verdict::Refused(Code::E24)),
-        (6, Verdict::Refused(Code::E25)),
-        (7, Verdict::Refused(Code::E25)),
-        (8, Verdict::Refused(Code::E21)),
-        (9, Verdict::Accepted),
-        (10, Verdict::Refused(Code::E22)),
-        (11, Verdict::Accepted),
+    for (row, text, verdict) in [
+        (0, "thm t : nat := z z.", Verdict::Refused(Code::E20)),
+        (1, "t : z.", Verdict::Refused(Code::E22)),
+        (2, "t : z -> nat.", Verdict::Refused(Code::E22)),
+        (3, "t : nat -> z.", Verdict::Refused(Code::E22)),
+        (4, "def t := x => x.", Verdict::Refused(Code::E23)),
+        (5, "thm t : nat := x => x.", Verdict::Refused(Code::E24)),
+        (6, "def t := x : nat => Type.", Verdict::Refused(Code::E25)),
+        (
+            7,
+            "thm t : nat := (x : nat => Type) z.",
+            Verdict::Refused(Code::E25),
+        ),
+        (8, "thm t : Type := Type.", Verdict::Refused(Code::E21)),
+        (9, "def t : nat -> nat := x : nat => x.", Verdict::Accepted),
+        (
+            10,
+            "def t : nat -> nat := x : z => x.",
+            Verdict::Refused(Code::E22),
+        ),
+        (11, "def t := z.", Verdict::Accepted),
     ] {
         let command = third(alloc, row)?;
-        assert_eq!(rt; after_two(alloc, command, 1000)?, (3, verdict), "at {row}");
+        assert_eq!(rt; after_two(alloc, command, 1000)?, (3, verdict), "at {text}");
     }
     Ok(())
 }
@@ -263,19 +271,19 @@ fn signature_of_two(alloc: Global) -> Result<Signature, NoMemory> {
 fn a_plain_signature_gives_the_same_verdicts(rt: HostRuntime) -> Result<(), Fail> {
     let alloc = rt.alloc();
     let signature = signature_of_two(alloc)?;
-    for (row, verdict) in [
-        (0, Verdict::Refused(Code::E20)),
-        (4, Verdict::Refused(Code::E23)),
-        (5, Verdict::Refused(Code::E24)),
-        (8, Verdict::Refused(Code::E21)),
-        (9, Verdict::Accepted),
-        (11, Verdict::Accepted),
+    for (row, text, verdict) in [
+        (0, "thm t : nat := z z.", Verdict::Refused(Code::E20)),
+        (4, "def t := x => x.", Verdict::Refused(Code::E23)),
+        (5, "thm t : nat := x => x.", Verdict::Refused(Code::E24)),
+        (8, "thm t : Type := Type.", Verdict::Refused(Code::E21)),
+        (9, "def t : nat -> nat := x : nat => x.", Verdict::Accepted),
+        (11, "def t := z.", Verdict::Accepted),
     ] {
         let command = third(alloc, row)?;
         assert_eq!(rt;
             check_plain(alloc, &signature, &command, 1000),
             verdict,
-            "at {row}"
+            "at {text}"
         );
     }
     Ok(())

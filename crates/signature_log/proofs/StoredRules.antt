@@ -1,42 +1,9 @@
--- Patterns over stored terms, and a version with one entry more.
-use Rattle.std.proofs.Common.{◌≡◌, ◌∙◌, ap, sym as flip, refl, ℕ, List, [], ◌∷◌, ◌++◌, map}
+-- A version with one entry more.
+use Rattle.std.proofs.Common.{◌≡◌, List, [], ◌∷◌, ◌++◌}
 use Rattle.std.proofs.lemmas.List.{map-append}
-use Rattle.dk_model.specs.Trees.{Tree, tree}
-use Rattle.dk_model.specs.Signatures.{Pattern, Patterns, no_patterns, more_patterns, symbol_pattern, variable_pattern, pattern, pattern_by, patterns_by}
-use Rattle.dk_model.specs.declared.signature.Pat.{Pat, Row_of-Pat, end_of-Pat, more_of-Pat, items-the_row-Pat}
-use Rattle.dk_model.specs.declared.signature.Pat.TheVariants.{Sym, Var}
-use Rattle.dk_model.specs.declared.signature.Pat.TheBlock.{hidden-the_row-Pat-0, items_hidden-the_row-Pat-0}
 use Rattle.dk_model.specs.declared.signature.Entry.{Entry}
-use Rattle.dk_model.specs.declared.term.Term.{Term}
 use Rattle.shared_term.specs.declared.stored.Stored.{Stored}
-use Rattle.shared_term.specs.Storage.{stored_term}
 use Rattle.signature_log.specs.Versions.{entries_of, stored_entry}
-
-abbrev listed : List Pattern → Patterns
-listed [] = no_patterns
-listed (p ∷ ps) = more_patterns p (listed ps)
-
-module _ {T : Type 0} (view : T → Tree) where
-  row_items : (n : _) (r : Row_of-Pat T n) → patterns_by view r ≡ listed (map (pattern_by view) (items-the_row-Pat T n r))
-  row_items n end_of-Pat = refl
-  row_items n (more_of-Pat p r) = ap (λ (qs : Patterns). more_patterns (pattern_by view p) qs) (row_items _ r)
-
-  row_is : (ps : List (Pat T)) → patterns_by view (hidden-the_row-Pat-0 T ps) ≡ listed (map (pattern_by view) ps)
-  row_is ps = row_items _ (hidden-the_row-Pat-0 T ps) ∙ ap (λ (qs : List (Pat T)). listed (map (pattern_by view) qs)) (items_hidden-the_row-Pat-0 T ps)
-
-  symbol_is : (k : ℕ) (ps : List (Pat T)) → pattern_by view (Sym k ps) ≡ symbol_pattern k (listed (map (pattern_by view) ps))
-  symbol_is k ps = ap (symbol_pattern k) (row_is ps)
-
-  variable_is : (k : ℕ) (ps : List (Pat T)) → pattern_by view (Var k ps) ≡ variable_pattern k (listed (map (pattern_by view) ps))
-  variable_is k ps = ap (variable_pattern k) (row_is ps)
-
-pub stored_symbol : (p : Pat Term) (k : ℕ) (ps : List (Pat Term)) (qs : List (Pat Stored)) → p ≡ Sym k ps → map (pattern_by stored_term) qs ≡ map pattern ps
-    → pattern_by stored_term (Sym k qs) ≡ pattern p
-stored_symbol p k ps qs is e = symbol_is stored_term k qs ∙ ap (λ (xs : List Pattern). symbol_pattern k (listed xs)) e ∙ flip (ap pattern is ∙ symbol_is tree k ps)
-
-pub stored_variable : (p : Pat Term) (k : ℕ) (ps : List (Pat Term)) (qs : List (Pat Stored)) → p ≡ Var k ps → map (pattern_by stored_term) qs ≡ map pattern ps
-    → pattern_by stored_term (Var k qs) ≡ pattern p
-stored_variable p k ps qs is e = variable_is stored_term k qs ∙ ap (λ (xs : List Pattern). variable_pattern k (listed xs)) e ∙ flip (ap pattern is ∙ variable_is tree k ps)
 
 pub entry_appended : (v : List (Entry Stored)) (e : Entry Stored) → entries_of (v ++ e ∷ []) ≡ entries_of v ++ stored_entry e ∷ []
 entry_appended v e = map-append stored_entry v (e ∷ [])

@@ -6,7 +6,7 @@ use Rattle.dk_model.specs.Signatures.{PlainSignature}
 use Rattle.dk_model.specs.Units.{Units, bind}
 use Rattle.dk_model.specs.Matrix.{opened_columns, refined_rows}
 use Rattle.dk_model.specs.Matrix.{Column as PlainColumn, Row as PlainRow}
-use Rattle.dk_model.specs.Evaluation.{selection_of}
+use Rattle.dk_model.specs.Equations.{selection_of}
 use Rattle.dk_model.specs.Equations.{after_selection}
 use Rattle.tree_evaluation.specs.declared.matrix.Column.{Column}
 use Rattle.tree_evaluation.specs.declared.matrix.Matrix.{Matrix}

@@ -11,7 +11,8 @@ use Rattle.dk_model.specs.Spines.{contraction, head_symbol, body_of, applied}
 use Rattle.dk_model.specs.SymbolRules.{rules_of}
 use Rattle.dk_model.specs.Matrix.{rows_for, width, Column, Row}
 use Rattle.dk_model.specs.Captures.{filled, Captures}
-use Rattle.dk_model.specs.Evaluation.{whnf_of, selection_of, columns, rows}
+use Rattle.dk_model.specs.Evaluation.{whnf_of, columns, rows}
+use Rattle.dk_model.specs.Equations.{selection_of}
 use Rattle.dk_model.specs.declared.term.Term.{Term}
 use Rattle.dk_model.specs.Equations.{after_selection}
 use Rattle.dk_model.proofs.Turns.{whnf_contracts, whnf_stands, whnf_selects}

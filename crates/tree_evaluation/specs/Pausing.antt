@@ -9,7 +9,8 @@ use Rattle.dk_model.specs.Selection.{Selected}
 use Rattle.dk_model.specs.Matrix.{opened_columns, refined_rows}
 use Rattle.dk_model.specs.Captures.{Captures}
 use Rattle.dk_model.specs.Matrix.{Column as PlainColumn, Row as PlainRow}
-use Rattle.dk_model.specs.Evaluation.{selection_of, columns, rows}
+use Rattle.dk_model.specs.Evaluation.{columns, rows}
+use Rattle.dk_model.specs.Equations.{selection_of}
 use Rattle.dk_model.specs.Equations.{after_selection}
 use Rattle.tree_evaluation.specs.declared.matrix.Column.{Column}
 use Rattle.tree_evaluation.specs.declared.matrix.Matrix.{Matrix}

@@ -1,6 +1,6 @@
--- Trusted: what a capture stands for, the part that it was made of, once it is applied to its rule variable's arguments.
+-- What a law says: what a capture stands for, the part that it was made of, once it is applied to its rule variable's arguments.
 use Rattle.std.specs.Prelude.{ℕ, ◌≡◌, false, List, [], map}
-use Rattle.dk_model.specs.Trees.{Tree, variable}
+use Rattle.dk_model.specs.PlainTerms.{Tree, variable}
 use Rattle.dk_model.specs.Substitution.{shift}
 use Rattle.dk_model.specs.Spines.{applied}
 use Rattle.dk_model.specs.Captures.{mentions_others, captured}

@@ -1,67 +1,20 @@
 -- What the laws say: the answers of evaluation and of typing have the meaning that reduction and derivations give them.
-use Rattle.std.specs.Prelude.{ℕ, ◌≡◌, ◌<◌, Option, Some, None, Ok, true, List, [], ◌∷◌, ◌++◌}
-use Rattle.dk_model.specs.Trees.{Tree}
-use Rattle.dk_model.specs.Signatures.{Pattern, Patterns, no_patterns, more_patterns, rule_variable_pattern, wildcard_pattern, guard_pattern, symbol_pattern, variable_pattern, abstraction_pattern, PlainRule, PlainEntry, symbol_entry, rules_entry, PlainSignature}
-use Rattle.dk_model.specs.Scoping.{PlainScopedRule, PlainCommand}
+use Rattle.std.specs.Prelude.{ℕ, ◌≡◌, Some, Ok, true, List, [], ◌∷◌, ◌++◌}
+use Rattle.dk_model.specs.PlainTerms.{Tree}
+use Rattle.dk_model.specs.PlainEntries.{PlainRule, PlainSignature}
+use Rattle.dk_model.specs.WellFormed.{IsSignature}
+use Rattle.dk_model.specs.PlainCommands.{PlainScopedRule, PlainCommand}
 use Rattle.dk_model.specs.Shapes.{shape_of}
 use Rattle.dk_model.specs.RuleTyping.{rule_checked}
 use Rattle.dk_model.specs.Spines.{head_symbol}
 use Rattle.dk_model.specs.Selection.{Selected}
-use Rattle.dk_model.specs.Evaluation.{whnf_of, comparison_of, normal_of, selection_of, columns, rows, rewritten}
+use Rattle.dk_model.specs.Evaluation.{whnf_of, comparison_of, normal_of, columns, rows, rewritten}
+use Rattle.dk_model.specs.Equations.{selection_of}
 use Rattle.dk_model.specs.Typing.{answer, inferred, checked}
 use Rattle.dk_model.specs.Verdicts.{verdict_of, inferred_type, entry_of}
 use Rattle.dk_model.specs.declared.code.Verdict.TheVariants.{Accepted}
-use Rattle.typing_model.specs.Steps.{IsPlain, ReducesTo, AreJoinable}
+use Rattle.typing_model.specs.Steps.{ReducesTo, AreJoinable}
 use Rattle.typing_model.specs.Derivations.{Context, HasType, Fits, RuleHasDerivation, HasDerivation}
-
-abbrev mutual
-  -- the rule variables of a pattern, outside its guards, are numbered below `vars`
-  pub IsNumberedPattern : ℕ → Pattern → Type 0
-  IsNumberedPattern vars (rule_variable_pattern k xs) = k < vars
-  IsNumberedPattern vars wildcard_pattern = Unit {0}
-  IsNumberedPattern vars (guard_pattern t) = Unit {0}
-  IsNumberedPattern vars (symbol_pattern k ps) = AreNumberedPatterns vars ps
-  IsNumberedPattern vars (variable_pattern k ps) = AreNumberedPatterns vars ps
-  IsNumberedPattern vars (abstraction_pattern p) = IsNumberedPattern vars p
-
-  pub AreNumberedPatterns : ℕ → Patterns → Type 0
-  AreNumberedPatterns vars no_patterns = Unit {0}
-  AreNumberedPatterns vars (more_patterns p ps) = IsNumberedPattern vars p × AreNumberedPatterns vars ps
-
-abbrev pub AreNumbered : ℕ → List Pattern → Type 0
-AreNumbered vars [] = Unit {0}
-AreNumbered vars (p ∷ ps) = IsNumberedPattern vars p × AreNumbered vars ps
-
-abbrev pub AreNumberedRules : List PlainRule → Type 0
-AreNumberedRules [] = Unit {0}
-AreNumberedRules (r ∷ rs) = AreNumbered r.vars r.pats × AreNumberedRules rs
-
-abbrev pub IsNumberedEntry : PlainEntry → Type 0
-IsNumberedEntry (symbol_entry s t b) = Unit {0}
-IsNumberedEntry (rules_entry rs) = AreNumberedRules rs
-
--- each rule numbers the rule variables of its patterns below the count that it gives
-abbrev pub IsNumbered : PlainSignature → Type 0
-IsNumbered [] = Unit {0}
-IsNumbered (symbol_entry s t b ∷ es) = IsNumbered es
-IsNumbered (rules_entry rs ∷ es) = AreNumberedRules rs × IsNumbered es
-
-abbrev pub IsPlainOption : Option Tree → Type 0
-IsPlainOption None = Unit {0}
-IsPlainOption (Some t) = IsPlain t
-
-abbrev pub ArePlainRules : List PlainRule → Type 0
-ArePlainRules [] = Unit {0}
-ArePlainRules (r ∷ rs) = IsPlain r.right × ArePlainRules rs
-
-abbrev pub IsPlainEntry : PlainEntry → Type 0
-IsPlainEntry (symbol_entry s t b) = IsPlain t × IsPlainOption b
-IsPlainEntry (rules_entry rs) = ArePlainRules rs
-
--- types, bodies and right sides have no annotations
-abbrev pub HasNoAnnotations : PlainSignature → Type 0
-HasNoAnnotations [] = Unit {0}
-HasNoAnnotations (e ∷ es) = IsPlainEntry e × HasNoAnnotations es
 
 -- a term reduces to its weak head form
 abbrev pub WhnfReduces : PlainSignature → Type 0
@@ -97,14 +50,9 @@ AcceptedHasDerivation S = (command : PlainCommand) (budget : ℕ) → verdict_of
 abbrev pub TypedRuleHasDerivation : PlainSignature → Type 0
 TypedRuleHasDerivation S = (rule : PlainScopedRule) (shape : PlainRule) (n m : ℕ) (u : Unit {0}) → shape_of rule ≡ Ok shape → rule_checked S shape n ≡ answer u m → RuleHasDerivation S rule
 
--- the entry of a command is numbered, and numbered entries stay so with one more
-abbrev pub EntriesAreNumbered : PlainSignature → Type 0
-EntriesAreNumbered S = (command : PlainCommand) (typ : Option Tree) → IsNumbered S → IsNumbered (S ++ (entry_of S command typ ∷ []))
-
--- the entry that an accepted command adds has no annotations, where those before have none
-abbrev pub EntriesArePlain : PlainSignature → Type 0
-EntriesArePlain S = (command : PlainCommand) (budget : ℕ) → IsNumbered S → HasNoAnnotations S
-    → HasNoAnnotations (S ++ (entry_of S command (inferred_type S command budget) ∷ []))
+-- a signature stays one with the entry of a further command
+abbrev pub StaysSignature : PlainSignature → Type 0
+StaysSignature S = (command : PlainCommand) (budget : ℕ) → IsSignature S → IsSignature (S ++ (entry_of S command (inferred_type S command budget) ∷ []))
 
 -- no context gives the term a type
 abbrev pub HasNoType : PlainSignature → Tree → Type 0

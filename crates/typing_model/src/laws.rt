@@ -4,19 +4,17 @@
 
 ghost use Rattle.std.specs.Prelude.{[]};
 ghost use Rattle.dk_model.specs.Trees.{bare, kind};
+ghost use Rattle.dk_model.specs.WellFormed.{IsSignature};
 ghost use Rattle.typing_model.specs.Captures.{CaptureGivesPart};
 ghost use Rattle.typing_model.specs.Laws.{
   AcceptedHasDerivation,
   CheckedFits,
   ComparisonJoins,
-  EntriesAreNumbered,
-  EntriesArePlain,
-  HasNoAnnotations,
   HasNoType,
   InferredHasType,
-  IsNumbered,
   NormalReduces,
   SelectionReduces,
+  StaysSignature,
   TypedRuleHasDerivation,
   WhnfReduces,
 };
@@ -27,10 +25,10 @@ ghost use Rattle.typing_model.specs.Laws.{
 /// conditions of repeated rule variables and guards. They need not be confluent nor terminate: where the units suffice,
 /// the answer is a reduct.
 pub fn evaluation_reduces()
-    ensures weak_head_form { (S : _) → IsNumbered S → WhnfReduces S }
-    ensures normal_form { (S : _) → IsNumbered S → NormalReduces S }
-    ensures comparison { (S : _) → IsNumbered S → ComparisonJoins S }
-    ensures selection { (S : _) → IsNumbered S → SelectionReduces S }
+    ensures weak_head_form { (S : _) → IsSignature S → WhnfReduces S }
+    ensures normal_form { (S : _) → IsSignature S → NormalReduces S }
+    ensures comparison { (S : _) → IsSignature S → ComparisonJoins S }
+    ensures selection { (S : _) → IsSignature S → SelectionReduces S }
 {
     // Proved for each signature, number of units and term.
 }
@@ -47,15 +45,15 @@ pub fn capture_gives_part()
 
 /// A term has the type that inference answers, and fits the type against which checking accepts it.
 pub fn typing_derives()
-    ensures inference { (S : _) → IsNumbered S → InferredHasType S }
-    ensures checking { (S : _) → IsNumbered S → CheckedFits S }
+    ensures inference { (S : _) → IsSignature S → InferredHasType S }
+    ensures checking { (S : _) → IsSignature S → CheckedFits S }
 {
     // Proved by the structure of the term.
 }
 
 /// A command that the plain check accepts has a derivation over the commands before it.
 pub fn accepted_has_derivation()
-    ensures { (S : _) → IsNumbered S → HasNoAnnotations S → AcceptedHasDerivation S }
+    ensures { (S : _) → IsSignature S → AcceptedHasDerivation S }
 {
     // Proved for each command and budget.
 }
@@ -64,25 +62,18 @@ pub fn accepted_has_derivation()
 ///
 /// The types of its rule variables are those that its left side gives.
 pub fn typed_rule_has_derivation()
-    ensures { (S : _) → IsNumbered S → HasNoAnnotations S → TypedRuleHasDerivation S }
+    ensures { (S : _) → IsSignature S → TypedRuleHasDerivation S }
 {
     // Proved by the structure of the left side.
 }
 
-/// The signature of accepted commands meets the condition of the laws: it holds of the empty one, and stays.
-pub fn entries_are_numbered()
-    ensures empty { IsNumbered [] }
-    ensures more { (S : _) → EntriesAreNumbered S }
+/// The entries of accepted commands are a well-formed signature, which the other laws ask for: none are one, and they stay
+/// one with the entry of a further command.
+pub fn entries_form_signature()
+    ensures empty { IsSignature [] }
+    ensures more { (S : _) → StaysSignature S }
 {
-    // Proved by the shapes of the rules.
-}
-
-/// The signature of accepted commands has no annotations: the empty one has none, and it stays so.
-pub fn entries_are_plain()
-    ensures empty { HasNoAnnotations [] }
-    ensures more { (S : _) → EntriesArePlain S }
-{
-    // Proved by the types that terms have.
+    // Proved by the shapes of rules, and by the types that terms have.
 }
 
 /// `Kind` has no type, and an abstraction without annotation none of its own.

@@ -6,5 +6,5 @@ use Rattle.command_check.proofs.Verdicts.{derived}
 use Rattle.command_check.proofs.verdict.check_command.Goals as goal
 
 pub returns-in-Ok-clause-derivation : goal.returns-in-Ok-clause-derivation
-returns-in-Ok-clause-derivation g c = λ e h p.
-    derived (entries_of c.args.v.now) (plain_command c.args.c.now) c.args.budget c.accepted_has_derivation.ensures (ap verdict c.in-Ok.ensures.gives) h p
+returns-in-Ok-clause-derivation g c = λ e formed.
+    derived (entries_of c.args.v.now) (plain_command c.args.c.now) c.args.budget c.accepted_has_derivation.ensures (ap verdict c.in-Ok.ensures.gives) formed

@@ -2,7 +2,8 @@ use Rattle.std.proofs.Common.{◌≡◌, ◌≤◌, ◌+◌, ◌*◌, map, drop,
 use Rattle.dk_model.specs.Trees.{tree}
 use Rattle.dk_model.specs.Selection.{captures_of_row, guards_hold}
 use Rattle.dk_model.specs.Parts.{each_normal}
-use Rattle.dk_model.specs.Evaluation.{whnf_of, selection_of, comparison_of, normal_of}
+use Rattle.dk_model.specs.Evaluation.{whnf_of, comparison_of, normal_of}
+use Rattle.dk_model.specs.Equations.{selection_of}
 use Rattle.signature_log.specs.Versions.{entries_of}
 use Rattle.tree_evaluation.specs.Machine.{trees, wound}
 use Rattle.tree_evaluation.specs.Matrix.{plain_cell, column, row, captures_of}

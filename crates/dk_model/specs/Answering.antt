@@ -1,0 +1,17 @@
+-- What a call on a command asks for and may answer, beside the verdict that is due.
+use Rattle.std.specs.Prelude.{Bool, true, false, ◌≡◌, Some, None}
+use Rattle.dk_model.specs.PlainCommands.{PlainCommand, declare, rule_command}
+use Rattle.dk_model.specs.declared.code.Verdict.{Verdict}
+use Rattle.dk_model.specs.declared.code.Verdict.TheVariants.{Memory}
+
+-- whether the command is a definition without a declared type
+abbrev pub is_untyped : PlainCommand → Bool
+is_untyped (declare s None (Some b)) = true
+is_untyped (declare s None None) = false
+is_untyped (declare s (Some A) b) = false
+is_untyped (rule_command rs) = false
+
+-- the verdict that is due, or want of memory
+abbrev pub IsVerdictOrMemory : Verdict → Verdict → Type 0
+IsVerdictOrMemory due Memory = Unit {0}
+IsVerdictOrMemory due given = given ≡ due

@@ -1,0 +1,23 @@
+-- Trusted: scoped commands as plain data.
+use Rattle.std.specs.Prelude.{ℕ, Option, List}
+use Rattle.dk_model.specs.PlainTerms.{Tree}
+use Rattle.dk_model.specs.declared.signature.SymSort.{SymSort}
+
+pub data PlainLeft : Type 0 where
+  left_symbol : ℕ → PlainLeft
+  left_rule_variable : ℕ → PlainLeft
+  left_variable : ℕ → PlainLeft
+  left_wildcard : PlainLeft
+  left_guard : Tree → PlainLeft
+  left_abstraction : PlainLeft → PlainLeft
+  left_apply : PlainLeft → PlainLeft → PlainLeft
+
+pub record PlainScopedRule : Type 0 where
+  pub vars : ℕ
+  pub notes : List (Option Tree)
+  pub left : PlainLeft
+  pub right : Tree
+
+pub data PlainCommand : Type 0 where
+  declare : SymSort → Option Tree → Option Tree → PlainCommand
+  rule_command : List PlainScopedRule → PlainCommand
