@@ -1,0 +1,5 @@
+pub mod Ends
+pub mod Histories
+pub mod Jobs
+pub mod Memory
+pub mod Outcomes
