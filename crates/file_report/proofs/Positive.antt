@@ -11,7 +11,7 @@ use Rattle.dk_lexer.specs.Spelling.{Spelling, blank, token, run_and_dot, wrong, 
 use Rattle.dk_lexer.specs.Tokens.{Bound, Ending, Lexed, Setting, at_end, behind, begin_of, bound, broken, by_bound, command_after, dot_at, fault_at, gives, input_limit, late_bound, next_line as line_after, nothing_at, outcome, outcome_at, token_at, tokens, tokens_from, whole, within}
 use Rattle.dk_parser.specs.declared.terminal.Terminal.{Terminal}
 use Rattle.dk_parser.specs.declared.terminal.Terminal.TheVariants as terminal
-use Rattle.dk_parser.specs.Parsing.{Answer, Part, PartStep, Parsing, answered, command, commands_from, ends, goes, more, parsing_from, part_next, refused, refuses, started, turn, turn_by_fault, turn_by_step, turn_by_terminal, turn_refused}
+use Rattle.dk_parser.specs.Parsing.{Answer, CommandSoFar, Advance, Parsing, answered, command, commands_from, ends, goes, more, parsing_from, advanced, refused, refuses, started, turn, turn_by_fault, turn_by_step, turn_by_terminal, turn_refused}
 use Rattle.dk_parser.specs.Terminals.{terminal_of}
 use Rattle.dk_parser.specs.Written.{WrittenCommand}
 use Rattle.file_report.specs.Memory.{IsNextLine, next_line, reading_at}
@@ -101,20 +101,20 @@ record TurnHasLine (s : Parsing) (answer : Answer) : Type 0 where
   begun : BegunHasLine s.begun
   commands : CommandsHaveLines (answered answer)
 
-by_levels : (b : Bool) (s : Parsing) (line : ℕ) (part : Part) → 0 < line →
+by_levels : (b : Bool) (s : Parsing) (line : ℕ) (part : CommandSoFar) → 0 < line →
     TurnHasLine (if b then turn_refused s line E04 else record { state = record s { begun = Some line; part = part }; answer = more }).state
     (if b then turn_refused s line E04 else record { state = record s { begun = Some line; part = part }; answer = more }).answer
 by_levels true s line part some = record { begun = some; commands = tt }
 by_levels false s line part some = record { begun = some; commands = tt }
 
-by_step : (s : Parsing) (line : ℕ) (p : PartStep) → 0 < line → TurnHasLine (turn_by_step s line p).state (turn_by_step s line p).answer
+by_step : (s : Parsing) (line : ℕ) (p : Advance) → 0 < line → TurnHasLine (turn_by_step s line p).state (turn_by_step s line p).answer
 by_step s line (goes made part) some = by_levels (nat_lt s.limits.levels made) s line part some
 by_step s line (ends form) some = record { begun = tt; commands = (some, tt) }
 by_step s line refuses some = record { begun = some; commands = tt }
 
 by_terminal : (s : Parsing) (line : ℕ) (x : Terminal) → 0 < line → TurnHasLine (turn_by_terminal s line x).state (turn_by_terminal s line x).answer
 by_terminal s line terminal.Profile some = record { begun = some; commands = tt }
-by_terminal s line x some = by_step s line (part_next s.part x) some
+by_terminal s line x some = by_step s line (advanced s.part x) some
 
 by_fault : (f : Option Code) (s : Parsing) (t : Token) → BegunHasLine s.begun → 0 < t.line → TurnHasLine (turn_by_fault f s t).state (turn_by_fault f s t).answer
 by_fault (Some code) s t begun some = record { begun = begun; commands = tt }
