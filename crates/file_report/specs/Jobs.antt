@@ -2,7 +2,8 @@
 use Rattle.std.specs.Prelude.{◌≡◌, ℕ, Bool, List, [], ◌∷◌, map}
 use Rattle.dk_model.specs.Signatures.{PlainSignature}
 use Rattle.dk_model.specs.Scoping.{PlainCommand}
-use Rattle.dk_model.specs.Verdicts.{is_untyped, verdict_of}
+use Rattle.dk_model.specs.Answering.{is_untyped}
+use Rattle.dk_model.specs.Verdicts.{verdict_of}
 use Rattle.dk_model.specs.declared.code.Verdict.{Verdict}
 use Rattle.dk_parser.specs.Written.{WrittenCommand}
 use Rattle.scope_terms.specs.Scopes.{scoped, scope_of}
