@@ -6,3 +6,6 @@ pub mod Waiting
 pub mod Captures
 pub mod Others
 pub mod Places
+pub mod Parts
+pub mod Spelt
+pub mod Boxes

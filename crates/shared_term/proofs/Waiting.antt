@@ -7,14 +7,13 @@ use Rattle.shared_term.specs.declared.change.Change.TheVariants.{Shift, Substitu
 use Rattle.shared_term.specs.declared.change.Goal.{Goal}
 use Rattle.shared_term.specs.declared.change.Given.{Given}
 use Rattle.shared_term.specs.declared.change.Pair.{Pair}
-use Rattle.shared_term.specs.declared.change.Pair.TheVariants.{Application, Abstraction, Product}
 use Rattle.shared_term.specs.declared.change.Frame.{Frame}
 use Rattle.shared_term.specs.declared.change.Frame.TheVariants.{First, Second, Body}
 use Rattle.shared_term.specs.declared.change.State.{State}
 use Rattle.shared_term.specs.declared.change.State.TheVariants.{Down, Up}
 use Rattle.shared_term.specs.declared.entering.Step.TheVariants.{Answer, Instead, Inside, Parts}
-use Rattle.shared_term.specs.Pools.{Node, term, terms, denoted, IsWithin, Extends}
-use Rattle.shared_term.specs.Changes.{AreCaptures, IsKnown, IsAsked, wanted, joined, joined_node, under, part}
+use Rattle.shared_term.specs.Pools.{Node, term, Extends}
+use Rattle.shared_term.specs.Changes.{AreCaptures, IsKnown, IsAsked, wanted, joined, under, part}
 use Rattle.shared_term.specs.Walks.{goal_of, completed, HasParts, Waits, Wait, Stands, weight, captures_weight, more, frame_weight, frames_weight, IsStep, Turns}
 use Rattle.shared_term.proofs.Remembering.{asked_grown, wanted_grown}
 
@@ -96,16 +95,6 @@ module _ (ns : List Node) (g : Given) where
         stands = record { standing = (e.0, s.standing.1); waits = wait_push fs root _ _ (First goal pair y) s.waits refl v };
         fewer = omega (arith, weight_push fs (First goal pair y), e.3);
       }
-
-  pub joined_within : (pair : Pair) (x y : TermId) → x.0 < length ns → y.0 < length ns → IsWithin (length ns) (joined_node pair x y)
-  joined_within Application x y l k = (l, k)
-  joined_within Abstraction x y l k = (l, k)
-  joined_within Product x y l k = (l, k)
-
-  pub joined_denotes : (pair : Pair) (x y : TermId) → denoted (terms ns) (joined_node pair x y) ≡ joined pair (term ns x) (term ns y)
-  joined_denotes Application x y = refl
-  joined_denotes Abstraction x y = refl
-  joined_denotes Product x y = refl
 
 module _ (old new : List Node) (g : Given) (e : Extends old new) where
   completed_grown : (f : Frame) (y : Tree) → IsAsked (length old) g (goal_of old g f) → HasParts old g f → completed new g f y ≡ completed old g f y

@@ -5,14 +5,18 @@
 #![tactic(auto)]
 
 mod boxed;
+mod boxing;
+mod building;
 mod change;
 mod entering;
 mod id;
+mod listing;
 mod loading;
 mod memo;
 mod memos;
 mod nodes;
 mod pool;
+mod spelling;
 mod stored;
 mod storing;
 mod summary;

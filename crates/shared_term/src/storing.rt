@@ -4,7 +4,7 @@ ghost use Rattle.std.specs.Prelude.{◌≡◌, ◌+◌, ◌<◌, ◌≤◌, ℕ,
 ghost use Rattle.shared_term.specs.Pools.{term, IsWithin};
 ghost use Rattle.shared_term.specs.Storage.{stored_term, IsSpelt, IsNeeded, PartsNeeded, AreMarked, ArePlaced};
 
-use crate::boxed::pushed;
+use crate::listing::pushed;
 use crate::loading::renamed;
 use crate::{Node, Pool, Stored, TermId};
 use dk_model::{NoMemory, NodeOf};

@@ -225,6 +225,43 @@ fn captures_take_the_place_of_rule_variables(rt: HostRuntime) -> Result<(), Fail
     Ok(())
 }
 
+// Whether the renamed term is the one written out.
+fn renames(
+    pool: &mut Pool,
+    bound: u64,
+    arguments: &[u32],
+    from: &[NodeOf<usize>],
+    to: &[NodeOf<usize>],
+) -> Result<bool, NoMemory> {
+    let id = built(pool, from)?;
+    let made = pool.renamed(id, bound, arguments)?;
+    let expected = built(pool, to)?;
+    Ok(pool.same(made, expected))
+}
+
+#[test]
+fn renaming_gives_variables_by_the_arguments(rt: HostRuntime) -> Result<(), Fail> {
+    let mut pool = Pool::new(rt.alloc())?;
+    // `2 0 5` where the pattern binds 3 variables: of the arguments 0, 2 the last is 0 and the first
+    // 1, and what is bound further out stands behind two variables in place of three.
+    let from = [
+        NodeOf::Var(2),
+        NodeOf::Var(0),
+        NodeOf::App(0, 1),
+        NodeOf::Var(5),
+        NodeOf::App(2, 3),
+    ];
+    let to = [
+        NodeOf::Var(0),
+        NodeOf::Var(1),
+        NodeOf::App(0, 1),
+        NodeOf::Var(4),
+        NodeOf::App(2, 3),
+    ];
+    assert!(rt; renames(&mut pool, 3, &[0, 2], &from, &to)?);
+    Ok(())
+}
+
 // Whether the capture of the part is the one written out.
 fn captures(
     pool: &mut Pool,
@@ -332,6 +369,10 @@ fn a_stored_term_has_each_node_once(rt: HostRuntime) -> Result<(), Fail> {
         NodeOf::Prod(4, 2),
     ];
     assert_eq!(rt; carried(&mut pool, &mut other, &from)?, (true, 4));
+    assert_eq!(rt;
+        carried(&mut pool, &mut other, &[NodeOf::Sym(0), NodeOf::App(0, 0)])?,
+        (true, 2)
+    );
     Ok(())
 }
 

@@ -25,7 +25,8 @@ fn under(pair: Pair, depth: u64) -> Result<u64, NoMemory>
     }
 }
 
-fn joined(pair: Pair, first: TermId, second: TermId) -> Node
+/// The node of two parts.
+pub(crate) fn joined(pair: Pair, first: TermId, second: TermId) -> Node
     ensures { result ≡ joined_node pair first second }
 {
     match pair {

@@ -4,7 +4,7 @@ use Rattle.dk_model.specs.Trees.{star}
 use Rattle.shared_term.specs.Pools.{terms}
 use Rattle.shared_term.proofs.Growth.{extends-push, last_term}
 use Rattle.shared_term.proofs.Places.{spelt-push}
-use Rattle.shared_term.proofs.boxed.pushed.Goals as goal
+use Rattle.shared_term.proofs.listing.pushed.Goals as goal
 
 pub returns-clause-is : goal.returns-clause-is
 returns-clause-is c =
