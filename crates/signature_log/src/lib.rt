@@ -4,6 +4,7 @@
 #![tactic(auto)]
 
 mod blocks;
+mod boxing;
 mod branch;
 mod cells;
 mod fork;

@@ -2,11 +2,13 @@
 ghost use Rattle.std.specs.Prelude.{◌≡◌, ℕ, [], ◌∷◌, ◌++◌, ◌+◌, ◌≤◌, length, slice_get, map, Err, IfOk, ◌↔◌};
 ghost use Rattle.std.specs.Option.{option_copied, option_map};
 ghost use Rattle.std.specs.Arc.{arc_value};
+ghost use Rattle.dk_model.specs.Signatures.{plain_signature};
 ghost use Rattle.dk_model.specs.SymbolRules.{rules_of, body_rule};
 ghost use Rattle.signature_log.specs.Versions.{stored_entry, entries_of};
 ghost use Rattle.signature_log.specs.Rows.{row_rules, body_rows};
 
 use crate::blocks::{Blocks, Share};
+use crate::boxing::box_entry;
 use crate::branch::Branch;
 use crate::fork::Fork;
 use crate::held::Held;
@@ -14,7 +16,7 @@ use crate::leaf::Leaf;
 use crate::slots::Slots;
 use crate::table::{RuleTable, with_entry};
 use crate::{Grow, Rows, Steps};
-use dk_model::{Entry, NoMemory};
+use dk_model::{Entry, Listed, NoMemory, Signature};
 use shared_term::Stored;
 use std::alloc::Global;
 use std::marker::{Brand, Model};
@@ -154,6 +156,20 @@ impl Version {
             entries: self.entries.share()?,
             rules: self.rules.share()?,
         })
+    }
+
+    /// The same entries over boxed terms, in memory of their own.
+    pub fn plain(&self) -> Result<Signature, NoMemory>
+        ensures { IfOk result (λ s. plain_signature s ≡ entries_of self.now) }
+    {
+        let mut entries = Listed::new(self.alloc);
+        for at in 0..self.len() {
+            match self.get(at) {
+                Some(entry) => entries.push(box_entry(self.alloc, entry)?)?,
+                None => unreachable!(),
+            }
+        }
+        Ok(Signature { entries })
     }
 
     /// The rules of a symbol: its body, then its declared rules in file order. Takes no memory.
