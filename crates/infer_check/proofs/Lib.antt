@@ -1,4 +1,5 @@
 pub mod Contexts
+pub mod Formed
 pub mod Judging
 pub mod Moving
 pub mod Spines

@@ -1,4 +1,5 @@
 pub mod Contexts
 pub mod Given
+pub mod Formed
 pub mod Spine
 pub mod Clauses

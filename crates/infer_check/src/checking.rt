@@ -7,7 +7,7 @@ ghost use Rattle.infer_check.specs.Contexts.{OwnsContext};
 ghost use Rattle.infer_check.specs.Clauses.{Checks};
 
 use crate::Context;
-use crate::expect::{as_product, as_same};
+use crate::expect::{as_same, into_product};
 use crate::inference::{infer_domain, infer_node};
 use dk_model::{Code, NodeOf, TypeFault};
 use signature_log::{Reducer, Version};
@@ -35,6 +35,7 @@ pub fn check<R: Reducer>(
     ensures kept { context.new ≡ context.old }
 {
     let term = r.copy(t)?;
+    let expected = r.copy(expected)?;
     check_taken(r, v, context, term, expected, left)
 }
 
@@ -52,15 +53,15 @@ pub(crate) fn check_taken<R: Reducer>(
     v: &Version,
     context: &mut Context<R::T>,
     term: R::T,
-    expected: &R::T,
+    expected: R::T,
     left: &mut u64,
 ) -> Result<(), TypeFault>
     requires term { R.owns r.old term }
-    requires expected { R.owns r.old expected.now }
+    requires expected { R.owns r.old expected }
     requires context { OwnsContext R.owns r.old context.old }
     requires serves { R.serves (entries_of v.now) r.old }
     ensures gives { Checks R.owns R.denotes (entries_of v.now) r.old context.old
-        (R.denotes r.old term) (R.denotes r.old expected.now) left.old result left.new }
+        (R.denotes r.old term) (R.denotes r.old expected) left.old result left.new }
     ensures keeps { Keeps R.owns R.denotes r.old r.new }
     ensures serves { R.serves (entries_of v.now) r.new }
     ensures kept { context.new ≡ context.old }
@@ -72,7 +73,7 @@ pub(crate) fn check_taken<R: Reducer>(
         },
         other => {
             let found = infer_node(r, v, context, other, left)?;
-            as_same(r, v, &found, expected, left)
+            as_same(r, v, &found, &expected, left)
         }
     }
 }
@@ -91,22 +92,22 @@ fn check_bare<R: Reducer>(
     v: &Version,
     context: &mut Context<R::T>,
     body: R::T,
-    expected: &R::T,
+    expected: R::T,
     left: &mut u64,
 ) -> Result<(), TypeFault>
     requires body { R.owns r.old body }
-    requires expected { R.owns r.old expected.now }
+    requires expected { R.owns r.old expected }
     requires context { OwnsContext R.owns r.old context.old }
     requires serves { R.serves (entries_of v.now) r.old }
     ensures gives { Checks R.owns R.denotes (entries_of v.now) r.old context.old
-        (bare (R.denotes r.old body)) (R.denotes r.old expected.now) left.old result left.new }
+        (bare (R.denotes r.old body)) (R.denotes r.old expected) left.old result left.new }
     ensures keeps { Keeps R.owns R.denotes r.old r.new }
     ensures serves { R.serves (entries_of v.now) r.new }
     ensures kept { context.new ≡ context.old }
 {
-    let function = as_product(r, v, Code::E24, expected, left)?;
+    let function = into_product(r, v, Code::E24, expected, left)?;
     context.bind(function.domain)?;
-    let fits = check_taken(r, v, context, body, &function.codomain, left);
+    let fits = check_taken(r, v, context, body, function.codomain, left);
     let _domain = context.leave();
     fits
 }
@@ -126,27 +127,27 @@ fn check_annotated<R: Reducer>(
     context: &mut Context<R::T>,
     annotation: R::T,
     body: R::T,
-    expected: &R::T,
+    expected: R::T,
     left: &mut u64,
 ) -> Result<(), TypeFault>
     requires annotation { R.owns r.old annotation }
     requires body { R.owns r.old body }
-    requires expected { R.owns r.old expected.now }
+    requires expected { R.owns r.old expected }
     requires context { OwnsContext R.owns r.old context.old }
     requires serves { R.serves (entries_of v.now) r.old }
     ensures gives { Checks R.owns R.denotes (entries_of v.now) r.old context.old
         (annotated (R.denotes r.old annotation) (R.denotes r.old body))
-        (R.denotes r.old expected.now) left.old result left.new }
+        (R.denotes r.old expected) left.old result left.new }
     ensures keeps { Keeps R.owns R.denotes r.old r.new }
     ensures serves { R.serves (entries_of v.now) r.new }
     ensures kept { context.new ≡ context.old }
 {
-    let function = as_product(r, v, Code::E24, expected, left)?;
+    let function = into_product(r, v, Code::E24, expected, left)?;
     let erased = r.erase(&annotation)?;
     infer_domain(r, v, context, annotation, left)?;
     as_same(r, v, &erased, &function.domain, left)?;
     context.bind(function.domain)?;
-    let fits = check_taken(r, v, context, body, &function.codomain, left);
+    let fits = check_taken(r, v, context, body, function.codomain, left);
     let _domain = context.leave();
     fits
 }

@@ -4,14 +4,15 @@ ghost use Rattle.dk_model.specs.Signatures.{PlainSignature};
 ghost use Rattle.dk_model.specs.Typing.{as_product, as_sort, as_star, as_same, not_kind};
 ghost use Rattle.signature_log.specs.Versions.{entries_of};
 ghost use Rattle.signature_log.specs.Reducers.{Keeps};
-ghost use Rattle.infer_check.specs.Given.{GivesProduct, GivesType, GivesFit};
+ghost use Rattle.infer_check.specs.Given.{GivesProduct, GivesType, GivesFit, compared};
 
+use crate::head::head_form;
 use crate::product::Product;
 use dk_model::{Code, NodeOf, TypeFault};
 use signature_log::{Reducer, Version};
 
 /// The parts of a type that must be a product; else this code.
-#[tactic(auto)]
+#[tactic(auto, using(signature_log::proofs::Keeping::keeps_further))]
 pub fn as_product<R: Reducer>(
     r: &mut R,
     v: &Version,
@@ -26,8 +27,26 @@ pub fn as_product<R: Reducer>(
     ensures keeps { Keeps R.owns R.denotes r.old r.new }
     ensures serves { R.serves (entries_of v.now) r.new }
 {
-    let found = r.whnf(v, typ, left)?;
-    match r.open(found)? {
+    let typ = r.copy(typ)?;
+    into_product(r, v, code, typ, left)
+}
+
+/// The same of a type that isn't needed any more.
+pub fn into_product<R: Reducer>(
+    r: &mut R,
+    v: &Version,
+    code: Code,
+    typ: R::T,
+    left: &mut u64,
+) -> Result<Product<R::T>, TypeFault>
+    requires own { R.owns r.old typ }
+    requires serves { R.serves (entries_of v.now) r.old }
+    ensures gives { GivesProduct R.owns R.denotes
+        (as_product (entries_of v.now) code (R.denotes r.old typ) left.old) r.new result left.new }
+    ensures keeps { Keeps R.owns R.denotes r.old r.new }
+    ensures serves { R.serves (entries_of v.now) r.new }
+{
+    match head_form(r, v, typ, left)? {
         NodeOf::Prod(domain, codomain) => Ok(Product { domain, codomain }),
         _ => Err(TypeFault::Refused(code)),
     }
@@ -37,18 +56,17 @@ pub fn as_product<R: Reducer>(
 pub fn as_sort<R: Reducer>(
     r: &mut R,
     v: &Version,
-    typ: &R::T,
+    typ: R::T,
     left: &mut u64,
 ) -> Result<R::T, TypeFault>
-    requires own { R.owns r.old typ.now }
+    requires own { R.owns r.old typ }
     requires serves { R.serves (entries_of v.now) r.old }
     ensures gives { GivesType R.owns R.denotes
-        (as_sort (entries_of v.now) (R.denotes r.old typ.now) left.old) r.new result left.new }
+        (as_sort (entries_of v.now) (R.denotes r.old typ) left.old) r.new result left.new }
     ensures keeps { Keeps R.owns R.denotes r.old r.new }
     ensures serves { R.serves (entries_of v.now) r.new }
 {
-    let found = r.whnf(v, typ, left)?;
-    match r.open(found)? {
+    match head_form(r, v, typ, left)? {
         NodeOf::Star => Ok(r.build(NodeOf::Star)?),
         NodeOf::Kind => Ok(r.build(NodeOf::Kind)?),
         _ => Err(TypeFault::Refused(Code::E22)),
@@ -59,24 +77,48 @@ pub fn as_sort<R: Reducer>(
 pub fn as_star<R: Reducer>(
     r: &mut R,
     v: &Version,
-    typ: &R::T,
+    typ: R::T,
     left: &mut u64,
 ) -> Result<(), TypeFault>
-    requires own { R.owns r.old typ.now }
+    requires own { R.owns r.old typ }
     requires serves { R.serves (entries_of v.now) r.old }
     ensures gives { GivesFit
-        (as_star (entries_of v.now) (R.denotes r.old typ.now) left.old) result left.new }
+        (as_star (entries_of v.now) (R.denotes r.old typ) left.old) result left.new }
     ensures keeps { Keeps R.owns R.denotes r.old r.new }
     ensures serves { R.serves (entries_of v.now) r.new }
 {
-    let found = r.whnf(v, typ, left)?;
-    match r.open(found)? {
+    match head_form(r, v, typ, left)? {
         NodeOf::Star => Ok(()),
         _ => Err(TypeFault::Refused(Code::E22)),
     }
 }
 
-/// A type that must be convertible with another.
+/// A type that must be convertible with another; else this code.
+pub fn expect_same<R: Reducer>(
+    r: &mut R,
+    v: &Version,
+    code: Code,
+    found: &R::T,
+    expected: &R::T,
+    left: &mut u64,
+) -> Result<(), TypeFault>
+    requires own { R.owns r.old found.now }
+    requires other { R.owns r.old expected.now }
+    requires serves { R.serves (entries_of v.now) r.old }
+    ensures gives { GivesFit (compared (entries_of v.now) code
+        (R.denotes r.old found.now) (R.denotes r.old expected.now) left.old) result left.new }
+    ensures keeps { Keeps R.owns R.denotes r.old r.new }
+    ensures serves { R.serves (entries_of v.now) r.new }
+{
+    if r.same(v, found, expected, left)? {
+        Ok(())
+    } else {
+        Err(TypeFault::Refused(code))
+    }
+}
+
+/// The type of a term, which must be convertible with the one that is expected (E21).
+#[tactic(auto, using(crate::proofs::Judging::same_is, crate::proofs::Moving::fit_is))]
 pub fn as_same<R: Reducer>(
     r: &mut R,
     v: &Version,
@@ -92,11 +134,7 @@ pub fn as_same<R: Reducer>(
     ensures keeps { Keeps R.owns R.denotes r.old r.new }
     ensures serves { R.serves (entries_of v.now) r.new }
 {
-    if r.same(v, found, expected, left)? {
-        Ok(())
-    } else {
-        Err(TypeFault::Refused(Code::E21))
-    }
+    expect_same(r, v, Code::E21, found, expected, left)
 }
 
 /// The type of a body, which must not be `Kind`. Takes no unit.

@@ -12,7 +12,7 @@ ghost use Rattle.infer_check.specs.Clauses.{Infers, GivesSort, FitsDomain, Appli
 
 use crate::Context;
 use crate::checking::check_taken;
-use crate::expect::{as_product, as_sort, as_star, not_kind};
+use crate::expect::{as_sort, as_star, into_product, not_kind};
 use crate::spine::unwind;
 use crate::variables::{rule_variable_type, symbol_type, variable_type};
 use dk_model::{Code, NodeOf, TypeFault};
@@ -61,7 +61,7 @@ pub fn sort_of<R: Reducer>(
     ensures kept { context.new ≡ context.old }
 {
     let found = infer(r, v, context, t, left)?;
-    as_sort(r, v, &found, left)
+    as_sort(r, v, found, left)
 }
 
 /// The type of a term.
@@ -218,7 +218,7 @@ fn infer_product<R: Reducer>(
     context.bind(erased)?;
     let found = infer_taken(r, v, context, codomain, left);
     let _domain = context.leave();
-    as_sort(r, v, &found?, left)
+    as_sort(r, v, found?, left)
 }
 
 /// That a domain has the type `Type`.
@@ -247,7 +247,7 @@ pub(crate) fn infer_domain<R: Reducer>(
     ensures kept { context.new ≡ context.old }
 {
     let found = infer_taken(r, v, context, domain, left)?;
-    as_star(r, v, &found, left)
+    as_star(r, v, found, left)
 }
 
 /// The type of a function's application.
@@ -277,8 +277,8 @@ fn apply<R: Reducer>(
     ensures serves { R.serves (entries_of v.now) r.new }
     ensures kept { context.new ≡ context.old }
 {
-    let function = as_product(r, v, Code::E20, &typ, left)?;
+    let function = into_product(r, v, Code::E20, typ, left)?;
     let found = r.put_erased_in(&function.codomain, &argument)?;
-    check_taken(r, v, context, argument, &function.domain, left)?;
+    check_taken(r, v, context, argument, function.domain, left)?;
     Ok(found)
 }

@@ -6,6 +6,7 @@
 mod checking;
 mod context;
 mod expect;
+mod head;
 mod inference;
 mod product;
 mod spine;
@@ -13,7 +14,7 @@ mod variables;
 
 pub use checking::check;
 pub use context::Context;
-pub use expect::{as_product, not_kind};
+pub use expect::{as_product, expect_same, into_product, not_kind};
 pub use inference::{infer, sort_of};
 pub use product::Product;
 pub use variables::{symbol_type, variable_type};

@@ -14,7 +14,7 @@ ghost use Rattle.rule_check.specs.Clauses.{Binds, GivesFirst, GivesStep, GivesLa
 
 use crate::compare::{as_convertible, bound_type};
 use dk_model::{Code, Listed, NoMemory, NodeOf, TypeFault};
-use infer_check::{Context, as_product, variable_type};
+use infer_check::{Context, into_product, variable_type};
 use signature_log::{Reducer, Version};
 use std::alloc::Global;
 
@@ -148,7 +148,7 @@ fn applied_type<R: Reducer>(
     ensures keeps { Keeps R.owns R.denotes r.old r.new }
     ensures serves { R.serves (entries_of v.now) r.new }
 {
-    let function = as_product(r, v, Code::E34, &typ, left)?;
+    let function = into_product(r, v, Code::E34, typ, left)?;
     fit_variable(r, v, context, variable, &function.domain, left)?;
     Ok(put_variable(r, &function.codomain, variable)?)
 }

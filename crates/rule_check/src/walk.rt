@@ -17,7 +17,7 @@ use crate::found::{Found, Headed};
 use crate::guards::{guard_at, guard_term};
 use crate::variables::{walk_variable, walk_wildcard};
 use dk_model::{Code, NoMemory, NodeOf, Pat, Term, TypeFault};
-use infer_check::{Context, as_product, symbol_type, variable_type};
+use infer_check::{Context, as_product, into_product, symbol_type, variable_type};
 use signature_log::{Reducer, Version};
 
 /// A symbol as a head.
@@ -273,7 +273,7 @@ fn walk_argument<R: Reducer>(
     ensures kept { context.new ≡ context.old }
 {
     let Headed { term, typ } = head;
-    let function = as_product(r, v, Code::E34, &typ, left)?;
+    let function = into_product(r, v, Code::E34, typ, left)?;
     let argument = walk(r, v, context, argument, &function.domain, found, left)?;
     Ok(apply(r, term, argument, &function.codomain)?)
 }

@@ -19,7 +19,7 @@ use Rattle.infer_check.proofs.+typing.Goals as goal
 
 pub checking::check_annotated-infer_domain-requires : goal.checking::check_annotated-infer_domain-requires
 checking::check_annotated-infer_domain-requires g t c =
-    let k = keeps_further c.args.r.now c.as_product.new.r c.erase.new.self c.in_ok-function.ensures.keeps c.in_ok-erased.ensures.keeps in
+    let k = keeps_further c.args.r.now c.into_product.new.r c.erase.new.self c.in_ok-function.ensures.keeps c.in_ok-erased.ensures.keeps in
     let e = same_size c.args.r.now c.erase.new.self k c.args.annotation c.requires.annotation in
     let o = k.own c.args.annotation c.requires.annotation in
     let h = context_moved c.args.r.now c.erase.new.self k c.args.context.now c.args.context.now c.requires.context refl in
@@ -27,13 +27,13 @@ checking::check_annotated-infer_domain-requires g t c =
 
 pub checking::check_annotated-returns-in_err-infer_domain-clause-gives : goal.checking::check_annotated-returns-in_err-infer_domain-clause-gives
 checking::check_annotated-returns-in_err-infer_domain-clause-gives g t c =
-    let k = keeps_further c.args.r.now c.as_product.new.r c.erase.new.self c.in_ok-function.ensures.keeps c.in_ok-erased.ensures.keeps in
+    let k = keeps_further c.args.r.now c.into_product.new.r c.erase.new.self c.in_ok-function.ensures.keeps c.in_ok-erased.ensures.keeps in
     let S = entries_of c.args.v.now in
     let D = g.R.Reducer.denotes in
     let p = annotated_domain_fails S (rule_types D c.args.r.now c.args.context.now) (bound_types D c.args.r.now c.args.context.now) c.in_err-infer_domain.field-0.0
-    (D c.args.r.now c.args.annotation) (D c.args.r.now c.args.body) (D c.args.r.now c.args.expected.now) (D c.as_product.new.r c.in_ok-function.function.domain)
-    (D c.as_product.new.r c.in_ok-function.function.codomain) c.args.left.now c.as_product.new.left c.in_ok-function.ensures.gives.0
-    (fails_is c.in_err-infer_domain.field-0.0 _ _ (flip (domain_same S c.as_product.new.left (rule_types_moved c.args.r.now c.erase.new.self k c.args.context.now c.args.context.now c.requires.context refl)
+    (D c.args.r.now c.args.annotation) (D c.args.r.now c.args.body) (D c.args.r.now c.args.expected) (D c.into_product.new.r c.in_ok-function.function.domain)
+    (D c.into_product.new.r c.in_ok-function.function.codomain) c.args.left.now c.into_product.new.left c.in_ok-function.ensures.gives.0
+    (fails_is c.in_err-infer_domain.field-0.0 _ _ (flip (domain_same S c.into_product.new.left (rule_types_moved c.args.r.now c.erase.new.self k c.args.context.now c.args.context.now c.requires.context refl)
     (bound_types_moved c.args.r.now c.erase.new.self k c.args.context.now c.args.context.now c.requires.context refl) (k.same c.args.annotation c.requires.annotation))) c.in_err-infer_domain.ensures.gives) in
     search rules
 
@@ -45,19 +45,19 @@ checking::check_annotated-returns-in_err-as_same-clause-gives g t c =
     let x = c.args.context.now in
     let V = rule_types D r x in
     let G = bound_types D r x in
-    let q = c.as_product.new.r in
+    let q = c.into_product.new.r in
     let e = c.erase.new.self in
     let fn = c.in_ok-function.function in
     let kp = c.in_ok-function.ensures.keeps in
     let ke = keeps_further r q e kp c.in_ok-erased.ensures.keeps in
     let i = c.infer_domain.new.r in
     let kqi = keeps_further q e i c.in_ok-erased.ensures.keeps c.in_ok-infer_domain.ensures.keeps in
-    let fits = flip (domain_same S c.as_product.new.left (rule_types_moved r e ke x x c.requires.context refl) (bound_types_moved r e ke x x c.requires.context refl)
+    let fits = flip (domain_same S c.into_product.new.left (rule_types_moved r e ke x x c.requires.context refl) (bound_types_moved r e ke x x c.requires.context refl)
     (ke.same c.args.annotation c.requires.annotation)) ∙ c.in_ok-infer_domain.ensures.gives in
     let alike = same_same S c.infer_domain.new.left (flip (c.in_ok-infer_domain.ensures.keeps.same c.in_ok-erased.erased c.in_ok-erased.ensures.makes.1 ∙ c.in_ok-erased.ensures.makes.0
     ∙ ap erased (kp.same c.args.annotation c.requires.annotation))) (flip (kqi.same fn.domain c.in_ok-function.ensures.gives.1)) in
-    let p = annotated_same_fails S V G c.in_err-as_same.field-0.0 (D r c.args.annotation) (D r c.args.body) (D r c.args.expected.now) (D q fn.domain) (D q fn.codomain)
-    c.args.left.now c.as_product.new.left c.infer_domain.new.left c.in_ok-function.ensures.gives.0 fits (fails_is c.in_err-as_same.field-0.0 _ _ alike c.in_err-as_same.ensures.gives) in
+    let p = annotated_same_fails S V G c.in_err-as_same.field-0.0 (D r c.args.annotation) (D r c.args.body) (D r c.args.expected) (D q fn.domain) (D q fn.codomain)
+    c.args.left.now c.into_product.new.left c.infer_domain.new.left c.in_ok-function.ensures.gives.0 fits (fails_is c.in_err-as_same.field-0.0 _ _ alike c.in_err-as_same.ensures.gives) in
     search rules
 
 pub checking::check_annotated-check_taken-fits-requires : goal.checking::check_annotated-check_taken-fits-requires
@@ -68,14 +68,14 @@ checking::check_annotated-check_taken-fits-requires g t c =
     let x = c.args.context.now in
     let V = rule_types D r x in
     let G = bound_types D r x in
-    let q = c.as_product.new.r in
+    let q = c.into_product.new.r in
     let e = c.erase.new.self in
     let fn = c.in_ok-function.function in
     let kp = c.in_ok-function.ensures.keeps in
     let ke = keeps_further r q e kp c.in_ok-erased.ensures.keeps in
     let i = c.infer_domain.new.r in
     let kqi = keeps_further q e i c.in_ok-erased.ensures.keeps c.in_ok-infer_domain.ensures.keeps in
-    let fits = flip (domain_same S c.as_product.new.left (rule_types_moved r e ke x x c.requires.context refl) (bound_types_moved r e ke x x c.requires.context refl)
+    let fits = flip (domain_same S c.into_product.new.left (rule_types_moved r e ke x x c.requires.context refl) (bound_types_moved r e ke x x c.requires.context refl)
     (ke.same c.args.annotation c.requires.annotation)) ∙ c.in_ok-infer_domain.ensures.gives in
     let alike = same_same S c.infer_domain.new.left (flip (c.in_ok-infer_domain.ensures.keeps.same c.in_ok-erased.erased c.in_ok-erased.ensures.makes.1 ∙ c.in_ok-erased.ensures.makes.0
     ∙ ap erased (kp.same c.args.annotation c.requires.annotation))) (flip (kqi.same fn.domain c.in_ok-function.ensures.gives.1)) in
@@ -98,14 +98,14 @@ checking::check_annotated-returns-clause-gives g t c =
     let x = c.args.context.now in
     let V = rule_types D r x in
     let G = bound_types D r x in
-    let q = c.as_product.new.r in
+    let q = c.into_product.new.r in
     let e = c.erase.new.self in
     let fn = c.in_ok-function.function in
     let kp = c.in_ok-function.ensures.keeps in
     let ke = keeps_further r q e kp c.in_ok-erased.ensures.keeps in
     let i = c.infer_domain.new.r in
     let kqi = keeps_further q e i c.in_ok-erased.ensures.keeps c.in_ok-infer_domain.ensures.keeps in
-    let fits = flip (domain_same S c.as_product.new.left (rule_types_moved r e ke x x c.requires.context refl) (bound_types_moved r e ke x x c.requires.context refl)
+    let fits = flip (domain_same S c.into_product.new.left (rule_types_moved r e ke x x c.requires.context refl) (bound_types_moved r e ke x x c.requires.context refl)
     (ke.same c.args.annotation c.requires.annotation)) ∙ c.in_ok-infer_domain.ensures.gives in
     let alike = same_same S c.infer_domain.new.left (flip (c.in_ok-infer_domain.ensures.keeps.same c.in_ok-erased.erased c.in_ok-erased.ensures.makes.1 ∙ c.in_ok-erased.ensures.makes.0
     ∙ ap erased (kp.same c.args.annotation c.requires.annotation))) (flip (kqi.same fn.domain c.in_ok-function.ensures.gives.1)) in
@@ -115,8 +115,8 @@ checking::check_annotated-returns-clause-gives g t c =
     let b = c.bind.new.self in
     let bound = c.in_ok-bind.ensures.ok ∙ ap (λ y. with_bound y fn.domain) c.in_ok-infer_domain.ensures.kept in
     fit_is c.check_taken-fits.result c.check_taken-fits.new.left
-    (annotated_body S V G (D r c.args.annotation) (D r c.args.body) (D r c.args.expected.now) (D q fn.domain) (D q fn.codomain)
-    c.args.left.now c.as_product.new.left c.infer_domain.new.left c.as_same.new.left c.in_ok-function.ensures.gives.0 fits (alike ∙ c.in_ok-as_same.ensures.gives)
+    (annotated_body S V G (D r c.args.annotation) (D r c.args.body) (D r c.args.expected) (D q fn.domain) (D q fn.codomain)
+    c.args.left.now c.into_product.new.left c.infer_domain.new.left c.as_same.new.left c.in_ok-function.ensures.gives.0 fits (alike ∙ c.in_ok-as_same.ensures.gives)
     ∙ flip (checked_same S c.as_same.new.left (rule_types_under r a ka x b c.requires.context fn.domain bound)
     (bound_types_under r a ka x b c.requires.context fn.domain bound ∙ ap (λ y. y ∷ G) (kqa.same fn.domain c.in_ok-function.ensures.gives.1))
     (ka.same c.args.body c.requires.body) (kqa.same fn.codomain c.in_ok-function.ensures.gives.2)))
@@ -130,7 +130,7 @@ checking::check_bare-check_taken-fits-requires g t c =
     let x = c.args.context.now in
     let V = rule_types D r x in
     let G = bound_types D r x in
-    let q = c.as_product.new.r in
+    let q = c.into_product.new.r in
     let fn = c.in_ok-function.function in
     let k = c.in_ok-function.ensures.keeps in
     let b = c.bind.new.self in
@@ -147,13 +147,13 @@ checking::check_bare-returns-clause-gives g t c =
     let x = c.args.context.now in
     let V = rule_types D r x in
     let G = bound_types D r x in
-    let q = c.as_product.new.r in
+    let q = c.into_product.new.r in
     let fn = c.in_ok-function.function in
     let k = c.in_ok-function.ensures.keeps in
     let b = c.bind.new.self in
     fit_is c.check_taken-fits.result c.check_taken-fits.new.left
-    (bare_body S V G (D r c.args.body) (D r c.args.expected.now) (D q fn.domain) (D q fn.codomain) c.args.left.now c.as_product.new.left c.in_ok-function.ensures.gives.0
-    ∙ flip (checked_same S c.as_product.new.left (rule_types_under r q k x b c.requires.context fn.domain c.in_ok-bind.ensures.ok)
+    (bare_body S V G (D r c.args.body) (D r c.args.expected) (D q fn.domain) (D q fn.codomain) c.args.left.now c.into_product.new.left c.in_ok-function.ensures.gives.0
+    ∙ flip (checked_same S c.into_product.new.left (rule_types_under r q k x b c.requires.context fn.domain c.in_ok-bind.ensures.ok)
     (bound_types_under r q k x b c.requires.context fn.domain c.in_ok-bind.ensures.ok) (k.same c.args.body c.requires.body) refl))
     c.check_taken-fits.ensures.gives
 
@@ -170,7 +170,7 @@ checking::check_taken-check_bare-requires g t c =
     let node = c.in_ok-other.ensures.node in
     let s = ap size (opened_bare g.R.Reducer.owns D o c.in_ok-other.other c.in-Abs.annotation c.in-Abs.b (D r c.args.term) c.in-Abs.is c.in-None.is node.0) in
     let p = owned_bare g.R.Reducer.owns D o c.in_ok-other.other c.in-Abs.annotation c.in-Abs.b c.in-Abs.is c.in-None.is node.1 in
-    let w = k.own c.args.expected.now c.requires.expected in
+    let w = k.own c.args.expected c.requires.expected in
     let h = context_moved r o k x x c.requires.context refl in
     search rules
 
@@ -187,7 +187,7 @@ checking::check_taken-check_annotated-requires g t c =
     let node = c.in_ok-other.ensures.node in
     let s = ap size (opened_annotated g.R.Reducer.owns D o c.in_ok-other.other c.in-Abs.annotation c.in-Abs.b c.in-Some.d (D r c.args.term) c.in-Abs.is c.in-Some.is node.0) in
     let p = owned_annotated g.R.Reducer.owns D o c.in_ok-other.other c.in-Abs.annotation c.in-Abs.b c.in-Some.d c.in-Abs.is c.in-Some.is node.1 in
-    let w = k.own c.args.expected.now c.requires.expected in
+    let w = k.own c.args.expected c.requires.expected in
     let h = context_moved r o k x x c.requires.context refl in
     search rules
 
@@ -219,7 +219,7 @@ checking::check_taken-returns-in_err-found-in_default g t c =
     let node = c.in_ok-other.ensures.node in
     let err = c.in_err-found-in_default.ensures in
     let a = ap is_abstraction node.0 ∙ not_abstraction D o c.in_ok-other.other c.in_default.not-Abs in
-    let p = check_infer_fails S V G c.in_err-found-in_default.field-0.0 (D r c.args.term) (D r c.args.expected.now) c.args.left.now a
+    let p = check_infer_fails S V G c.in_err-found-in_default.field-0.0 (D r c.args.term) (D r c.args.expected) c.args.left.now a
     (fails_is c.in_err-found-in_default.field-0.0 _ _ (flip (inferred_same S c.args.left.now (rule_types_moved r o k x x c.requires.context refl)
     (bound_types_moved r o k x x c.requires.context refl) (flip node.0))) err.gives) in
     record { gives = search rules; keeps = keeps_further r o c.infer_node.new.r k err.keeps; serves = err.serves; kept = err.kept }
@@ -238,7 +238,7 @@ checking::check_taken-returns-in-None-clause-gives g t c =
     fit_is c.check_bare.result c.check_bare.new.left
     (flip (checked_same S c.args.left.now (rule_types_moved r o k x x c.requires.context refl) (bound_types_moved r o k x x c.requires.context refl)
     (flip (opened_bare g.R.Reducer.owns D o c.in_ok-other.other c.in-Abs.annotation c.in-Abs.b (D r c.args.term) c.in-Abs.is c.in-None.is node.0))
-    (k.same c.args.expected.now c.requires.expected)))
+    (k.same c.args.expected c.requires.expected)))
     c.check_bare.ensures.gives
 
 pub checking::check_taken-returns-in-Some-clause-gives : goal.checking::check_taken-returns-in-Some-clause-gives
@@ -255,7 +255,7 @@ checking::check_taken-returns-in-Some-clause-gives g t c =
     fit_is c.check_annotated.result c.check_annotated.new.left
     (flip (checked_same S c.args.left.now (rule_types_moved r o k x x c.requires.context refl) (bound_types_moved r o k x x c.requires.context refl)
     (flip (opened_annotated g.R.Reducer.owns D o c.in_ok-other.other c.in-Abs.annotation c.in-Abs.b c.in-Some.d (D r c.args.term) c.in-Abs.is c.in-Some.is node.0))
-    (k.same c.args.expected.now c.requires.expected)))
+    (k.same c.args.expected c.requires.expected)))
     c.check_annotated.ensures.gives
 
 pub inference::apply-check_taken-requires : goal.inference::apply-check_taken-requires
@@ -266,7 +266,7 @@ inference::apply-check_taken-requires g t c =
     let x = c.args.context.now in
     let V = rule_types D r x in
     let G = bound_types D r x in
-    let q = c.as_product.new.r in
+    let q = c.into_product.new.r in
     let p = c.put_erased_in.new.self in
     let fn = c.in_ok-function.function in
     let kq = c.in_ok-function.ensures.keeps in
@@ -286,15 +286,15 @@ inference::apply-returns-in_err-check_taken-clause-gives g t c =
     let x = c.args.context.now in
     let V = rule_types D r x in
     let G = bound_types D r x in
-    let q = c.as_product.new.r in
+    let q = c.into_product.new.r in
     let p = c.put_erased_in.new.self in
     let fn = c.in_ok-function.function in
     let kq = c.in_ok-function.ensures.keeps in
     let kqp = c.in_ok-found.ensures.keeps in
     let k = keeps_further r q p kq kqp in
-    let fits = flip (checked_same S c.as_product.new.left (rule_types_moved r p k x x c.requires.context refl) (bound_types_moved r p k x x c.requires.context refl)
+    let fits = flip (checked_same S c.into_product.new.left (rule_types_moved r p k x x c.requires.context refl) (bound_types_moved r p k x x c.requires.context refl)
     (k.same c.args.argument c.requires.argument) (kqp.same fn.domain c.in_ok-function.ensures.gives.1)) in
-    let h = argument_check_fails S V G c.in_err-check_taken.field-0.0 (D r c.args.argument) (D r c.args.typ) (D q fn.domain) (D q fn.codomain) c.args.left.now c.as_product.new.left
+    let h = argument_check_fails S V G c.in_err-check_taken.field-0.0 (D r c.args.argument) (D r c.args.typ) (D q fn.domain) (D q fn.codomain) c.args.left.now c.into_product.new.left
     c.in_ok-function.ensures.gives.0 (fails_is c.in_err-check_taken.field-0.0 _ _ fits c.in_err-check_taken.ensures.gives) in
     search rules
 
@@ -306,17 +306,17 @@ inference::apply-returns-clause-gives g t c =
     let x = c.args.context.now in
     let V = rule_types D r x in
     let G = bound_types D r x in
-    let q = c.as_product.new.r in
+    let q = c.into_product.new.r in
     let p = c.put_erased_in.new.self in
     let fn = c.in_ok-function.function in
     let kq = c.in_ok-function.ensures.keeps in
     let kqp = c.in_ok-found.ensures.keeps in
     let k = keeps_further r q p kq kqp in
-    let fits = flip (checked_same S c.as_product.new.left (rule_types_moved r p k x x c.requires.context refl) (bound_types_moved r p k x x c.requires.context refl)
+    let fits = flip (checked_same S c.into_product.new.left (rule_types_moved r p k x x c.requires.context refl) (bound_types_moved r p k x x c.requires.context refl)
     (k.same c.args.argument c.requires.argument) (kqp.same fn.domain c.in_ok-function.ensures.gives.1)) in
     let kf = c.in_ok-check_taken.ensures.keeps in
     let found = c.in_ok-found.found in (
-      argument_given_type S V G (D r c.args.argument) (D r c.args.typ) (D q fn.domain) (D q fn.codomain) c.args.left.now c.as_product.new.left c.check_taken.new.left
+      argument_given_type S V G (D r c.args.argument) (D r c.args.typ) (D q fn.domain) (D q fn.codomain) c.args.left.now c.into_product.new.left c.check_taken.new.left
           c.in_ok-function.ensures.gives.0 (fits ∙ c.in_ok-check_taken.ensures.gives)
           ∙ ap (λ y. answer y c.check_taken.new.left) (flip (kf.same found c.in_ok-found.ensures.makes.1 ∙ c.in_ok-found.ensures.makes.0
           ∙ ap (λ y. substitute 0 (erased y) (D q fn.codomain)) (kq.same c.args.argument c.requires.argument))),

@@ -138,7 +138,7 @@ walk_abstraction-returns-clause-gives g t c =
 pub walk_argument-walk-requires : goal.walk_argument-walk-requires
 walk_argument-walk-requires g t c =
     let r = c.args.r.now in
-    let q = c.as_product.new.r in
+    let q = c.into_product.new.r in
     let k = c.in_ok-function.ensures.keeps in
     let x = context_moved r q k c.args.context.now c.args.context.now c.requires.context refl in
     let f = found_kept r q k c.args.found.now c.requires.found in
@@ -149,14 +149,14 @@ walk_argument-returns-in_err-argument-clause-gives g t c =
     let S = entries_of c.args.v.now in
     let D = g.R.Reducer.denotes in
     let r = c.args.r.now in
-    let q = c.as_product.new.r in
+    let q = c.into_product.new.r in
     let x = c.args.context.now in
     let w = c.args.found.now in
     let k = c.in_ok-function.ensures.keeps in
     let fn = c.in_ok-function.function in
     let f = c.in_err-argument.field-0.0 in
-    let same = walked_same S (pattern c.args.argument.now) c.as_product.new.left (bound_types_kept r q x k c.requires.context) refl (found_same r q k w c.requires.found) in
-    let p = argument_fails S (bound_types D r x) f (D r c.args.head.term) (D r c.args.head.typ) (D q fn.domain) (D q fn.codomain) (pattern c.args.argument.now) (found_of D r w) c.args.left.now c.as_product.new.left
+    let same = walked_same S (pattern c.args.argument.now) c.into_product.new.left (bound_types_kept r q x k c.requires.context) refl (found_same r q k w c.requires.found) in
+    let p = argument_fails S (bound_types D r x) f (D r c.args.head.term) (D r c.args.head.typ) (D q fn.domain) (D q fn.codomain) (pattern c.args.argument.now) (found_of D r w) c.args.left.now c.into_product.new.left
     c.in_ok-function.ensures.gives.0 (fails_is f _ _ (flip same) c.in_err-argument.ensures.gives) in
     search rules
 
@@ -165,7 +165,7 @@ walk_argument-returns-clause-gives g t c =
     let S = entries_of c.args.v.now in
     let D = g.R.Reducer.denotes in
     let r = c.args.r.now in
-    let q = c.as_product.new.r in
+    let q = c.into_product.new.r in
     let s = c.walk.new.r in
     let end = c.apply.new.r in
     let x = c.args.context.now in
@@ -181,8 +181,8 @@ walk_argument-returns-clause-gives g t c =
     let head = c.in_ok-apply.ensures.head in
     let term = c.args.head.term in
     let a : Walked = record { term = D s argument; typ = D q fn.domain; found = found_of D s after } in
-    let same = walked_same S (pattern c.args.argument.now) c.as_product.new.left (bound_types_kept r q x k c.requires.context) refl (found_same r q k w c.requires.found) in (
-      argument_given S (bound_types D r x) (D r term) (D r c.args.head.typ) (D q fn.domain) (D q fn.codomain) (pattern c.args.argument.now) (found_of D r w) a c.args.left.now c.as_product.new.left n
+    let same = walked_same S (pattern c.args.argument.now) c.into_product.new.left (bound_types_kept r q x k c.requires.context) refl (found_same r q k w c.requires.found) in (
+      argument_given S (bound_types D r x) (D r term) (D r c.args.head.typ) (D q fn.domain) (D q fn.codomain) (pattern c.args.argument.now) (found_of D r w) a c.args.left.now c.into_product.new.left n
           c.in_ok-function.ensures.gives.0 (flip same ∙ given.0)
           ∙ ap (λ y. answer y n) (headed_same
           (flip (head.term ∙ ap (λ y. apply y (D s argument)) (j.same term (k.own term c.requires.head.term) ∙ k.same term c.requires.head.term)))
