@@ -1,4 +1,5 @@
 pub mod Answered
 pub mod Exists
+pub mod Idle
 pub mod Lines
 pub mod Puts

@@ -14,3 +14,6 @@ pub use outcome::Outcome;
 pub use pieces::{Piece, put_pieces};
 pub use report::write_outcome;
 pub use title::Title;
+
+#[cfg(test)]
+mod tests;
