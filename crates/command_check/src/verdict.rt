@@ -221,10 +221,7 @@ fn accepted_type<R: Reducer>(
     ensures serves { R.serves (entries_of v.now) reducer.new }
 {
     if is_untyped(c) {
-        match infer_type(reducer, v, c, budget) {
-            Ok(typ) => Ok(Some(typ)),
-            Err(verdict) => Err(verdict),
-        }
+        Ok(Some(infer_type(reducer, v, c, budget)?))
     } else {
         match check_command(reducer, v, c, budget) {
             Verdict::Accepted => Ok(None),

@@ -47,11 +47,9 @@ pub fn infer_plain(
         Ok(version) => version,
         Err(_) => return Err(Verdict::Memory),
     };
-    match infer_type(&mut Trees::new(alloc), &version, command, budget) {
-        Ok(typ) => match typ.to_term(alloc) {
-            Ok(typ) => Ok(typ),
-            Err(_) => Err(Verdict::Memory),
-        },
-        Err(verdict) => Err(verdict),
+    let typ = infer_type(&mut Trees::new(alloc), &version, command, budget)?;
+    match typ.to_term(alloc) {
+        Ok(typ) => Ok(typ),
+        Err(_) => Err(Verdict::Memory),
     }
 }
