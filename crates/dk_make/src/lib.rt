@@ -6,3 +6,6 @@
 mod theory;
 
 pub use theory::make;
+
+#[cfg(test)]
+mod tests;
