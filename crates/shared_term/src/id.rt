@@ -9,6 +9,15 @@ use dk_model::NodeOf;
 #[derive(Clone, Copy, PartialEq, Eq, Hash)]
 pub struct TermId(pub(crate) u32);
 
+impl TermId {
+    /// The place as a number, from 0.
+    pub fn number(self) -> u32
+        ensures { result ≡ self.0 }
+    {
+        self.0
+    }
+}
+
 /// A node whose parts are terms of a pool.
 pub type Node = NodeOf<TermId>;
 

@@ -1,0 +1,6 @@
+pub mod Machine
+pub mod Tables
+pub mod Reducers
+pub mod Pending
+pub mod Given
+pub mod Clauses

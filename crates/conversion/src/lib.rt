@@ -1,0 +1,12 @@
+//! Evaluation over shared terms, which remembers what it found: which form a term takes by the rules of a version, and
+//! whether two terms are alike by them, with the answers and the units of plain trees.
+//!
+//! The meaning is `whnf_of`, `comparison_of` and `normal_of` of dk_model (docs/evaluation.md). Begin at `PoolReducer`.
+#![tactic(auto)]
+
+mod evaluate;
+mod machine;
+mod state;
+mod table;
+
+pub use state::PoolReducer;
