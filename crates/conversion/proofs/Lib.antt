@@ -1,1 +1,2 @@
 pub mod Winding
+pub mod Serving
