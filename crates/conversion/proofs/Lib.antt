@@ -1,2 +1,15 @@
 pub mod Winding
 pub mod Serving
+mod Opening
+mod Growing
+mod Capturing
+mod Choosing
+mod Through
+mod Trying
+mod Refining
+mod Unfolding
+mod Turning
+mod Selecting
+mod Pausing
+mod Passing
+mod Evaluating

@@ -20,7 +20,7 @@ wound t [] = t
 wound t (x ∷ xs) = apply (wound t xs) x
 
 -- the items of a stack, the last one first: its arguments from left to right
-abbrev pub from_top : List Tree → List Tree
+abbrev pub from_top : {A : Type 0} → List A → List A
 from_top [] = []
 from_top (x ∷ xs) = from_top xs ++ (x ∷ [])
 

@@ -1,21 +1,51 @@
-//! The weak head form, by turns over a head, a stack of arguments and a stack of selections that wait for a value.
-ghost use Rattle.std.specs.Prelude.{◌≤◌, ◌<◌, length};
+//! The weak head form, by turns over a term, a stack of arguments and a stack of selections that wait for a value.
+ghost use Rattle.std.specs.Prelude.{◌≡◌, ◌+◌, ◌≤◌, ◌<◌, ◌∷◌, ◌++◌, [], IfOk, OnOk, length};
 ghost use Rattle.shared_term.specs.Pools.{Extends};
 ghost use Rattle.signature_log.specs.Versions.{entries_of};
+ghost use Rattle.conversion.specs.Machine.{AreWithin};
 ghost use Rattle.conversion.specs.Reducers.{Serves};
-ghost use Rattle.conversion.specs.Clauses.{Evaluates};
+ghost use Rattle.conversion.specs.Turning.{IsNext, next_rank, turn_rank};
+ghost use Rattle.conversion.specs.Clauses.{Evaluates, Turns};
 
 use crate::PoolReducer;
-use dk_model::Stop;
+use crate::gap::{Gap, closed};
+use crate::machine::{unwind, wind};
+use crate::matrix::Matrix;
+use crate::state::Value;
+use crate::turn::Turn;
+use dk_model::{NoMemory, Stop};
 use shared_term::TermId;
 use signature_log::Version;
+
+/// A selection that waits for the value of a column.
+#[derive(Drop)]
+pub(crate) struct Pause<'v> {
+    pub(crate) gap: Gap<'v>,
+    /// The arguments of its symbol, the first one on top.
+    pub(crate) stack: Vec<TermId>,
+    /// The column's term.
+    pub(crate) asked: TermId,
+    /// The units that there were when it was asked for.
+    pub(crate) start: u64,
+}
+
+/// What is done next over a stack of arguments.
+#[derive(Drop)]
+pub(crate) enum Next<'v> {
+    /// A turn of this term.
+    Whole(TermId),
+    /// The selection for the symbol of this matrix.
+    Selection(Matrix<'v>),
+}
 
 impl PoolReducer {
     /// The weak head form of a term.
     ///
     /// `left` has the units that may be spent, and then those that are left. Each turn takes one: a contraction, a rule of
-    /// the head symbol, or the end. `Ended` comes only where they don't suffice, and leaves none.
-    #[tactic(auto, using(crate::proofs::Winding::extends_none))]
+    /// the head symbol, or the end. `Ended` comes only where they don't suffice, and leaves none. A form that was found
+    /// before takes what it took then.
+    #[cycle(evaluation)]
+    #[tactic(auto, using(crate::proofs::Winding::extends_none, crate::proofs::Winding::extends_more, crate::proofs::Serving::loaded_grown, crate::proofs::Serving::values_grown, crate::proofs::Serving::normals_grown, crate::proofs::Serving::answers_grown))]
     pub(crate) fn evaluate(
         &mut self,
         version: &Version,
@@ -29,9 +59,102 @@ impl PoolReducer {
         ensures serves { Serves (entries_of version.now) self.new }
         ensures spent { left.new ≤ left.old }
     {
-        let _version = version;
-        let _whole = whole;
-        let _left = *left;
-        Err(Stop::NoMemory)
+        let key = whole.number();
+        if let Some(found) = self.values.find(key, 0) {
+            if *left < found.units {
+                *left = 0;
+                return Err(Stop::Ended);
+            }
+            *left -= found.units;
+            return Ok(found.id);
+        }
+        let before = *left;
+        let id = self.evaluated(version, whole, left)?;
+        let units = before - *left;
+        self.values.put(key, 0, Value { id, units });
+        Ok(id)
     }
+
+    /// The same, of a term whose form isn't remembered.
+    #[cycle(evaluation)]
+    #[tactic(auto, using(crate::proofs::Winding::extends_none, crate::proofs::Winding::extends_more, crate::proofs::Serving::loaded_grown, crate::proofs::Serving::values_grown, crate::proofs::Serving::normals_grown, crate::proofs::Serving::answers_grown, crate::proofs::Winding::within_grown, crate::proofs::Pausing::pauses_grown, crate::proofs::Pausing::pauses_pushed, crate::proofs::Pausing::pauses_popped, crate::proofs::Pausing::popped_pause, crate::proofs::Pausing::awaits_none))]
+    fn evaluated(
+        &mut self,
+        version: &Version,
+        whole: TermId,
+        left: &mut u64,
+    ) -> Result<TermId, Stop>
+        requires whole { whole.0 < length self.old.pool }
+        requires serves { Serves (entries_of version.now) self.old }
+        ensures gives { Evaluates version.now self.old whole left.old result self.new left.new }
+        ensures keeps { Extends self.old.pool self.new.pool }
+        ensures serves { Serves (entries_of version.now) self.new }
+        ensures spent { left.new ≤ left.old }
+    {
+        let mut pauses = Vec::new(self.alloc);
+        let mut stack = Vec::new(self.alloc);
+        let mut next = Next::Whole(whole);
+        loop {
+            match self.turn(version, next, &mut stack, left)? {
+                Turn::Goes(term) => next = Next::Whole(term),
+                Turn::Selects(matrix) => next = Next::Selection(matrix),
+                Turn::Asks(pause) => {
+                    next = Next::Whole(pause.asked);
+                    push_pause(&mut pauses, pause)?;
+                }
+                Turn::Stands(head) => {
+                    let value = wind(&mut self.pool, head, stack)?;
+                    match pauses.pop() {
+                        None => return Ok(value),
+                        Some(pause) => {
+                            stack = pause.stack;
+                            let units = pause.start - *left;
+                            let key = pause.asked.number();
+                            self.values.put(key, 0, Value { id: value, units });
+                            next = Next::Selection(closed(self.alloc, &self.pool, pause.gap, value)?);
+                        }
+                    }
+                }
+            }
+        }
+    }
+
+    /// A turn of a term, or the selection of a symbol, whose turn took its unit already.
+    #[cycle(evaluation)]
+    #[tactic(auto, using(crate::proofs::Winding::extends_none, crate::proofs::Winding::extends_more, crate::proofs::Serving::loaded_grown, crate::proofs::Serving::values_grown, crate::proofs::Serving::normals_grown, crate::proofs::Serving::answers_grown))]
+    fn turn<'v>(
+        &mut self,
+        version: &'v Version,
+        next: Next<'v>,
+        stack: &mut Vec<TermId>,
+        left: &mut u64,
+    ) -> Result<Turn<'v>, Stop>
+        requires next { IsNext (entries_of version.now) (length self.old.pool) next }
+        requires stack { AreWithin (length self.old.pool) stack.old.items }
+        requires serves { Serves (entries_of version.now) self.old }
+        ensures gives { Turns version.now self.old next.entry stack.old left.old result self.new stack.new
+            left.new }
+        ensures stack { OnOk result (AreWithin (length self.new.pool) stack.new.items) }
+        ensures keeps { Extends self.old.pool self.new.pool }
+        ensures serves { Serves (entries_of version.now) self.new }
+        ensures spent { left.new ≤ left.old }
+        ensures turned { OnOk result (left.new < left.old + next_rank next.entry) }
+        ensures selects { IfOk result (λ turn. left.new + turn_rank turn ≤ left.old) }
+    {
+        match next {
+            Next::Whole(term) => {
+                let head = unwind(&self.pool, term, stack)?;
+                self.turn_head(version, head, stack, left)
+            }
+            Next::Selection(matrix) => self.turn_matrix(version, matrix, stack, left),
+        }
+    }
+}
+
+/// Lets a selection wait.
+fn push_pause<'v>(pauses: &mut Vec<Pause<'v>>, pause: Pause<'v>) -> Result<(), NoMemory>
+    ensures { OnOk result (pauses.new.items ≡ pauses.old.items ++ pause.entry ∷ []) }
+{
+    pauses.push(pause)?;
+    Ok(())
 }

@@ -4,9 +4,19 @@
 //! The meaning is `whnf_of`, `comparison_of` and `normal_of` of dk_model (docs/evaluation.md). Begin at `PoolReducer`.
 #![tactic(auto)]
 
+mod brought;
+mod capture;
+mod compare;
 mod evaluate;
+mod gap;
 mod machine;
+mod matrix;
+mod normal;
+mod row;
+mod rules;
+mod select;
 mod state;
 mod table;
+mod turn;
 
 pub use state::PoolReducer;

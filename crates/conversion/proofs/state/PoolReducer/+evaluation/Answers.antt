@@ -1,0 +1,469 @@
+use Rattle.std.proofs.Common.{◌≡◌, ◌∙◌, ◌<◌, ◌≤◌, ◌+◌, ◌-◌, ◌++◌, ◌∷◌, [], List, Vec, Global, map, drop, length, ℕ, None, Some, Ok, Err, ap, subst, refl, sym as flip, arith}
+use Rattle.std.specs.Prelude.{replicate}
+use Rattle.dk_model.specs.Trees.{Tree, symbol}
+use Rattle.dk_model.specs.Signatures.{PlainRule, PlainSignature}
+use Rattle.dk_model.specs.SymbolRules.{rules_of}
+use Rattle.dk_model.specs.Units.{Units}
+use Rattle.dk_model.specs.Matrix.{rigid_at}
+use Rattle.dk_model.specs.Evaluation.{whnf_of, normal_of, comparison_of}
+use Rattle.shared_term.specs.Pools.{Node, term, Extends}
+use Rattle.shared_term.specs.Changes.{AreCaptures, captured_terms}
+use Rattle.shared_term.specs.declared.id.TermId.{TermId}
+use Rattle.signature_log.specs.Versions.{entries_of}
+use Rattle.conversion.specs.declared.evaluate.Pause.{Pause}
+use Rattle.conversion.specs.declared.matrix.Cell.{Cell}
+use Rattle.conversion.specs.declared.matrix.Column.{Column}
+use Rattle.conversion.specs.declared.matrix.Row.{Row}
+use Rattle.conversion.specs.Machine.{behind, wound}
+use Rattle.conversion.specs.Rules.{plain_rule_of}
+use Rattle.conversion.specs.Matrix.{plain_cell, column, row, AreColumns, AreAmong, IsListed}
+use Rattle.conversion.specs.Pausing.{plain, IsPause, ArePauses, Await, IsGap}
+use Rattle.conversion.specs.Reducers.{Serves, IsValue}
+use Rattle.conversion.specs.Selections.{step_cell}
+use Rattle.conversion.specs.Turning.{next_due}
+use Rattle.conversion.proofs.Winding.{extends_more}
+use Rattle.conversion.proofs.Serving.{value_made, values_put, loaded_grown, values_grown, normals_grown, answers_grown}
+use Rattle.conversion.proofs.Growing.{columns_set, columns_within, columns_taken, columns_dropped, column_within, captures_within, captures_grown, none_captured}
+use Rattle.conversion.proofs.Choosing.{row_fails, row_takes, row_ends, no_column, row_asks, no_choice, past_end, among_item}
+use Rattle.conversion.proofs.Passing.{row_goes, row_misses, row_stops, row_ended, guard_goes, guard_misses, guard_stops, guards_ended, cell_misses, cell_caught, cell_given, recorded_new, recorded_before, set_past, guard_compared, row_misses_all, guards_miss_all, row_takes_all}
+use Rattle.conversion.proofs.Pausing.{await_grown, pauses_grown, pauses_pushed, pauses_popped, popped_pause}
+use Rattle.conversion.proofs.Evaluating.{await_on, asks_on, awaited_is, awaited_falls, closed_on, awaited_value, await_done}
+use Rattle.conversion.proofs.Selecting.{turns_same, choice_goes, choice_stands, choice_asks}
+use Rattle.conversion.proofs.state.PoolReducer.+evaluation.Goals as goal
+
+-- the cells of a row
+
+pub captures_of_row-loop-i-preserved : goal.captures_of_row-loop-i-preserved
+captures_of_row-loop-i-preserved t c =
+    let S : PlainSignature = entries_of c.args.version.now in
+    let lt : c.loop-i.i < length c.args.cells.now = omega (arith, c.min-i-end.ensures) in
+    let lt' : c.loop-i.i < length c.loop-i.columns.items = omega (arith, c.loop-i.columns.ok.0, c.min-i-end.ensures, c.loop-i.invariant.long) in
+    let h = rw c.in-Ok-true.field-0-test at c.in-Ok-true.ensures.gives in
+    record {
+      same = row_goes (normal_of S) (comparison_of S) c.loop-i.self.pool c.cell_captures.new.self.pool c.in-Ok-true.ensures.keeps c.args.cells.now c.loop-i.columns.items c.loop-i.i c.loop-i.left c.cell_captures.new.left
+          (captured_terms c.loop-i.self.pool c.loop-i.captures.items) c.index-cells-i.result c.index_mut.result.now lt c.index-cells-i.is lt' c.index_mut.ensures.value c.loop-i.invariant.columns
+          (captured_terms c.cell_captures.new.self.pool c.cell_captures.new.captures.items) c.cell_captures.new.column h ∙ c.loop-i.invariant.same;
+      long = c.loop-i.invariant.long;
+      columns = columns_set (length c.cell_captures.new.self.pool) c.loop-i.i c.loop-i.columns.items c.cell_captures.new.column
+          (columns_within c.loop-i.self.pool c.cell_captures.new.self.pool c.loop-i.columns.items c.in-Ok-true.ensures.keeps c.loop-i.invariant.columns) c.in-Ok-true.ensures.column;
+      captures = c.in-Ok-true.ensures.captures;
+      keeps = extends_more c.args.self.now.pool c.loop-i.self.pool c.cell_captures.new.self.pool c.loop-i.invariant.keeps c.in-Ok-true.ensures.keeps;
+      serves = c.in-Ok-true.ensures.serves;
+      less = omega (arith, c.in-Ok-true.ensures.spent, c.loop-i.invariant.less);
+    }
+
+pub captures_of_row-returns-in-Ok-false-clause-gives : goal.captures_of_row-returns-in-Ok-false-clause-gives
+captures_of_row-returns-in-Ok-false-clause-gives t c =
+    let S : PlainSignature = entries_of c.args.version.now in
+    let lt : c.loop-i.i < length c.args.cells.now = omega (arith, c.min-i-end.ensures) in
+    let lt' : c.loop-i.i < length c.loop-i.columns.items = omega (arith, c.loop-i.columns.ok.0, c.min-i-end.ensures, c.loop-i.invariant.long) in
+    let h = rw c.in-Ok-false.field-0-test at c.in-Ok-false.ensures.gives in
+    flip c.loop-i.invariant.same
+    ∙ row_misses (normal_of S) (comparison_of S) c.loop-i.self.pool c.cell_captures.new.self.pool c.in-Ok-false.ensures.keeps c.args.cells.now c.loop-i.columns.items c.loop-i.i c.loop-i.left c.cell_captures.new.left
+    (captured_terms c.loop-i.self.pool c.loop-i.captures.items) c.index-cells-i.result c.index_mut.result.now lt c.index-cells-i.is lt' c.index_mut.ensures.value c.loop-i.invariant.columns c.cell_captures.new.column h
+
+pub captures_of_row-returns-in-Ok-false-clause-columns : goal.captures_of_row-returns-in-Ok-false-clause-columns
+captures_of_row-returns-in-Ok-false-clause-columns t c = columns_set (length c.cell_captures.new.self.pool) c.loop-i.i c.loop-i.columns.items c.cell_captures.new.column
+    (columns_within c.loop-i.self.pool c.cell_captures.new.self.pool c.loop-i.columns.items c.in-Ok-false.ensures.keeps c.loop-i.invariant.columns) c.in-Ok-false.ensures.column
+
+pub captures_of_row-returns-in-Err-clause-gives : goal.captures_of_row-returns-in-Err-clause-gives
+captures_of_row-returns-in-Err-clause-gives t c =
+    let S : PlainSignature = entries_of c.args.version.now in
+    let lt : c.loop-i.i < length c.args.cells.now = omega (arith, c.min-i-end.ensures) in
+    let lt' : c.loop-i.i < length c.loop-i.columns.items = omega (arith, c.loop-i.columns.ok.0, c.min-i-end.ensures, c.loop-i.invariant.long) in
+    row_stops (normal_of S) (comparison_of S) c.loop-i.self.pool c.cell_captures.new.self.pool c.in-Err.ensures.keeps c.args.cells.now c.loop-i.columns.items c.loop-i.i c.loop-i.left c.cell_captures.new.left
+    (captured_terms c.loop-i.self.pool c.loop-i.captures.items) c.index-cells-i.result c.index_mut.result.now lt c.index-cells-i.is lt' c.index_mut.ensures.value c.loop-i.invariant.columns
+    _ c.in-Err.stop _ _ _ _ c.loop-i.invariant.same c.in-Err.ensures.gives
+
+pub captures_of_row-returns-clause-gives : goal.captures_of_row-returns-clause-gives
+captures_of_row-returns-clause-gives t c =
+    let S : PlainSignature = entries_of c.args.version.now in
+    flip c.loop-i.invariant.same ∙ row_ended (normal_of S) (comparison_of S) c.loop-i.self.pool c.args.cells.now c.loop-i.columns.items c.loop-i.i c.loop-i.left
+    (captured_terms c.loop-i.self.pool c.loop-i.captures.items) (omega (arith, c.loop-i.columns.ok.0, c.min-i-end.ensures, c.loop-i.invariant.long))
+
+-- a cell
+
+pub cell_captures-returns-then-not-branch-clause-gives : goal.cell_captures-returns-then-not-branch-clause-gives
+cell_captures-returns-then-not-branch-clause-gives t c =
+    let S : PlainSignature = entries_of c.args.version.now in
+    let g = rw c.if-not-branch.true at c.in_ok-part_at-in-Captures.ensures.gives in
+    c.step_of.ensures.captures (normal_of S) (comparison_of S) (column c.args.self.now.pool c.args.column.now) c.args.left.now (captured_terms c.args.self.now.pool c.args.captures.now.items)
+    ∙ rw c.in-Captures.is (cell_misses (normal_of S) (comparison_of S) c.in-Captures.variable c.in-Captures.listed.now (column c.args.self.now.pool c.args.column.now) c.args.left.now
+    (captured_terms c.args.self.now.pool c.args.captures.now.items) (column c.part_at.new.self.pool c.part_at.new.column) [] c.part_at.new.left g.0 g.1)
+
+pub cell_captures-returns-in_ok-part-in-Captures-clause-gives : goal.cell_captures-returns-in_ok-part-in-Captures-clause-gives
+cell_captures-returns-in_ok-part-in-Captures-clause-gives t c =
+    let S : PlainSignature = entries_of c.args.version.now in
+    let g = rw c.if-not-branch.false at c.in_ok-part_at-in-Captures.ensures.gives in
+    cell_given _ _ c.record.result _ _ _
+    (c.step_of.ensures.captures (normal_of S) (comparison_of S) (column c.args.self.now.pool c.args.column.now) c.args.left.now (captured_terms c.args.self.now.pool c.args.captures.now.items)
+    ∙ rw c.in-Captures.is refl)
+    (cell_caught (normal_of S) (comparison_of S) c.args.self.now.pool c.part_at.new.self.pool c.captured.new.pool c.record.new.self.pool c.args.column.now c.part_at.new.column c.args.captures.now.items
+    c.in_ok-part-in-Captures.part c.in-Captures.variable c.in-Captures.listed.now c.args.left.now c.part_at.new.left c.record.new.left c.record.result (captured_terms c.record.new.self.pool c.record.new.captures.items)
+    c.in_ok-part_at-in-Captures.ensures.keeps c.in_ok-part-in-Captures.ensures.keeps c.record.ensures.keeps c.requires.captures c.in_ok-part_at-in-Captures.ensures.column g
+    c.in_ok-part-in-Captures.ensures.captures c.record.ensures.gives)
+
+-- a form that was found before takes what it took
+
+pub evaluate-returns-then-left-found-clause-gives : goal.evaluate-returns-then-left-found-clause-gives
+evaluate-returns-then-left-found-clause-gives t c =
+    let h : IsValue (entries_of c.args.version.now) c.args.self.now.pool c.args.whole.0 c.in-Some.found = c.requires.serves.values.each c.args.whole.0 0 c.in-Some.found (rw c.number-key.ensures at c.in-Some.ensures) in
+    (h.takes.ends c.args.left.now c.if-left-found.true, refl)
+
+pub evaluate-returns-in-Some-clause-gives : goal.evaluate-returns-in-Some-clause-gives
+evaluate-returns-in-Some-clause-gives t c =
+    let h : IsValue (entries_of c.args.version.now) c.args.self.now.pool c.args.whole.0 c.in-Some.found = c.requires.serves.values.each c.args.whole.0 0 c.in-Some.found (rw c.number-key.ensures at c.in-Some.ensures) in
+    (h.takes.suffices c.args.left.now (omega (arith, c.if-left-found.false)), h.gives)
+
+pub evaluate-returns-clause-serves : goal.evaluate-returns-clause-serves
+evaluate-returns-clause-serves t c =
+    let s = c.in_ok-id.ensures.serves in
+    let g = c.in_ok-id.ensures.gives in
+    record {
+      loaded = s.loaded;
+      values = values_put (entries_of c.args.version.now) c.evaluated.new.self.pool c.evaluated.new.self.values c.put.new.self c.args.whole.0 0 (record { id = c.in_ok-id.id; units = c.args.left.now - c.evaluated.new.left }) s.values
+          (value_made (entries_of c.args.version.now) c.args.self.now.pool c.evaluated.new.self.pool c.args.whole
+          (record { id = c.in_ok-id.id; units = c.args.left.now - c.evaluated.new.left }) c.args.left.now c.evaluated.new.left
+          c.in_ok-id.ensures.keeps c.requires.whole g.1 g.0 refl)
+          (rw c.number-key.ensures at c.put.ensures);
+      normals = s.normals;
+      answers = s.answers;
+    }
+
+-- the turns of an evaluation
+
+pub evaluated-loop-stack-preserved-in-Goes : goal.evaluated-loop-stack-preserved-in-Goes
+evaluated-loop-stack-preserved-in-Goes t c =
+    let S : PlainSignature = entries_of c.args.version.now in
+    let x = c.in_ok-term.ensures.keeps in
+    let g = rw c.in-Goes.is at c.in_ok-term.ensures.gives in
+    record {
+      awaits = await_on S c.loop-stack.self.pool c.turn.new.self.pool _ _ _ c.loop-stack.pauses.items x c.loop-stack.invariant.pauses c.loop-stack.invariant.awaits g.0;
+      next = g.1;
+      stack = c.in_ok-term.ensures.stack;
+      pauses = pauses_grown S c.loop-stack.self.pool c.turn.new.self.pool c.loop-stack.pauses.items x c.loop-stack.invariant.pauses;
+      keeps = extends_more c.args.self.now.pool c.loop-stack.self.pool c.turn.new.self.pool c.loop-stack.invariant.keeps x;
+      serves = c.in_ok-term.ensures.serves;
+      less = omega (arith, c.in_ok-term.ensures.turned, c.loop-stack.invariant.less);
+    }
+
+pub evaluated-loop-stack-preserved-in-Selects : goal.evaluated-loop-stack-preserved-in-Selects
+evaluated-loop-stack-preserved-in-Selects t c =
+    let S : PlainSignature = entries_of c.args.version.now in
+    let x = c.in_ok-term.ensures.keeps in
+    let g = rw c.in-Selects.is at c.in_ok-term.ensures.gives in
+    record {
+      awaits = await_on S c.loop-stack.self.pool c.turn.new.self.pool _ _ _ c.loop-stack.pauses.items x c.loop-stack.invariant.pauses c.loop-stack.invariant.awaits g.0;
+      next = g.1;
+      stack = c.in_ok-term.ensures.stack;
+      pauses = pauses_grown S c.loop-stack.self.pool c.turn.new.self.pool c.loop-stack.pauses.items x c.loop-stack.invariant.pauses;
+      keeps = extends_more c.args.self.now.pool c.loop-stack.self.pool c.turn.new.self.pool c.loop-stack.invariant.keeps x;
+      serves = c.in_ok-term.ensures.serves;
+      less = omega (arith, c.in_ok-term.ensures.turned, c.loop-stack.invariant.less);
+    }
+
+pub evaluated-loop-stack-preserved-in_ok-push_pause-in-Asks : goal.evaluated-loop-stack-preserved-in_ok-push_pause-in-Asks
+evaluated-loop-stack-preserved-in_ok-push_pause-in-Asks t c =
+    let S : PlainSignature = entries_of c.args.version.now in
+    let x = c.in_ok-term.ensures.keeps in
+    let g = rw c.in-Asks.is at c.in_ok-term.ensures.gives in
+    let is : c.push_pause.new.pauses.items ≡ c.loop-stack.pauses.items ++ (c.in-Asks.pause ∷ []) = c.in_ok-push_pause-in-Asks.ensures in
+    record {
+      awaits = subst (λ (l : List Pause). Await S c.turn.new.self.pool (whnf_of S c.args.left.now (term c.args.self.now.pool c.args.whole)) l
+            (whnf_of S c.turn.new.left (wound (term c.turn.new.self.pool c.in-Asks.pause.asked) (behind c.turn.new.self.pool c.turn.new.stack.items)))) (flip is)
+          (asks_on S c.loop-stack.self.pool c.turn.new.self.pool _ _ c.loop-stack.pauses.items c.in-Asks.pause c.turn.new.stack.items c.turn.new.left x c.loop-stack.invariant.pauses c.loop-stack.invariant.awaits g);
+      next = g.3.asked;
+      stack = c.in_ok-term.ensures.stack;
+      pauses = subst (λ (l : List Pause). ArePauses S (length c.turn.new.self.pool) l) (flip is)
+          (pauses_pushed S (length c.turn.new.self.pool) c.loop-stack.pauses.items c.in-Asks.pause
+          (pauses_grown S c.loop-stack.self.pool c.turn.new.self.pool c.loop-stack.pauses.items x c.loop-stack.invariant.pauses) g.3);
+      keeps = extends_more c.args.self.now.pool c.loop-stack.self.pool c.turn.new.self.pool c.loop-stack.invariant.keeps x;
+      serves = c.in_ok-term.ensures.serves;
+      less = omega (arith, c.in_ok-term.ensures.turned, c.loop-stack.invariant.less);
+    }
+
+pub evaluated-returns-in-None-clause-gives : goal.evaluated-returns-in-None-clause-gives
+evaluated-returns-in-None-clause-gives t c =
+    let S : PlainSignature = entries_of c.args.version.now in
+    let x = extends_more c.loop-stack.self.pool c.turn.new.self.pool c.wind.new.pool c.in_ok-term.ensures.keeps c.in_ok-value-in-Stands.ensures.keeps in
+    let g = rw c.in-Stands.is at c.in_ok-term.ensures.gives in
+    let none : length c.loop-stack.pauses.items ≡ 0 = omega (arith, c.in-None.ensures.cases.0, c.loop-stack.pauses.ok.0) in
+    (await_done S c.wind.new.pool _ _ c.loop-stack.pauses.items none
+    (await_on S c.loop-stack.self.pool c.wind.new.pool _ _ _ c.loop-stack.pauses.items x c.loop-stack.invariant.pauses c.loop-stack.invariant.awaits
+    (g.0 ∙ ap (λ (v : Tree). Some (v, c.turn.new.left)) (flip c.in_ok-value-in-Stands.ensures.whole))), c.in_ok-value-in-Stands.ensures.there)
+
+pub evaluated-overflow_sub-units : goal.evaluated-overflow_sub-units
+evaluated-overflow_sub-units t c =
+    let S : PlainSignature = entries_of c.args.version.now in
+    let x = extends_more c.loop-stack.self.pool c.turn.new.self.pool c.wind.new.pool c.in_ok-term.ensures.keeps c.in_ok-value-in-Stands.ensures.keeps in
+    let g = rw c.in-Stands.is at c.in_ok-term.ensures.gives in
+    let f : c.turn.new.left < c.in-Some.pause.start = awaited_falls S c.wind.new.pool _ _ c.pop.new.self.items c.loop-stack.pauses.items c.in-Some.pause (term c.wind.new.pool c.in_ok-value-in-Stands.value) c.turn.new.left c.in-Some.ensures.items
+    (await_grown S c.loop-stack.self.pool c.wind.new.pool _ _ c.loop-stack.pauses.items x c.loop-stack.invariant.pauses c.loop-stack.invariant.awaits)
+    (g.0 ∙ ap (λ (v : Tree). Some (v, c.turn.new.left)) (flip c.in_ok-value-in-Stands.ensures.whole)) in
+    omega (arith, f)
+
+pub evaluated-closed-requires-clause-before : goal.evaluated-closed-requires-clause-before
+evaluated-closed-requires-clause-before t c =
+    let S : PlainSignature = entries_of c.args.version.now in
+    let x = extends_more c.loop-stack.self.pool c.turn.new.self.pool c.wind.new.pool c.in_ok-term.ensures.keeps c.in_ok-value-in-Stands.ensures.keeps in
+    (popped_pause S (length c.wind.new.pool) c.pop.new.self.items c.in-Some.pause
+    (subst (λ (l : List Pause). ArePauses S (length c.wind.new.pool) l) c.in-Some.ensures.items (pauses_grown S c.loop-stack.self.pool c.wind.new.pool c.loop-stack.pauses.items x c.loop-stack.invariant.pauses))).gap.before
+
+pub evaluated-closed-requires-clause-behind : goal.evaluated-closed-requires-clause-behind
+evaluated-closed-requires-clause-behind t c =
+    let S : PlainSignature = entries_of c.args.version.now in
+    let x = extends_more c.loop-stack.self.pool c.turn.new.self.pool c.wind.new.pool c.in_ok-term.ensures.keeps c.in_ok-value-in-Stands.ensures.keeps in
+    (popped_pause S (length c.wind.new.pool) c.pop.new.self.items c.in-Some.pause
+    (subst (λ (l : List Pause). ArePauses S (length c.wind.new.pool) l) c.in-Some.ensures.items (pauses_grown S c.loop-stack.self.pool c.wind.new.pool c.loop-stack.pauses.items x c.loop-stack.invariant.pauses))).gap.behind
+
+pub evaluated-returns-in_err-closed-in-Some-clause-serves : goal.evaluated-returns-in_err-closed-in-Some-clause-serves
+evaluated-returns-in_err-closed-in-Some-clause-serves t c =
+    let S : PlainSignature = entries_of c.args.version.now in
+    let y = c.in_ok-value-in-Stands.ensures.keeps in
+    let x = extends_more c.loop-stack.self.pool c.turn.new.self.pool c.wind.new.pool c.in_ok-term.ensures.keeps y in
+    let g = rw c.in-Stands.is at c.in_ok-term.ensures.gives in
+    let p = popped_pause S (length c.wind.new.pool) c.pop.new.self.items c.in-Some.pause
+    (subst (λ (l : List Pause). ArePauses S (length c.wind.new.pool) l) c.in-Some.ensures.items (pauses_grown S c.loop-stack.self.pool c.wind.new.pool c.loop-stack.pauses.items x c.loop-stack.invariant.pauses)) in
+    let e = awaited_is S c.wind.new.pool _ _ c.pop.new.self.items c.loop-stack.pauses.items c.in-Some.pause (term c.wind.new.pool c.in_ok-value-in-Stands.value) c.turn.new.left c.in-Some.ensures.items
+    (await_grown S c.loop-stack.self.pool c.wind.new.pool _ _ c.loop-stack.pauses.items x c.loop-stack.invariant.pauses c.loop-stack.invariant.awaits)
+    (g.0 ∙ ap (λ (v : Tree). Some (v, c.turn.new.left)) (flip c.in_ok-value-in-Stands.ensures.whole)) in
+    let s = c.in_ok-term.ensures.serves in
+    record {
+      loaded = loaded_grown S c.turn.new.self.pool c.wind.new.pool c.turn.new.self.loaded y s.loaded;
+      values = values_put S c.wind.new.pool c.turn.new.self.values c.put.new.self c.in-Some.pause.asked.0 0 (record { id = c.in_ok-value-in-Stands.value; units = c.in-Some.pause.start - c.turn.new.left })
+          (values_grown S c.turn.new.self.pool c.wind.new.pool c.turn.new.self.values y s.values)
+          (awaited_value S c.wind.new.pool c.in-Some.pause c.in_ok-value-in-Stands.value c.turn.new.left p.asked c.in_ok-value-in-Stands.ensures.there e)
+          (rw c.number-key.ensures at c.put.ensures);
+      normals = normals_grown S c.turn.new.self.pool c.wind.new.pool c.turn.new.self.normals y s.normals;
+      answers = answers_grown S c.turn.new.self.pool c.wind.new.pool c.turn.new.self.answers y s.answers;
+    }
+
+pub evaluated-loop-stack-preserved : goal.evaluated-loop-stack-preserved
+evaluated-loop-stack-preserved t c =
+    let S : PlainSignature = entries_of c.args.version.now in
+    let y = c.in_ok-value-in-Stands.ensures.keeps in
+    let x = extends_more c.loop-stack.self.pool c.turn.new.self.pool c.wind.new.pool c.in_ok-term.ensures.keeps y in
+    let g = rw c.in-Stands.is at c.in_ok-term.ensures.gives in
+    let ps = subst (λ (l : List Pause). ArePauses S (length c.wind.new.pool) l) c.in-Some.ensures.items (pauses_grown S c.loop-stack.self.pool c.wind.new.pool c.loop-stack.pauses.items x c.loop-stack.invariant.pauses) in
+    let p = popped_pause S (length c.wind.new.pool) c.pop.new.self.items c.in-Some.pause ps in
+    let w = await_grown S c.loop-stack.self.pool c.wind.new.pool _ _ c.loop-stack.pauses.items x c.loop-stack.invariant.pauses c.loop-stack.invariant.awaits in
+    let d = g.0 ∙ ap (λ (v : Tree). Some (v, c.turn.new.left)) (flip c.in_ok-value-in-Stands.ensures.whole) in
+    let e = awaited_is S c.wind.new.pool _ _ c.pop.new.self.items c.loop-stack.pauses.items c.in-Some.pause (term c.wind.new.pool c.in_ok-value-in-Stands.value) c.turn.new.left c.in-Some.ensures.items w d in
+    let s = c.in_ok-term.ensures.serves in
+    record {
+      awaits = closed_on S c.wind.new.pool _ _ c.pop.new.self.items c.loop-stack.pauses.items c.in-Some.pause (term c.wind.new.pool c.in_ok-value-in-Stands.value) c.turn.new.left c.in-Some.ensures.items w d
+          c.in_ok-closed-in-Some.field-0 c.in_ok-closed-in-Some.ensures.symbol c.in_ok-closed-in-Some.ensures.columns c.in_ok-closed-in-Some.ensures.rows;
+      next = record {
+        columns = c.in_ok-closed-in-Some.ensures.within;
+        rows = subst (λ (k : ℕ). AreAmong (rules_of S k) c.in_ok-closed-in-Some.field-0.rows.items) (flip c.in_ok-closed-in-Some.ensures.symbol)
+            (c.in_ok-closed-in-Some.ensures.among (rules_of S c.in-Some.pause.gap.symbol) p.gap.rows);
+      };
+      stack = p.stack;
+      pauses = pauses_popped S (length c.wind.new.pool) c.pop.new.self.items c.in-Some.pause ps;
+      keeps = extends_more c.args.self.now.pool c.loop-stack.self.pool c.wind.new.pool c.loop-stack.invariant.keeps x;
+      serves = record {
+        loaded = loaded_grown S c.turn.new.self.pool c.wind.new.pool c.turn.new.self.loaded y s.loaded;
+        values = values_put S c.wind.new.pool c.turn.new.self.values c.put.new.self c.in-Some.pause.asked.0 0 (record { id = c.in_ok-value-in-Stands.value; units = c.in-Some.pause.start - c.turn.new.left })
+            (values_grown S c.turn.new.self.pool c.wind.new.pool c.turn.new.self.values y s.values)
+            (awaited_value S c.wind.new.pool c.in-Some.pause c.in_ok-value-in-Stands.value c.turn.new.left p.asked c.in_ok-value-in-Stands.ensures.there e)
+            (rw c.number-key.ensures at c.put.ensures);
+        normals = normals_grown S c.turn.new.self.pool c.wind.new.pool c.turn.new.self.normals y s.normals;
+        answers = answers_grown S c.turn.new.self.pool c.wind.new.pool c.turn.new.self.answers y s.answers;
+      };
+      less = omega (arith, c.in_ok-term.ensures.turned, c.loop-stack.invariant.less);
+    }
+
+-- the guards of a row
+
+pub guard_holds-returns-in_ok-guard-in-Guards-clause-gives : goal.guard_holds-returns-in_ok-guard-in-Guards-clause-gives
+guard_holds-returns-in_ok-guard-in-Guards-clause-gives t c =
+    let S : PlainSignature = entries_of c.args.version.now in
+    guard_compared (comparison_of S) c.args.cell.now c.step_of.result c.in-Guards.guard.now c.args.self.now.pool c.guard_under.new.pool c.args.column c.in_ok-guard-in-Guards.guard c.args.left.now c.compare.new.left
+    (captured_terms c.args.self.now.pool c.args.captures.now) c.compare.result c.step_of.ensures (ap step_cell c.in-Guards.is) c.in_ok-guard-in-Guards.ensures.keeps c.requires.column c.in_ok-guard-in-Guards.ensures.is c.compare.ensures.gives
+
+pub guards_hold-loop-i-preserved : goal.guards_hold-loop-i-preserved
+guards_hold-loop-i-preserved t c =
+    let S : PlainSignature = entries_of c.args.version.now in
+    let lt : c.loop-i.i < length c.args.cells.now = omega (arith, c.min-i-end.ensures) in
+    let lt' : c.loop-i.i < length c.args.columns.now = omega (arith, c.min-i-end.ensures) in
+    let h = rw c.in-Ok-true.field-0-test at c.in-Ok-true.ensures.gives in
+    record {
+      same = guard_goes (normal_of S) (comparison_of S) c.loop-i.self.pool c.guard_holds.new.self.pool c.in-Ok-true.ensures.keeps c.args.cells.now c.args.columns.now c.loop-i.i c.loop-i.left c.guard_holds.new.left
+          (captured_terms c.loop-i.self.pool c.args.captures.now) c.index-cells-i.result c.index-columns-i.result lt c.index-cells-i.is lt' c.index-columns-i.is c.loop-i.invariant.columns
+          (captured_terms c.guard_holds.new.self.pool c.args.captures.now) (captures_grown c.loop-i.self.pool c.guard_holds.new.self.pool c.args.captures.now c.in-Ok-true.ensures.keeps c.loop-i.invariant.captures) h
+          ∙ c.loop-i.invariant.same;
+      columns = columns_within c.loop-i.self.pool c.guard_holds.new.self.pool c.args.columns.now c.in-Ok-true.ensures.keeps c.loop-i.invariant.columns;
+      captures = captures_within c.loop-i.self.pool c.guard_holds.new.self.pool c.args.captures.now c.in-Ok-true.ensures.keeps c.loop-i.invariant.captures;
+      keeps = extends_more c.args.self.now.pool c.loop-i.self.pool c.guard_holds.new.self.pool c.loop-i.invariant.keeps c.in-Ok-true.ensures.keeps;
+      serves = c.in-Ok-true.ensures.serves;
+      less = omega (arith, c.in-Ok-true.ensures.spent, c.loop-i.invariant.less);
+    }
+
+pub guards_hold-returns-in-Ok-false-clause-gives : goal.guards_hold-returns-in-Ok-false-clause-gives
+guards_hold-returns-in-Ok-false-clause-gives t c =
+    let S : PlainSignature = entries_of c.args.version.now in
+    let lt : c.loop-i.i < length c.args.cells.now = omega (arith, c.min-i-end.ensures) in
+    let lt' : c.loop-i.i < length c.args.columns.now = omega (arith, c.min-i-end.ensures) in
+    let h = rw c.in-Ok-false.field-0-test at c.in-Ok-false.ensures.gives in
+    flip c.loop-i.invariant.same
+    ∙ guard_misses (normal_of S) (comparison_of S) c.loop-i.self.pool c.guard_holds.new.self.pool c.in-Ok-false.ensures.keeps c.args.cells.now c.args.columns.now c.loop-i.i c.loop-i.left c.guard_holds.new.left
+    (captured_terms c.loop-i.self.pool c.args.captures.now) c.index-cells-i.result c.index-columns-i.result lt c.index-cells-i.is lt' c.index-columns-i.is c.loop-i.invariant.columns h
+
+pub guards_hold-returns-in-Err-clause-gives : goal.guards_hold-returns-in-Err-clause-gives
+guards_hold-returns-in-Err-clause-gives t c =
+    let S : PlainSignature = entries_of c.args.version.now in
+    let lt : c.loop-i.i < length c.args.cells.now = omega (arith, c.min-i-end.ensures) in
+    let lt' : c.loop-i.i < length c.args.columns.now = omega (arith, c.min-i-end.ensures) in
+    guard_stops (normal_of S) (comparison_of S) c.loop-i.self.pool c.guard_holds.new.self.pool c.in-Err.ensures.keeps c.args.cells.now c.args.columns.now c.loop-i.i c.loop-i.left c.guard_holds.new.left
+    (captured_terms c.loop-i.self.pool c.args.captures.now) c.index-cells-i.result c.index-columns-i.result lt c.index-cells-i.is lt' c.index-columns-i.is c.loop-i.invariant.columns
+    _ c.in-Err.stop c.loop-i.invariant.same c.in-Err.ensures.gives
+
+pub guards_hold-returns-clause-gives : goal.guards_hold-returns-clause-gives
+guards_hold-returns-clause-gives t c =
+    let S : PlainSignature = entries_of c.args.version.now in
+    flip c.loop-i.invariant.same ∙ guards_ended (normal_of S) (comparison_of S) c.loop-i.self.pool c.args.cells.now c.args.columns.now c.loop-i.i c.loop-i.left
+    (captured_terms c.loop-i.self.pool c.args.captures.now) (omega (arith, c.min-i-end.ensures))
+
+-- a capture
+
+pub record-returns-then-variable-len-clause-gives : goal.record-returns-then-variable-len-clause-gives
+record-returns-then-variable-len-clause-gives t c =
+    recorded_new (comparison_of (entries_of c.args.version.now)) c.args.left.now c.args.self.now.pool c.args.captures.now.items c.args.variable c.args.part (flip (rw c.as_slice.ensures.value at c.in-None.ensures))
+
+pub record-returns-else-variable-len-clause-gives : goal.record-returns-else-variable-len-clause-gives
+record-returns-else-variable-len-clause-gives t c =
+    let past : length c.args.captures.now.items ≤ c.args.variable = omega (arith, c.if-variable-len.false, c.len.ensures, c.args.captures.now.ok.0) in
+    recorded_new (comparison_of (entries_of c.args.version.now)) c.args.left.now c.args.self.now.pool c.args.captures.now.items c.args.variable c.args.part (flip (rw c.as_slice.ensures.value at c.in-None.ensures))
+    ∙ ap (λ l. Some (Some (captured_terms c.args.self.now.pool l), c.args.left.now)) (set_past c.args.captures.now.items c.args.variable (Some c.args.part) past)
+
+pub record-returns-in-Some-clause-gives : goal.record-returns-in-Some-clause-gives
+record-returns-in-Some-clause-gives t c =
+    recorded_before (comparison_of (entries_of c.args.version.now)) c.args.left.now c.args.self.now.pool c.args.captures.now.items c.args.variable c.args.part c.in-Some.earlier c.compare.new.self.pool c.compare.result c.compare.new.left
+    (flip (rw c.as_slice.ensures.value at c.in-Some.ensures)) c.compare.ensures.keeps c.requires.captures c.compare.ensures.gives
+
+-- a row
+
+pub row_taken-captures_of_row-requires : goal.row_taken-captures_of_row-requires
+row_taken-captures_of_row-requires t c = record {
+  columns = c.requires.columns;
+  captures = subst (λ (l : List _). AreCaptures (length c.args.self.now.pool) l) (flip c.in_ok-captures.ensures) (none_captured (length c.args.self.now.pool) (plain_rule_of c.args.row.now.rule).vars);
+  serves = c.requires.serves;
+}
+
+pub row_taken-returns-then-not-branch-clause-gives : goal.row_taken-returns-then-not-branch-clause-gives
+row_taken-returns-then-not-branch-clause-gives t c =
+    let S : PlainSignature = entries_of c.args.version.now in
+    row_misses_all (normal_of S) (comparison_of S) (row c.args.row.now) (plain c.args.self.now.pool c.args.columns.now) c.args.left.now c.args.self.now.pool (plain c.captures_of_row.new.self.pool c.captures_of_row.new.columns)
+    c.captures_of_row.new.left (rw (c.as_slice-cells.ensures.value, c.in_ok-captures.ensures, c.if-not-branch.true) at c.in_ok-captures_of_row.ensures.gives)
+
+pub row_taken-returns-then-not-branch-2-clause-gives : goal.row_taken-returns-then-not-branch-2-clause-gives
+row_taken-returns-then-not-branch-2-clause-gives t c =
+    let S : PlainSignature = entries_of c.args.version.now in
+    guards_miss_all (normal_of S) (comparison_of S) (row c.args.row.now) (plain c.args.self.now.pool c.args.columns.now) c.args.left.now c.args.self.now.pool c.captures_of_row.new.self.pool c.guards_hold.new.self.pool
+    c.captures_of_row.new.columns.items c.captures_of_row.new.captures.items c.captures_of_row.new.left c.in_ok-guards_hold.ensures.keeps c.in_ok-captures_of_row.ensures.columns
+    (rw (c.as_slice-cells.ensures.value, c.in_ok-captures.ensures, c.if-not-branch.false) at c.in_ok-captures_of_row.ensures.gives) c.guards_hold.new.left
+    (rw (c.as_slice-cells.ensures.value, c.as_slice.ensures.value, c.as_slice-2.ensures.value, c.if-not-branch-2.true) at c.in_ok-guards_hold.ensures.gives)
+
+pub row_taken-returns-clause-gives : goal.row_taken-returns-clause-gives
+row_taken-returns-clause-gives t c =
+    let S : PlainSignature = entries_of c.args.version.now in
+    (row_takes_all (normal_of S) (comparison_of S) (row c.args.row.now) (plain c.args.self.now.pool c.args.columns.now) c.args.left.now c.args.self.now.pool c.captures_of_row.new.self.pool c.guards_hold.new.self.pool
+    c.captures_of_row.new.columns.items c.captures_of_row.new.captures.items c.captures_of_row.new.left c.in_ok-guards_hold.ensures.keeps c.in_ok-captures_of_row.ensures.columns
+    (rw (c.as_slice-cells.ensures.value, c.in_ok-captures.ensures, c.if-not-branch.false) at c.in_ok-captures_of_row.ensures.gives) c.guards_hold.new.left c.in_ok-captures_of_row.ensures.captures
+    (rw (c.as_slice-cells.ensures.value, c.as_slice.ensures.value, c.as_slice-2.ensures.value, c.if-not-branch-2.false) at c.in_ok-guards_hold.ensures.gives),
+    captures_within c.captures_of_row.new.self.pool c.guards_hold.new.self.pool c.captures_of_row.new.captures.items c.in_ok-guards_hold.ensures.keeps c.in_ok-captures_of_row.ensures.captures)
+
+-- the rounds of a selection
+
+pub select-returns-in-Ok-Some-clause-gives : goal.select-returns-in-Ok-Some-clause-gives
+select-returns-in-Ok-Some-clause-gives t c =
+    let S : PlainSignature = entries_of c.args.version.now in
+    let lt : c.loop-tried.tried < length c.args.matrix.rows.items = omega (arith, c.loop-tried-test.true, c.len-tried-end.ensures, c.args.matrix.rows.ok.0) in
+    let e : rigid_at (row c.index-row.result.now).cells ≡ None = ap (λ (l : List Cell). rigid_at (map plain_cell l)) (flip c.as_slice.ensures.value) ∙ flip c.in-None.ensures.value in
+    let h = rw c.in-Ok-Some.field-0-is at c.in-Ok-Some.ensures.gives in (
+      flip c.loop-tried.invariant.same ∙ row_takes S c.args.matrix.rows.items c.loop-tried.tried c.loop-tried.left (plain c.loop-tried.self.pool c.loop-tried.columns) c.index-row.result.now lt c.index-row.ensures
+          c.row_taken.new.left (plain c.row_taken.new.self.pool c.row_taken.new.columns) (captured_terms c.row_taken.new.self.pool c.in-Ok-Some.captures.items) e h.0,
+      h.1,
+      among_item (rules_of S c.args.matrix.symbol) c.args.matrix.rows.items c.loop-tried.tried c.index-row.result.now c.index-row.result.now c.requires.matrix.rows lt c.index-row.ensures refl,
+    )
+
+pub select-returns-in-Err-clause-gives : goal.select-returns-in-Err-clause-gives
+select-returns-in-Err-clause-gives t c =
+    let S : PlainSignature = entries_of c.args.version.now in
+    let lt : c.loop-tried.tried < length c.args.matrix.rows.items = omega (arith, c.loop-tried-test.true, c.len-tried-end.ensures, c.args.matrix.rows.ok.0) in
+    let e : rigid_at (row c.index-row.result.now).cells ≡ None = ap (λ (l : List Cell). rigid_at (map plain_cell l)) (flip c.as_slice.ensures.value) ∙ flip c.in-None.ensures.value in
+    no_choice S c.args.matrix.symbol _ _ _ _ c.in-Err.stop _ _ (λ h. flip c.loop-tried.invariant.same ∙ row_ends S c.args.matrix.rows.items c.loop-tried.tried c.loop-tried.left (plain c.loop-tried.self.pool c.loop-tried.columns)
+    c.index-row.result.now lt c.index-row.ensures e h) c.in-Err.ensures.gives
+
+pub select-returns-then-at-len-clause-gives : goal.select-returns-then-at-len-clause-gives
+select-returns-then-at-len-clause-gives t c =
+    let S : PlainSignature = entries_of c.args.version.now in
+    let lt : c.loop-tried.tried < length c.args.matrix.rows.items = omega (arith, c.loop-tried-test.true, c.len-tried-end.ensures, c.args.matrix.rows.ok.0) in
+    let e : rigid_at (row c.index-row.result.now).cells ≡ Some c.in-Some.at = ap (λ (l : List Cell). rigid_at (map plain_cell l)) (flip c.as_slice.ensures.value) ∙ flip c.in-Some.ensures.value in
+    let le : length c.loop-tried.columns.items ≤ c.in-Some.at = omega (arith, c.if-at-len.true, c.len.ensures, c.loop-tried.columns.ok.0) in
+    flip c.loop-tried.invariant.same ∙ no_column S c.args.matrix.rows.items c.loop-tried.tried c.loop-tried.left (plain c.loop-tried.self.pool c.loop-tried.columns) c.index-row.result.now lt c.index-row.ensures c.in-Some.at e
+    (past_end (column c.loop-tried.self.pool) c.loop-tried.columns.items c.in-Some.at le)
+
+pub select-returns-in-Some-clause-gives : goal.select-returns-in-Some-clause-gives
+select-returns-in-Some-clause-gives t c =
+    let S : PlainSignature = entries_of c.args.version.now in
+    let lt : c.loop-tried.tried < length c.args.matrix.rows.items = omega (arith, c.loop-tried-test.true, c.len-tried-end.ensures, c.args.matrix.rows.ok.0) in
+    let e : rigid_at (row c.index-row.result.now).cells ≡ Some c.in-Some.at = ap (λ (l : List Cell). rigid_at (map plain_cell l)) (flip c.as_slice.ensures.value) ∙ flip c.in-Some.ensures.value in
+    let g = c.in_ok-gap-in-Some.ensures in
+    let n : ℕ = length c.loop-tried.self.pool in (
+      flip c.loop-tried.invariant.same ∙ row_asks S c.args.matrix.rows.items c.loop-tried.tried c.loop-tried.left (plain c.loop-tried.self.pool c.loop-tried.columns) c.index-row.result.now lt c.index-row.ensures
+          c.loop-tried.self.pool c.in-Some.at c.in_ok-gap-in-Some.gap c.in_ok-gap-in-Some.term c.loop-tried.columns.items refl e g.term g.before g.behind (ap (λ (v : Vec Row Global). v.items) g.rows) g.tried,
+      g.symbol,
+      record {
+        before = subst (λ (l : List Column). AreColumns n l) (flip g.before) (columns_taken n c.in-Some.at c.loop-tried.columns.items c.loop-tried.invariant.columns);
+        behind = subst (λ (l : List Column). AreColumns n l) (flip g.behind) (columns_dropped n (c.in-Some.at + 1) c.loop-tried.columns.items c.loop-tried.invariant.columns);
+        rows = subst (λ (v : Vec Row Global). AreAmong (rules_of S c.in_ok-gap-in-Some.gap.symbol) v.items) (flip g.rows)
+            (subst (λ (k : ℕ). AreAmong (rules_of S k) c.args.matrix.rows.items) (flip g.symbol) c.requires.matrix.rows);
+      },
+      column_within n c.in-Some.at c.loop-tried.columns.items (record { depth = c.in_ok-gap-in-Some.gap.depth; term = c.in_ok-gap-in-Some.term }) c.loop-tried.invariant.columns g.term,
+    )
+
+pub select-loop-tried-preserved : goal.select-loop-tried-preserved
+select-loop-tried-preserved t c =
+    let S : PlainSignature = entries_of c.args.version.now in
+    let lt : c.loop-tried.tried < length c.args.matrix.rows.items = omega (arith, c.loop-tried-test.true, c.len-tried-end.ensures, c.args.matrix.rows.ok.0) in
+    let e : rigid_at (row c.index-row.result.now).cells ≡ None = ap (λ (l : List Cell). rigid_at (map plain_cell l)) (flip c.as_slice.ensures.value) ∙ flip c.in-None.ensures.value in
+    let h = rw c.in-Ok-None.field-0-is at c.in-Ok-None.ensures.gives in
+    record {
+      same = row_fails S c.args.matrix.rows.items c.loop-tried.tried c.loop-tried.left (plain c.loop-tried.self.pool c.loop-tried.columns) c.index-row.result.now lt c.index-row.ensures c.row_taken.new.left
+          (plain c.row_taken.new.self.pool c.row_taken.new.columns) e h ∙ c.loop-tried.invariant.same;
+      columns = c.in-Ok-None.ensures.columns;
+      keeps = extends_more c.args.self.now.pool c.loop-tried.self.pool c.row_taken.new.self.pool c.loop-tried.invariant.keeps c.in-Ok-None.ensures.keeps;
+      serves = c.in-Ok-None.ensures.serves;
+      less = omega (arith, c.row_taken.ensures.spent, c.loop-tried.invariant.less);
+    }
+
+-- the turn of a matrix
+
+pub turn_matrix-returns-in_ok-next-in-Taken-clause-gives : goal.turn_matrix-returns-in_ok-next-in-Taken-clause-gives
+turn_matrix-returns-in_ok-next-in-Taken-clause-gives t c =
+    let S : PlainSignature = entries_of c.args.version.now in
+    let g = rw c.in-Taken.is at c.in_ok-captures.ensures.gives in
+    let p = rw c.as_slice.ensures.value at c.in_ok-next-in-Taken.ensures.puts in (
+      choice_goes S c.args.matrix c.args.left.now c.args.self.now.pool c.select.new.self.pool c.args.stack.now.items c.in_ok-captures.ensures.keeps c.requires.stack c.select.new.left
+          (captured_terms c.select.new.self.pool c.in-Taken.captures.items) (plain_rule_of c.in-Taken.rule)
+          (wound (term c.put_right.new.self.pool c.in_ok-next-in-Taken.next) (behind c.put_right.new.self.pool c.put_right.new.stack.items)) g.0 p.0,
+      p.1,
+    )
+
+pub turn_matrix-returns-in_ok-head-in-Nothing-clause-gives : goal.turn_matrix-returns-in_ok-head-in-Nothing-clause-gives
+turn_matrix-returns-in_ok-head-in-Nothing-clause-gives t c =
+    let S : PlainSignature = entries_of c.args.version.now in
+    let g = rw c.in-Nothing.is at c.in_ok-captures.ensures.gives in (
+      choice_stands S c.args.matrix c.args.left.now c.args.self.now.pool c.select.new.self.pool c.args.stack.now.items c.in_ok-captures.ensures.keeps c.requires.stack c.select.new.left c.intern.new.self
+          c.in_ok-head-in-Nothing.head c.in_ok-head-in-Nothing.ensures.keeps g c.in_ok-head-in-Nothing.ensures.denotes,
+      c.in_ok-head-in-Nothing.ensures.within,
+    )
+
+pub turn_matrix-returns-in-Asks-clause-gives : goal.turn_matrix-returns-in-Asks-clause-gives
+turn_matrix-returns-in-Asks-clause-gives t c =
+    let S : PlainSignature = entries_of c.args.version.now in
+    let g = rw c.in-Asks.is at c.in_ok-captures.ensures.gives in
+    turns_same S _ _ c.select.new.self.pool c.ask.new.stack.items c.ask.new.left c.ask.result
+    (choice_asks S c.args.matrix c.args.left.now c.args.self.now.pool c.select.new.self.pool c.args.stack.now.items c.in_ok-captures.ensures.keeps c.requires.stack c.select.new.left c.in-Asks.gap c.in-Asks.term g.0 g.1)
+    c.ask.ensures.gives
