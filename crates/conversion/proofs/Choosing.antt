@@ -60,6 +60,11 @@ got f [] i x lt e = absurd (omega arith)
 got f (y ∷ ys) zero x lt e = ap (λ z. Some (f z)) (flip e)
 got f (y ∷ ys) (suc i) x lt e = got f ys i x (omega arith) e
 
+pub got_either : {A : Type 0} (xs : List A) (i : ℕ) (d e : A) → i < length xs → get_or xs i d ≡ get_or xs i e
+got_either [] i d e lt = absurd (omega arith)
+got_either (x ∷ xs) zero d e lt = refl
+got_either (x ∷ xs) (suc i) d e lt = got_either xs i d e (omega arith)
+
 pub past_end : {A B : Type 0} (f : A → B) (xs : List A) (i : ℕ) → length xs ≤ i → slice_get (map f xs) i ≡ None
 past_end f [] i le = refl
 past_end f (x ∷ xs) zero le = absurd (omega arith)

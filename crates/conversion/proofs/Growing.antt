@@ -100,6 +100,9 @@ pub none_captured : (k n : ℕ) → AreCaptures k (replicate n None)
 none_captured k zero = tt
 none_captured k (suc n) = none_captured k n
 
+pub none_captured_here : (k n : ℕ) (cs : List (Option TermId)) → cs ≡ replicate n None → AreCaptures k cs
+none_captured_here k n cs e = subst (λ (l : List (Option TermId)). AreCaptures k l) (flip e) (none_captured k n)
+
 -- a stack of which the top was taken off
 
 pub within_taken : (n i : ℕ) (ids : List TermId) → AreWithin n ids → AreWithin n (take i ids)

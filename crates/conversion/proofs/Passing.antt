@@ -22,8 +22,9 @@ use Rattle.shared_term.specs.Storage.{stored_term}
 use Rattle.shared_term.specs.Changes.{AreCaptures, captured_terms, capture_id}
 use Rattle.conversion.specs.declared.matrix.Cell.{Cell}
 use Rattle.conversion.specs.declared.matrix.Column.{Column}
+use Rattle.conversion.specs.declared.matrix.Row.{Row}
 use Rattle.conversion.specs.declared.row.Step.{Step}
-use Rattle.conversion.specs.Matrix.{plain_cell, column, AreColumns}
+use Rattle.conversion.specs.Matrix.{plain_cell, column, row, AreColumns}
 use Rattle.conversion.specs.Given.{GivesTerm, GivesBool}
 use Rattle.conversion.specs.Selections.{guard_of, step_cell, ActsAs, IsGuard, GivesRow, GivesRowCaptures, GivesCell, GivesPart, GivesCaptures}
 use Rattle.conversion.proofs.Winding.{extends_more}
@@ -223,15 +224,25 @@ cell_caught N C old one two last k k' caught part v xs n m j result cs' x y z w 
     (cell_catches N C v xs (column old k) n (captured_terms old caught) (column one k') (term two part) m g.0 g.1 mv.is result cs' j
     (subst (λ (l : Captures). GivesCaptures (recorded C m l v (term two part)) result cs' j) grown h))
 
-module _ (N : ℕ → Tree → Units Tree) (C : ℕ → Tree → Tree → Units Bool) (r : PlainRow) (cols : List PlainColumn) (n : ℕ) where
-  pub captures_end : (ns : List Node) (cs : List (Option TermId)) → captures_of_row N C r.cells cols n (captured_terms ns cs) ≡ None → cs ≡ replicate r.rule.vars None → row_taken N C r cols n ≡ None
-  captures_end ns cs e q = row_taken_ends N C r cols n (flip (ap (λ l. captures_of_row N C r.cells cols n (captured_terms ns l)) q ∙ ap (captures_of_row N C r.cells cols n) (terms_none ns r.rule.vars)) ∙ e)
+-- what was captured and compared by the code's own lists
 
-  pub guards_end_late : (ns mid : List Node) (cs cs' : List (Option TermId)) (cols' : List Column) (m : ℕ)
-      → captures_of_row N C r.cells cols n (captured_terms ns cs) ≡ Some (record { captures = Some (captured_terms mid cs'); columns = map (column mid) cols' }, m) → cs ≡ replicate r.rule.vars None
-      → guards_hold C r.cells (map (column mid) cols') m (captured_terms mid cs') ≡ None → row_taken N C r cols n ≡ None
-  guards_end_late ns mid cs cs' cols' m e q h = guards_end N C r cols n (map (column mid) cols') (captured_terms mid cs') m
-      (flip (ap (λ l. captures_of_row N C r.cells cols n (captured_terms ns l)) q ∙ ap (captures_of_row N C r.cells cols n) (terms_none ns r.rule.vars)) ∙ e) h
+module _ (N : ℕ → Tree → Units Tree) (C : ℕ → Tree → Tree → Units Bool) (r : Row) (cells : List Cell) (same_cells : cells ≡ r.cells.items) (n : ℕ) where
+  pub captures_begun : (ns : List Node) (cols : List PlainColumn) (cs : List (Option TermId)) (result result' : Result Bool Stop) (cols' : List PlainColumn) (cs' : Captures) (m : ℕ)
+      → cs ≡ replicate (row r).rule.vars None → result ≡ result' → GivesRowCaptures (captures_of_row N C (map plain_cell cells) cols n (captured_terms ns cs)) result cols' cs' m
+      → GivesRowCaptures (captures_of_row N C (row r).cells cols n (captured_terms ns (replicate (row r).rule.vars None))) result' cols' cs' m
+  captures_begun ns cols cs result result' cols' cs' m e q h =
+      subst (λ (o : Result Bool Stop). GivesRowCaptures (captures_of_row N C (row r).cells cols n (captured_terms ns (replicate (row r).rule.vars None))) o cols' cs' m) q
+      (subst (λ (l : List (Option TermId)). GivesRowCaptures (captures_of_row N C (row r).cells cols n (captured_terms ns l)) result cols' cs' m) e
+      (subst (λ (l : List Cell). GivesRowCaptures (captures_of_row N C (map plain_cell l) cols n (captured_terms ns cs)) result cols' cs' m) same_cells h))
+
+  pub guards_begun : (ns : List Node) (cols cols' : List Column) (cs cs' : List (Option TermId)) (result result' : Result Bool Stop) (m : ℕ)
+      → cols ≡ cols' → cs ≡ cs' → result ≡ result' → GivesBool (guards_hold C (map plain_cell cells) (map (column ns) cols) n (captured_terms ns cs)) result m
+      → GivesBool (guards_hold C (row r).cells (map (column ns) cols') n (captured_terms ns cs')) result' m
+  guards_begun ns cols cols' cs cs' result result' m e q p h =
+      subst (λ (o : Result Bool Stop). GivesBool (guards_hold C (row r).cells (map (column ns) cols') n (captured_terms ns cs')) o m) p
+      (subst (λ (l : List (Option TermId)). GivesBool (guards_hold C (row r).cells (map (column ns) cols') n (captured_terms ns l)) result m) q
+      (subst (λ (l : List Column). GivesBool (guards_hold C (row r).cells (map (column ns) l) n (captured_terms ns cs)) result m) e
+      (subst (λ (l : List Cell). GivesBool (guards_hold C (map plain_cell l) (map (column ns) cols) n (captured_terms ns cs)) result m) same_cells h)))
 
 pub set_past : (cs : List (Option TermId)) (k : ℕ) (x : Option TermId) → length cs ≤ k → slice_set cs k x ≡ cs
 set_past [] k x h = refl

@@ -64,7 +64,7 @@ module _ (S : PlainSignature) where
       let c = columns_grown old new p.gap.behind.items x h.gap.behind in
       let d = behind_grown old new p.stack.items x h.stack in
       λ i. bind (whnf_of S p.start (a i)) (λ v n. bind (selection_of S n (b i ++ record { depth = p.gap.depth; term = v } ∷ opened_columns p.gap.depth v ++ c i) (rows_with p.gap v))
-        (after_selection S (wound (symbol p.gap.symbol) (d i))))
+      (after_selection S (wound (symbol p.gap.symbol) (d i))))
 
   pub await_grown : (old new : List Node) (whole due : Units Tree) (ps : List Pause) → Extends old new → ArePauses S (length old) ps → Await S old whole ps due → Await S new whole ps due
   await_grown old new whole due [] x h w = w

@@ -87,6 +87,7 @@ module _ (S : PlainSignature) (ns : List Node) (g : Gap) (t : TermId) (ids : Lis
     where
       no : (p q : Units Tree) → p ≡ None → q ≡ Some (term ns v.id, 0) → p ≡ q → ⊥
       no p q e f g = cc
+
       by : (u : ℕ) → v.units ≡ u → 0 < v.units
       by zero e =
           let f : whnf_of S 0 (term ns t) ≡ Some (term ns v.id, 0) = h.takes.suffices 0 (omega (arith, e)) ∙ ap (λ (j : ℕ). Some (term ns v.id, j)) (omega arith) in

@@ -17,10 +17,12 @@ use Rattle.conversion.specs.Reducers.{right_at, IsLoaded, AreLoaded, IsValue, Ar
 -- a larger pool
 
 pub loaded_grown : (S : PlainSignature) (old new : List Node) (t : Table TermId) → Extends old new → AreLoaded S old t → AreLoaded S new t
-loaded_grown S old new t e h = record { each = λ k i d r. let l = h.each k i d r in record {
-  there = omega (arith, e.longer, l.there);
-  is = l.is ∙ ap (λ (u : Tree). Some u) (flip (e.keeps d.0 l.there));
-} }
+loaded_grown S old new t e h = record {
+  each = λ k i d r. let l = h.each k i d r in record {
+    there = omega (arith, e.longer, l.there);
+    is = l.is ∙ ap (λ (u : Tree). Some u) (flip (e.keeps d.0 l.there));
+  };
+}
 
 value_grown : (S : PlainSignature) (old new : List Node) (i : ℕ) (v : Value) → Extends old new → IsValue S old i v → IsValue S new i v
 value_grown S old new i v e h =
@@ -68,31 +70,39 @@ answers_grown S old new t e h = record { each = λ i j a r. answer_grown S old n
 
 pub loaded_put : (S : PlainSignature) (ns : List Node) (old new : Table TermId) (k i : ℕ) (d : TermId) → AreLoaded S ns old → IsLoaded S ns k i d
     → ((a b : ℕ) (v : TermId) → Remembers new a b v → ((a ≡ k) × (b ≡ i) × (v ≡ d)) ⊎ Remembers old a b v) → AreLoaded S ns new
-loaded_put S ns old new k i d h l put = record { each = λ a b v r. elim (put a b v r) [
-  | inl e ↦ subst (λ (x : TermId). IsLoaded S ns a b x) (flip e.2) (subst (λ (y : ℕ). IsLoaded S ns a y d) (flip e.1) (subst (λ (x : ℕ). IsLoaded S ns x i d) (flip e.0) l))
-  | inr p ↦ h.each a b v p
-] }
+loaded_put S ns old new k i d h l put = record {
+  each = λ a b v r. elim (put a b v r) [
+    | inl e ↦ subst (λ (x : TermId). IsLoaded S ns a b x) (flip e.2) (subst (λ (y : ℕ). IsLoaded S ns a y d) (flip e.1) (subst (λ (x : ℕ). IsLoaded S ns x i d) (flip e.0) l))
+    | inr p ↦ h.each a b v p
+  ];
+}
 
 pub values_put : (S : PlainSignature) (ns : List Node) (old new : Table Value) (k j : ℕ) (i : Value) → AreValues S ns old → IsValue S ns k i
     → ((a b : ℕ) (v : Value) → Remembers new a b v → ((a ≡ k) × (b ≡ j) × (v ≡ i)) ⊎ Remembers old a b v) → AreValues S ns new
-values_put S ns old new k j i h l put = record { each = λ a b v r. elim (put a b v r) [
-  | inl e ↦ subst (λ (x : Value). IsValue S ns a x) (flip e.2) (subst (λ (x : ℕ). IsValue S ns x i) (flip e.0) l)
-  | inr p ↦ h.each a b v p
-] }
+values_put S ns old new k j i h l put = record {
+  each = λ a b v r. elim (put a b v r) [
+    | inl e ↦ subst (λ (x : Value). IsValue S ns a x) (flip e.2) (subst (λ (x : ℕ). IsValue S ns x i) (flip e.0) l)
+    | inr p ↦ h.each a b v p
+  ];
+}
 
 pub normals_put : (S : PlainSignature) (ns : List Node) (old new : Table Value) (k j : ℕ) (i : Value) → AreNormals S ns old → IsNormal S ns k i
     → ((a b : ℕ) (v : Value) → Remembers new a b v → ((a ≡ k) × (b ≡ j) × (v ≡ i)) ⊎ Remembers old a b v) → AreNormals S ns new
-normals_put S ns old new k j i h l put = record { each = λ a b v r. elim (put a b v r) [
-  | inl e ↦ subst (λ (x : Value). IsNormal S ns a x) (flip e.2) (subst (λ (x : ℕ). IsNormal S ns x i) (flip e.0) l)
-  | inr p ↦ h.each a b v p
-] }
+normals_put S ns old new k j i h l put = record {
+  each = λ a b v r. elim (put a b v r) [
+    | inl e ↦ subst (λ (x : Value). IsNormal S ns a x) (flip e.2) (subst (λ (x : ℕ). IsNormal S ns x i) (flip e.0) l)
+    | inr p ↦ h.each a b v p
+  ];
+}
 
 pub answers_put : (S : PlainSignature) (ns : List Node) (old new : Table Answer) (k j : ℕ) (i : Answer) → AreAnswers S ns old → IsAnswer S ns k j i
     → ((a b : ℕ) (v : Answer) → Remembers new a b v → ((a ≡ k) × (b ≡ j) × (v ≡ i)) ⊎ Remembers old a b v) → AreAnswers S ns new
-answers_put S ns old new k j i h l put = record { each = λ a b v r. elim (put a b v r) [
-  | inl e ↦ subst (λ (x : Answer). IsAnswer S ns a b x) (flip e.2) (subst (λ (y : ℕ). IsAnswer S ns a y i) (flip e.1) (subst (λ (x : ℕ). IsAnswer S ns x j i) (flip e.0) l))
-  | inr p ↦ h.each a b v p
-] }
+answers_put S ns old new k j i h l put = record {
+  each = λ a b v r. elim (put a b v r) [
+    | inl e ↦ subst (λ (x : Answer). IsAnswer S ns a b x) (flip e.2) (subst (λ (y : ℕ). IsAnswer S ns a y i) (flip e.1) (subst (λ (x : ℕ). IsAnswer S ns x j i) (flip e.0) l))
+    | inr p ↦ h.each a b v p
+  ];
+}
 
 -- none
 

@@ -67,7 +67,7 @@ TurnsMatrix v old m ids n turn new ids' left = TurnsTo (entries_of v) (rewritten
 abbrev pub PutsRight : PoolReducer → List (Option TermId) → SymbolRule → Vec TermId Global → PoolReducer → TermId → Vec TermId Global → Type 0
 PutsRight old taken r ids new t ids' =
     (wound (term new.pool t) (behind new.pool ids'.items)
-      ≡ applied (filled (captured_terms old.pool taken) 0 (plain_rule_of r).right) (drop (length (plain_rule_of r).pats) (from_top (behind old.pool ids.items)))) × (t.0 < length new.pool)
+    ≡ applied (filled (captured_terms old.pool taken) 0 (plain_rule_of r).right) (drop (length (plain_rule_of r).pats) (from_top (behind old.pool ids.items)))) × (t.0 < length new.pool)
 
 -- selection
 

@@ -11,7 +11,7 @@ use shared_term::TermId;
 use signature_log::Version;
 
 impl PoolReducer {
-    /// Whether two terms are convertible.
+    /// Whether two terms are convertible. Not written yet: it answers want of memory.
     #[cycle(evaluation)]
     pub(crate) fn compare(
         &mut self,

@@ -111,7 +111,9 @@ impl PoolReducer {
                             let units = pause.start - *left;
                             let key = pause.asked.number();
                             self.values.put(key, 0, Value { id: value, units });
-                            next = Next::Selection(closed(self.alloc, &self.pool, pause.gap, value)?);
+                            next = Next::Selection(closed(
+                                self.alloc, &self.pool, pause.gap, value,
+                            )?);
                         }
                     }
                 }

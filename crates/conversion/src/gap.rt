@@ -156,11 +156,7 @@ fn body_column(alloc: Global, depth: u64, body: TermId) -> Result<Vec<Column>, N
 
 /// A column at this depth for each argument of a stack, the top one first.
 #[tactic(auto, using(crate::proofs::Opening::from_top_pushed))]
-fn argument_columns(
-    alloc: Global,
-    depth: u64,
-    stack: Vec<TermId>,
-) -> Result<Vec<Column>, NoMemory>
+fn argument_columns(alloc: Global, depth: u64, stack: Vec<TermId>) -> Result<Vec<Column>, NoMemory>
     ensures { IfOk result (λ columns. columns.items
         ≡ map (argument_column depth) (from_top stack.items)) }
 {

@@ -309,8 +309,8 @@ pub(crate) fn width(count: usize, rules: &Rows, symbol: u32) -> usize
     let mut width = 0;
     for at in 0..rules.len() {
         let patterns = rule_at(rules, symbol, at).pattern_count();
-        if patterns <= count {
-            width = width.max(patterns);
+        if patterns <= count && width < patterns {
+            width = patterns;
         }
     }
     width

@@ -11,7 +11,7 @@ use shared_term::TermId;
 use signature_log::Version;
 
 impl PoolReducer {
-    /// The normal form of a term.
+    /// The normal form of a term. Not written yet: it answers want of memory.
     #[cycle(evaluation)]
     pub(crate) fn normalise(
         &mut self,

@@ -32,7 +32,7 @@ pub(crate) enum Step<'v> {
 impl PoolReducer {
     /// Whether a row that asks for no head is taken, with its captures.
     #[cycle(evaluation)]
-    #[tactic(auto, using(crate::proofs::Winding::extends_none, crate::proofs::Winding::extends_more, crate::proofs::Serving::loaded_grown, crate::proofs::Serving::values_grown, crate::proofs::Serving::normals_grown, crate::proofs::Serving::answers_grown, crate::proofs::Growing::columns_within, crate::proofs::Growing::captures_within, crate::proofs::Growing::none_captured, crate::proofs::Passing::captures_end, crate::proofs::Passing::guards_end_late))]
+    #[tactic(auto, using(crate::proofs::Winding::extends_none, crate::proofs::Winding::extends_more, crate::proofs::Serving::loaded_grown, crate::proofs::Serving::values_grown, crate::proofs::Serving::normals_grown, crate::proofs::Serving::answers_grown, crate::proofs::Growing::columns_within, crate::proofs::Growing::captures_within, crate::proofs::Growing::none_captured_here))]
     pub(crate) fn row_taken(
         &mut self,
         version: &Version,
@@ -51,13 +51,22 @@ impl PoolReducer {
     {
         let cells = row.cells.as_slice();
         let mut captures = no_captures(self.alloc, row.rule)?;
-        if !self.captures_of_row(version, cells, columns, &mut captures, left)? {
-            return Ok(None);
+        match self.captures_of_row(version, cells, columns, &mut captures, left) {
+            Ok(true) => {}
+            Ok(false) => return Ok(None),
+            Err(stop) => return Err(stop),
         }
-        if !self.guards_hold(version, cells, columns.as_slice(), captures.as_slice(), left)? {
-            return Ok(None);
+        match self.guards_hold(
+            version,
+            cells,
+            columns.as_slice(),
+            captures.as_slice(),
+            left,
+        ) {
+            Ok(true) => Ok(Some(captures)),
+            Ok(false) => Ok(None),
+            Err(stop) => Err(stop),
         }
-        Ok(Some(captures))
     }
 
     /// The captures of a row from left to right; false where it fails.
@@ -207,7 +216,7 @@ impl PoolReducer {
         ensures spent { left.new ≤ left.old }
     {
         for i in 0..cells.len().min(columns.len()) {
-            match self.guard_holds(version, &cells[i], columns[i], captures, left) {
+            match self.guard_holds(version, &cells[i], &columns[i], captures, left) {
                 Ok(true) => {}
                 Ok(false) => return Ok(false),
                 Err(stop) => return Err(stop),
@@ -223,15 +232,15 @@ impl PoolReducer {
         &mut self,
         version: &Version,
         cell: &Cell,
-        column: Column,
+        column: &Column,
         captures: &[Option<TermId>],
         left: &mut u64,
     ) -> Result<bool, Stop>
-        requires column { column.term.0 < length self.old.pool }
+        requires column { column.now.term.0 < length self.old.pool }
         requires captures { AreCaptures (length self.old.pool) captures.now }
         requires serves { Serves (entries_of version.now) self.old }
-        ensures gives { HoldsGuard version.now self.old cell.now column captures.now left.old result
-            left.new }
+        ensures gives { HoldsGuard version.now self.old cell.now column.now captures.now left.old
+            result left.new }
         ensures keeps { Extends self.old.pool self.new.pool }
         ensures serves { Serves (entries_of version.now) self.new }
         ensures spent { left.new ≤ left.old }

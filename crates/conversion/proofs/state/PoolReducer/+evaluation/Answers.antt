@@ -1,5 +1,5 @@
-use Rattle.std.proofs.Common.{◌≡◌, ◌∙◌, ◌<◌, ◌≤◌, ◌+◌, ◌-◌, ◌++◌, ◌∷◌, [], List, Vec, Global, map, drop, length, ℕ, None, Some, Ok, Err, ap, subst, refl, sym as flip, arith}
-use Rattle.std.specs.Prelude.{replicate}
+use Rattle.std.proofs.Common.{◌≡◌, ◌∙◌, ◌<◌, ◌≤◌, ◌+◌, ◌-◌, ◌++◌, ◌∷◌, [], List, Vec, Global, map, drop, length, ℕ, true, false, None, Some, Ok, Err, ap, subst, refl, sym as flip, arith}
+use Rattle.std.specs.Prelude.{replicate, get_or}
 use Rattle.dk_model.specs.Trees.{Tree, symbol}
 use Rattle.dk_model.specs.Signatures.{PlainRule, PlainSignature}
 use Rattle.dk_model.specs.SymbolRules.{rules_of}
@@ -24,8 +24,8 @@ use Rattle.conversion.specs.Turning.{next_due}
 use Rattle.conversion.proofs.Winding.{extends_more}
 use Rattle.conversion.proofs.Serving.{value_made, values_put, loaded_grown, values_grown, normals_grown, answers_grown}
 use Rattle.conversion.proofs.Growing.{columns_set, columns_within, columns_taken, columns_dropped, column_within, captures_within, captures_grown, none_captured}
-use Rattle.conversion.proofs.Choosing.{row_fails, row_takes, row_ends, no_column, row_asks, no_choice, past_end, among_item}
-use Rattle.conversion.proofs.Passing.{row_goes, row_misses, row_stops, row_ended, guard_goes, guard_misses, guard_stops, guards_ended, cell_misses, cell_caught, cell_given, recorded_new, recorded_before, set_past, guard_compared, row_misses_all, guards_miss_all, row_takes_all}
+use Rattle.conversion.proofs.Choosing.{row_fails, row_takes, row_ends, no_column, row_asks, no_choice, got_either, past_end, among_item}
+use Rattle.conversion.proofs.Passing.{row_goes, row_misses, row_stops, row_ended, guard_goes, guard_misses, guard_stops, guards_ended, cell_misses, cell_caught, cell_given, recorded_new, recorded_before, set_past, guard_compared, captures_begun, guards_begun, row_misses_all, row_ends_all, guards_miss_all, guards_end_all, row_takes_all}
 use Rattle.conversion.proofs.Pausing.{await_grown, pauses_grown, pauses_pushed, pauses_popped, popped_pause}
 use Rattle.conversion.proofs.Evaluating.{await_on, asks_on, awaited_is, awaited_falls, closed_on, awaited_value, await_done}
 use Rattle.conversion.proofs.Selecting.{turns_same, choice_goes, choice_stands, choice_asks}
@@ -170,7 +170,7 @@ evaluated-loop-stack-preserved-in_ok-push_pause-in-Asks t c =
     let is : c.push_pause.new.pauses.items ≡ c.loop-stack.pauses.items ++ (c.in-Asks.pause ∷ []) = c.in_ok-push_pause-in-Asks.ensures in
     record {
       awaits = subst (λ (l : List Pause). Await S c.turn.new.self.pool (whnf_of S c.args.left.now (term c.args.self.now.pool c.args.whole)) l
-            (whnf_of S c.turn.new.left (wound (term c.turn.new.self.pool c.in-Asks.pause.asked) (behind c.turn.new.self.pool c.turn.new.stack.items)))) (flip is)
+          (whnf_of S c.turn.new.left (wound (term c.turn.new.self.pool c.in-Asks.pause.asked) (behind c.turn.new.self.pool c.turn.new.stack.items)))) (flip is)
           (asks_on S c.loop-stack.self.pool c.turn.new.self.pool _ _ c.loop-stack.pauses.items c.in-Asks.pause c.turn.new.stack.items c.turn.new.left x c.loop-stack.invariant.pauses c.loop-stack.invariant.awaits g);
       next = g.3.asked;
       stack = c.in_ok-term.ensures.stack;
@@ -187,10 +187,12 @@ evaluated-returns-in-None-clause-gives t c =
     let S : PlainSignature = entries_of c.args.version.now in
     let x = extends_more c.loop-stack.self.pool c.turn.new.self.pool c.wind.new.pool c.in_ok-term.ensures.keeps c.in_ok-value-in-Stands.ensures.keeps in
     let g = rw c.in-Stands.is at c.in_ok-term.ensures.gives in
-    let none : length c.loop-stack.pauses.items ≡ 0 = omega (arith, c.in-None.ensures.cases.0, c.loop-stack.pauses.ok.0) in
-    (await_done S c.wind.new.pool _ _ c.loop-stack.pauses.items none
-    (await_on S c.loop-stack.self.pool c.wind.new.pool _ _ _ c.loop-stack.pauses.items x c.loop-stack.invariant.pauses c.loop-stack.invariant.awaits
-    (g.0 ∙ ap (λ (v : Tree). Some (v, c.turn.new.left)) (flip c.in_ok-value-in-Stands.ensures.whole))), c.in_ok-value-in-Stands.ensures.there)
+    let none : length c.loop-stack.pauses.items ≡ 0 = omega (arith, c.in-None.ensures.cases.0, c.loop-stack.pauses.ok.0) in (
+      await_done S c.wind.new.pool _ _ c.loop-stack.pauses.items none
+          (await_on S c.loop-stack.self.pool c.wind.new.pool _ _ _ c.loop-stack.pauses.items x c.loop-stack.invariant.pauses c.loop-stack.invariant.awaits
+          (g.0 ∙ ap (λ (v : Tree). Some (v, c.turn.new.left)) (flip c.in_ok-value-in-Stands.ensures.whole))),
+      c.in_ok-value-in-Stands.ensures.there,
+    )
 
 pub evaluated-overflow_sub-units : goal.evaluated-overflow_sub-units
 evaluated-overflow_sub-units t c =
@@ -275,10 +277,13 @@ evaluated-loop-stack-preserved t c =
 
 -- the guards of a row
 
+abbrev first_column : Column
+first_column = record { depth = 0; term = record { 0 = 0 } }
+
 pub guard_holds-returns-in_ok-guard-in-Guards-clause-gives : goal.guard_holds-returns-in_ok-guard-in-Guards-clause-gives
 guard_holds-returns-in_ok-guard-in-Guards-clause-gives t c =
     let S : PlainSignature = entries_of c.args.version.now in
-    guard_compared (comparison_of S) c.args.cell.now c.step_of.result c.in-Guards.guard.now c.args.self.now.pool c.guard_under.new.pool c.args.column c.in_ok-guard-in-Guards.guard c.args.left.now c.compare.new.left
+    guard_compared (comparison_of S) c.args.cell.now c.step_of.result c.in-Guards.guard.now c.args.self.now.pool c.guard_under.new.pool c.args.column.now c.in_ok-guard-in-Guards.guard c.args.left.now c.compare.new.left
     (captured_terms c.args.self.now.pool c.args.captures.now) c.compare.result c.step_of.ensures (ap step_cell c.in-Guards.is) c.in_ok-guard-in-Guards.ensures.keeps c.requires.column c.in_ok-guard-in-Guards.ensures.is c.compare.ensures.gives
 
 pub guards_hold-loop-i-preserved : goal.guards_hold-loop-i-preserved
@@ -286,10 +291,11 @@ guards_hold-loop-i-preserved t c =
     let S : PlainSignature = entries_of c.args.version.now in
     let lt : c.loop-i.i < length c.args.cells.now = omega (arith, c.min-i-end.ensures) in
     let lt' : c.loop-i.i < length c.args.columns.now = omega (arith, c.min-i-end.ensures) in
+    let k : Column = get_or c.args.columns.now c.loop-i.i first_column in
     let h = rw c.in-Ok-true.field-0-test at c.in-Ok-true.ensures.gives in
     record {
       same = guard_goes (normal_of S) (comparison_of S) c.loop-i.self.pool c.guard_holds.new.self.pool c.in-Ok-true.ensures.keeps c.args.cells.now c.args.columns.now c.loop-i.i c.loop-i.left c.guard_holds.new.left
-          (captured_terms c.loop-i.self.pool c.args.captures.now) c.index-cells-i.result c.index-columns-i.result lt c.index-cells-i.is lt' c.index-columns-i.is c.loop-i.invariant.columns
+          (captured_terms c.loop-i.self.pool c.args.captures.now) c.index-cells-i.result k lt c.index-cells-i.is lt' (got_either c.args.columns.now c.loop-i.i first_column k lt') c.loop-i.invariant.columns
           (captured_terms c.guard_holds.new.self.pool c.args.captures.now) (captures_grown c.loop-i.self.pool c.guard_holds.new.self.pool c.args.captures.now c.in-Ok-true.ensures.keeps c.loop-i.invariant.captures) h
           ∙ c.loop-i.invariant.same;
       columns = columns_within c.loop-i.self.pool c.guard_holds.new.self.pool c.args.columns.now c.in-Ok-true.ensures.keeps c.loop-i.invariant.columns;
@@ -304,18 +310,20 @@ guards_hold-returns-in-Ok-false-clause-gives t c =
     let S : PlainSignature = entries_of c.args.version.now in
     let lt : c.loop-i.i < length c.args.cells.now = omega (arith, c.min-i-end.ensures) in
     let lt' : c.loop-i.i < length c.args.columns.now = omega (arith, c.min-i-end.ensures) in
+    let k : Column = get_or c.args.columns.now c.loop-i.i first_column in
     let h = rw c.in-Ok-false.field-0-test at c.in-Ok-false.ensures.gives in
     flip c.loop-i.invariant.same
     ∙ guard_misses (normal_of S) (comparison_of S) c.loop-i.self.pool c.guard_holds.new.self.pool c.in-Ok-false.ensures.keeps c.args.cells.now c.args.columns.now c.loop-i.i c.loop-i.left c.guard_holds.new.left
-    (captured_terms c.loop-i.self.pool c.args.captures.now) c.index-cells-i.result c.index-columns-i.result lt c.index-cells-i.is lt' c.index-columns-i.is c.loop-i.invariant.columns h
+    (captured_terms c.loop-i.self.pool c.args.captures.now) c.index-cells-i.result k lt c.index-cells-i.is lt' (got_either c.args.columns.now c.loop-i.i first_column k lt') c.loop-i.invariant.columns h
 
 pub guards_hold-returns-in-Err-clause-gives : goal.guards_hold-returns-in-Err-clause-gives
 guards_hold-returns-in-Err-clause-gives t c =
     let S : PlainSignature = entries_of c.args.version.now in
     let lt : c.loop-i.i < length c.args.cells.now = omega (arith, c.min-i-end.ensures) in
     let lt' : c.loop-i.i < length c.args.columns.now = omega (arith, c.min-i-end.ensures) in
+    let k : Column = get_or c.args.columns.now c.loop-i.i first_column in
     guard_stops (normal_of S) (comparison_of S) c.loop-i.self.pool c.guard_holds.new.self.pool c.in-Err.ensures.keeps c.args.cells.now c.args.columns.now c.loop-i.i c.loop-i.left c.guard_holds.new.left
-    (captured_terms c.loop-i.self.pool c.args.captures.now) c.index-cells-i.result c.index-columns-i.result lt c.index-cells-i.is lt' c.index-columns-i.is c.loop-i.invariant.columns
+    (captured_terms c.loop-i.self.pool c.args.captures.now) c.index-cells-i.result k lt c.index-cells-i.is lt' (got_either c.args.columns.now c.loop-i.i first_column k lt') c.loop-i.invariant.columns
     _ c.in-Err.stop c.loop-i.invariant.same c.in-Err.ensures.gives
 
 pub guards_hold-returns-clause-gives : goal.guards_hold-returns-clause-gives
@@ -343,35 +351,63 @@ record-returns-in-Some-clause-gives t c =
 
 -- a row
 
-pub row_taken-captures_of_row-requires : goal.row_taken-captures_of_row-requires
-row_taken-captures_of_row-requires t c = record {
-  columns = c.requires.columns;
-  captures = subst (λ (l : List _). AreCaptures (length c.args.self.now.pool) l) (flip c.in_ok-captures.ensures) (none_captured (length c.args.self.now.pool) (plain_rule_of c.args.row.now.rule).vars);
-  serves = c.requires.serves;
-}
-
-pub row_taken-returns-then-not-branch-clause-gives : goal.row_taken-returns-then-not-branch-clause-gives
-row_taken-returns-then-not-branch-clause-gives t c =
+pub row_taken-returns-in-Ok-false-clause-gives : goal.row_taken-returns-in-Ok-false-clause-gives
+row_taken-returns-in-Ok-false-clause-gives t c =
     let S : PlainSignature = entries_of c.args.version.now in
+    let g = captures_begun (normal_of S) (comparison_of S) c.args.row.now c.as_slice-cells.result.now c.as_slice-cells.ensures.value c.args.left.now c.args.self.now.pool (plain c.args.self.now.pool c.args.columns.now)
+    c.in_ok-captures.captures.items (Ok c.in-Ok-false.field-0) (Ok false) (plain c.captures_of_row.new.self.pool c.captures_of_row.new.columns) (captured_terms c.captures_of_row.new.self.pool c.captures_of_row.new.captures.items)
+    c.captures_of_row.new.left c.in_ok-captures.ensures (ap Ok c.in-Ok-false.field-0-test) c.in-Ok-false.ensures.gives in
     row_misses_all (normal_of S) (comparison_of S) (row c.args.row.now) (plain c.args.self.now.pool c.args.columns.now) c.args.left.now c.args.self.now.pool (plain c.captures_of_row.new.self.pool c.captures_of_row.new.columns)
-    c.captures_of_row.new.left (rw (c.as_slice-cells.ensures.value, c.in_ok-captures.ensures, c.if-not-branch.true) at c.in_ok-captures_of_row.ensures.gives)
+    c.captures_of_row.new.left g
 
-pub row_taken-returns-then-not-branch-2-clause-gives : goal.row_taken-returns-then-not-branch-2-clause-gives
-row_taken-returns-then-not-branch-2-clause-gives t c =
+pub row_taken-returns-in-Err-clause-gives : goal.row_taken-returns-in-Err-clause-gives
+row_taken-returns-in-Err-clause-gives t c =
     let S : PlainSignature = entries_of c.args.version.now in
+    let g = captures_begun (normal_of S) (comparison_of S) c.args.row.now c.as_slice-cells.result.now c.as_slice-cells.ensures.value c.args.left.now c.args.self.now.pool (plain c.args.self.now.pool c.args.columns.now)
+    c.in_ok-captures.captures.items (Err c.in-Err.stop) (Err c.in-Err.stop) (plain c.captures_of_row.new.self.pool c.captures_of_row.new.columns) (captured_terms c.captures_of_row.new.self.pool c.captures_of_row.new.captures.items)
+    c.captures_of_row.new.left c.in_ok-captures.ensures refl c.in-Err.ensures.gives in
+    row_ends_all (normal_of S) (comparison_of S) (row c.args.row.now) (plain c.args.self.now.pool c.args.columns.now) c.args.left.now c.args.self.now.pool c.captures_of_row.new.self.pool c.in-Err.stop
+    (plain c.captures_of_row.new.self.pool c.captures_of_row.new.columns) (plain c.captures_of_row.new.self.pool c.captures_of_row.new.columns) (captured_terms c.captures_of_row.new.self.pool c.captures_of_row.new.captures.items)
+    c.captures_of_row.new.left g
+
+pub row_taken-returns-in-Ok-false-guards_hold-clause-gives : goal.row_taken-returns-in-Ok-false-guards_hold-clause-gives
+row_taken-returns-in-Ok-false-guards_hold-clause-gives t c =
+    let S : PlainSignature = entries_of c.args.version.now in
+    let g = captures_begun (normal_of S) (comparison_of S) c.args.row.now c.as_slice-cells.result.now c.as_slice-cells.ensures.value c.args.left.now c.args.self.now.pool (plain c.args.self.now.pool c.args.columns.now)
+    c.in_ok-captures.captures.items (Ok c.in-Ok-true.field-0) (Ok true) (plain c.captures_of_row.new.self.pool c.captures_of_row.new.columns) (captured_terms c.captures_of_row.new.self.pool c.captures_of_row.new.captures.items)
+    c.captures_of_row.new.left c.in_ok-captures.ensures (ap Ok c.in-Ok-true.field-0-test) c.in-Ok-true.ensures.gives in
+    let h = guards_begun (normal_of S) (comparison_of S) c.args.row.now c.as_slice-cells.result.now c.as_slice-cells.ensures.value c.captures_of_row.new.left c.captures_of_row.new.self.pool
+    c.as_slice.result.now c.captures_of_row.new.columns.items c.as_slice-2.result.now c.captures_of_row.new.captures.items (Ok c.in-Ok-false-guards_hold.field-0) (Ok false) c.guards_hold.new.left
+    c.as_slice.ensures.value c.as_slice-2.ensures.value (ap Ok c.in-Ok-false-guards_hold.field-0-test) c.in-Ok-false-guards_hold.ensures.gives in
     guards_miss_all (normal_of S) (comparison_of S) (row c.args.row.now) (plain c.args.self.now.pool c.args.columns.now) c.args.left.now c.args.self.now.pool c.captures_of_row.new.self.pool c.guards_hold.new.self.pool
-    c.captures_of_row.new.columns.items c.captures_of_row.new.captures.items c.captures_of_row.new.left c.in_ok-guards_hold.ensures.keeps c.in_ok-captures_of_row.ensures.columns
-    (rw (c.as_slice-cells.ensures.value, c.in_ok-captures.ensures, c.if-not-branch.false) at c.in_ok-captures_of_row.ensures.gives) c.guards_hold.new.left
-    (rw (c.as_slice-cells.ensures.value, c.as_slice.ensures.value, c.as_slice-2.ensures.value, c.if-not-branch-2.true) at c.in_ok-guards_hold.ensures.gives)
+    c.captures_of_row.new.columns.items c.captures_of_row.new.captures.items c.captures_of_row.new.left c.in-Ok-false-guards_hold.ensures.keeps c.in-Ok-true.ensures.columns g c.guards_hold.new.left h
 
-pub row_taken-returns-clause-gives : goal.row_taken-returns-clause-gives
-row_taken-returns-clause-gives t c =
+pub row_taken-returns-in-Err-guards_hold-clause-gives : goal.row_taken-returns-in-Err-guards_hold-clause-gives
+row_taken-returns-in-Err-guards_hold-clause-gives t c =
     let S : PlainSignature = entries_of c.args.version.now in
-    (row_takes_all (normal_of S) (comparison_of S) (row c.args.row.now) (plain c.args.self.now.pool c.args.columns.now) c.args.left.now c.args.self.now.pool c.captures_of_row.new.self.pool c.guards_hold.new.self.pool
-    c.captures_of_row.new.columns.items c.captures_of_row.new.captures.items c.captures_of_row.new.left c.in_ok-guards_hold.ensures.keeps c.in_ok-captures_of_row.ensures.columns
-    (rw (c.as_slice-cells.ensures.value, c.in_ok-captures.ensures, c.if-not-branch.false) at c.in_ok-captures_of_row.ensures.gives) c.guards_hold.new.left c.in_ok-captures_of_row.ensures.captures
-    (rw (c.as_slice-cells.ensures.value, c.as_slice.ensures.value, c.as_slice-2.ensures.value, c.if-not-branch-2.false) at c.in_ok-guards_hold.ensures.gives),
-    captures_within c.captures_of_row.new.self.pool c.guards_hold.new.self.pool c.captures_of_row.new.captures.items c.in_ok-guards_hold.ensures.keeps c.in_ok-captures_of_row.ensures.captures)
+    let g = captures_begun (normal_of S) (comparison_of S) c.args.row.now c.as_slice-cells.result.now c.as_slice-cells.ensures.value c.args.left.now c.args.self.now.pool (plain c.args.self.now.pool c.args.columns.now)
+    c.in_ok-captures.captures.items (Ok c.in-Ok-true.field-0) (Ok true) (plain c.captures_of_row.new.self.pool c.captures_of_row.new.columns) (captured_terms c.captures_of_row.new.self.pool c.captures_of_row.new.captures.items)
+    c.captures_of_row.new.left c.in_ok-captures.ensures (ap Ok c.in-Ok-true.field-0-test) c.in-Ok-true.ensures.gives in
+    let h = guards_begun (normal_of S) (comparison_of S) c.args.row.now c.as_slice-cells.result.now c.as_slice-cells.ensures.value c.captures_of_row.new.left c.captures_of_row.new.self.pool
+    c.as_slice.result.now c.captures_of_row.new.columns.items c.as_slice-2.result.now c.captures_of_row.new.captures.items (Err c.in-Err-guards_hold.stop) (Err c.in-Err-guards_hold.stop) c.guards_hold.new.left
+    c.as_slice.ensures.value c.as_slice-2.ensures.value refl c.in-Err-guards_hold.ensures.gives in
+    guards_end_all (normal_of S) (comparison_of S) (row c.args.row.now) (plain c.args.self.now.pool c.args.columns.now) c.args.left.now c.args.self.now.pool c.captures_of_row.new.self.pool c.guards_hold.new.self.pool
+    c.captures_of_row.new.columns.items c.captures_of_row.new.captures.items c.captures_of_row.new.left c.in-Err-guards_hold.ensures.keeps c.in-Ok-true.ensures.columns g
+    c.guards_hold.new.self.pool c.in-Err-guards_hold.stop (plain c.guards_hold.new.self.pool c.captures_of_row.new.columns) c.guards_hold.new.left h
+
+pub row_taken-returns-in-Ok-true-guards_hold-clause-gives : goal.row_taken-returns-in-Ok-true-guards_hold-clause-gives
+row_taken-returns-in-Ok-true-guards_hold-clause-gives t c =
+    let S : PlainSignature = entries_of c.args.version.now in
+    let g = captures_begun (normal_of S) (comparison_of S) c.args.row.now c.as_slice-cells.result.now c.as_slice-cells.ensures.value c.args.left.now c.args.self.now.pool (plain c.args.self.now.pool c.args.columns.now)
+    c.in_ok-captures.captures.items (Ok c.in-Ok-true.field-0) (Ok true) (plain c.captures_of_row.new.self.pool c.captures_of_row.new.columns) (captured_terms c.captures_of_row.new.self.pool c.captures_of_row.new.captures.items)
+    c.captures_of_row.new.left c.in_ok-captures.ensures (ap Ok c.in-Ok-true.field-0-test) c.in-Ok-true.ensures.gives in
+    let h = guards_begun (normal_of S) (comparison_of S) c.args.row.now c.as_slice-cells.result.now c.as_slice-cells.ensures.value c.captures_of_row.new.left c.captures_of_row.new.self.pool
+    c.as_slice.result.now c.captures_of_row.new.columns.items c.as_slice-2.result.now c.captures_of_row.new.captures.items (Ok c.in-Ok-true-guards_hold.field-0) (Ok true) c.guards_hold.new.left
+    c.as_slice.ensures.value c.as_slice-2.ensures.value (ap Ok c.in-Ok-true-guards_hold.field-0-test) c.in-Ok-true-guards_hold.ensures.gives in (
+      row_takes_all (normal_of S) (comparison_of S) (row c.args.row.now) (plain c.args.self.now.pool c.args.columns.now) c.args.left.now c.args.self.now.pool c.captures_of_row.new.self.pool c.guards_hold.new.self.pool
+          c.captures_of_row.new.columns.items c.captures_of_row.new.captures.items c.captures_of_row.new.left c.in-Ok-true-guards_hold.ensures.keeps c.in-Ok-true.ensures.columns g c.guards_hold.new.left c.in-Ok-true.ensures.captures h,
+      captures_within c.captures_of_row.new.self.pool c.guards_hold.new.self.pool c.captures_of_row.new.captures.items c.in-Ok-true-guards_hold.ensures.keeps c.in-Ok-true.ensures.captures,
+    )
 
 -- the rounds of a selection
 
@@ -392,7 +428,7 @@ select-returns-in-Err-clause-gives t c =
     let S : PlainSignature = entries_of c.args.version.now in
     let lt : c.loop-tried.tried < length c.args.matrix.rows.items = omega (arith, c.loop-tried-test.true, c.len-tried-end.ensures, c.args.matrix.rows.ok.0) in
     let e : rigid_at (row c.index-row.result.now).cells ≡ None = ap (λ (l : List Cell). rigid_at (map plain_cell l)) (flip c.as_slice.ensures.value) ∙ flip c.in-None.ensures.value in
-    no_choice S c.args.matrix.symbol _ _ _ _ c.in-Err.stop _ _ (λ h. flip c.loop-tried.invariant.same ∙ row_ends S c.args.matrix.rows.items c.loop-tried.tried c.loop-tried.left (plain c.loop-tried.self.pool c.loop-tried.columns)
+    no_choice S c.args.matrix.symbol _ _ c.row_taken.new.self.pool c.row_taken.new.self.pool c.in-Err.stop _ _ (λ h. flip c.loop-tried.invariant.same ∙ row_ends S c.args.matrix.rows.items c.loop-tried.tried c.loop-tried.left (plain c.loop-tried.self.pool c.loop-tried.columns)
     c.index-row.result.now lt c.index-row.ensures e h) c.in-Err.ensures.gives
 
 pub select-returns-then-at-len-clause-gives : goal.select-returns-then-at-len-clause-gives

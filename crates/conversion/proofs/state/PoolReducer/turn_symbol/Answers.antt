@@ -24,9 +24,11 @@ returns-in_ok-brought-in-Some-Body-clause-gives c = λ n.
     ap (λ l. slice_get l 0) (flip c.rules_of-rules.ensures) ∙ flip (rw c.in-Some-Body.field-0-is at (c.in-Some-Body.ensures c.args.symbol)) in
     let l = c.in_ok-brought-in-Some-Body.ensures.gives in
     let is : b ≡ term c.brought.new.self.pool c.in_ok-brought-in-Some-Body.field-0 =
-    same_some b (term c.brought.new.self.pool c.in_ok-brought-in-Some-Body.field-0) (flip (right_is (entries_of c.args.version.now) c.args.symbol 0 (unfolding_rule c.args.symbol b) q) ∙ l.is) in
-    (symbol_unfolds (entries_of c.args.version.now) n c.args.symbol c.args.self.now.pool c.brought.new.self.pool c.args.stack.now b c.in_ok-brought-in-Some-Body.field-0 q is
-    c.in_ok-brought-in-Some-Body.ensures.keeps c.requires.stack, l.there)
+    same_some b (term c.brought.new.self.pool c.in_ok-brought-in-Some-Body.field-0) (flip (right_is (entries_of c.args.version.now) c.args.symbol 0 (unfolding_rule c.args.symbol b) q) ∙ l.is) in (
+      symbol_unfolds (entries_of c.args.version.now) n c.args.symbol c.args.self.now.pool c.brought.new.self.pool c.args.stack.now b c.in_ok-brought-in-Some-Body.field-0 q is
+          c.in_ok-brought-in-Some-Body.ensures.keeps c.requires.stack,
+      l.there,
+    )
 
 pub returns-in_ok-matrix_of-in-Some-Rule-clause-gives : goal.returns-in_ok-matrix_of-in-Some-Rule-clause-gives
 returns-in_ok-matrix_of-in-Some-Rule-clause-gives c = λ n. (
