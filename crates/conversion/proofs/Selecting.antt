@@ -7,7 +7,8 @@ use Rattle.std.proofs.lemmas.List.{length-map, take-map}
 use Rattle.dk_model.specs.Trees.{Tree, symbol}
 use Rattle.dk_model.specs.Signatures.{PlainRule, PlainSignature}
 use Rattle.dk_model.specs.SymbolRules.{rules_of}
-use Rattle.dk_model.specs.Units.{Units, bind, Takes}
+use Rattle.dk_model.specs.Taking.{Takes}
+use Rattle.dk_model.specs.Units.{Units, bind}
 use Rattle.dk_model.specs.Selection.{Selected}
 use Rattle.dk_model.specs.Spines.{arguments, applied}
 use Rattle.dk_model.specs.Matrix.{Column, Row}

@@ -3,7 +3,8 @@ use Rattle.std.proofs.Common.{List, [], ◌∷◌, ◌≡◌, ◌-◌, ◌<◌, 
 use Rattle.std.specs.Prelude.{Bool}
 use Rattle.dk_model.specs.Trees.{Tree, star}
 use Rattle.dk_model.specs.Signatures.{PlainSignature}
-use Rattle.dk_model.specs.Units.{Units, Takes}
+use Rattle.dk_model.specs.Taking.{Takes}
+use Rattle.dk_model.specs.Units.{Units}
 use Rattle.dk_model.specs.Evaluation.{whnf_of, comparison_of, normal_of}
 use Rattle.dk_model.proofs.Counting.{whnf_takes, comparison_takes, normal_takes}
 use Rattle.shared_term.specs.declared.id.TermId.{TermId}

@@ -9,7 +9,8 @@ use Rattle.dk_model.specs.Trees.{Tree, symbol, apply, bare}
 use Rattle.dk_model.specs.Substitution.{substitute}
 use Rattle.dk_model.specs.Signatures.{PlainRule, PlainSignature}
 use Rattle.dk_model.specs.SymbolRules.{rules_of}
-use Rattle.dk_model.specs.Units.{Units, bind, Takes}
+use Rattle.dk_model.specs.Taking.{Takes}
+use Rattle.dk_model.specs.Units.{Units, bind}
 use Rattle.dk_model.specs.Selection.{Selected}
 use Rattle.dk_model.specs.Spines.{arguments, contraction, head_symbol, body_of, applied}
 use Rattle.dk_model.specs.Matrix.{rows_for, width, Column, Row}
