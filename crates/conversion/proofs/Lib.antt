@@ -13,3 +13,7 @@ mod Selecting
 mod Pausing
 mod Passing
 mod Evaluating
+mod Comparing
+mod Waiting
+mod References
+mod Pooling

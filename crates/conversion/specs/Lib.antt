@@ -7,5 +7,8 @@ pub mod Pausing
 pub mod Turning
 pub mod Selections
 pub mod Pending
+pub mod Waiting
+pub mod Spine
+pub mod Owned
 pub mod Given
 pub mod Clauses

@@ -9,9 +9,11 @@ mod capture;
 mod compare;
 mod evaluate;
 mod gap;
+mod loading;
 mod machine;
 mod matrix;
 mod normal;
+mod reducer;
 mod row;
 mod rules;
 mod select;
@@ -20,3 +22,6 @@ mod table;
 mod turn;
 
 pub use state::PoolReducer;
+
+#[cfg(test)]
+mod tests;

@@ -1,5 +1,8 @@
 //! What evaluation works on: a pool, the right sides that were brought into it, and what was worked out lately.
+ghost use Rattle.std.specs.Prelude.{◌≡◌, IfOk};
+
 use crate::table::Table;
+use dk_model::NoMemory;
 use shared_term::{Pool, TermId};
 use std::alloc::Global;
 
@@ -30,4 +33,70 @@ pub struct PoolReducer {
     pub(crate) normals: Table<Value>,
     /// The answers of comparisons, each by its two terms.
     pub(crate) answers: Table<Answer>,
+}
+
+/// How many forms and answers of each kind are remembered at most.
+const SLOTS: usize = 4096;
+
+/// How many right sides stay at hand.
+const RIGHT_SIDES: usize = 1024;
+
+/// A pool of more nodes than this is dropped, not cleared.
+const MOST_KEPT: usize = 1 << 16;
+
+impl PoolReducer {
+    ghost use Rattle.std.specs.Prelude.{[]};
+    ghost use Rattle.dk_model.specs.Signatures.{PlainSignature};
+    ghost use Rattle.conversion.specs.Reducers.{Serves};
+
+    /// An empty pool. It serves whichever version is used first.
+    #[tactic(auto, using(crate::proofs::Serving::loaded_blank, crate::proofs::Serving::values_blank, crate::proofs::Serving::normals_blank, crate::proofs::Serving::answers_blank))]
+    pub fn new(alloc: Global) -> Result<PoolReducer, NoMemory>
+        ensures empty { IfOk result (λ r. r.pool ≡ []) }
+        ensures serves { IfOk result (λ r. (S : PlainSignature) → Serves S r) }
+    {
+        let nothing = Value {
+            id: TermId::first(),
+            units: 0,
+        };
+        let pool = Pool::new(alloc)?;
+        let loaded = Table::new(alloc, RIGHT_SIDES, TermId::first())?;
+        let values = Table::new(alloc, SLOTS, nothing)?;
+        let normals = Table::new(alloc, SLOTS, nothing)?;
+        let answers = Table::new(
+            alloc,
+            SLOTS,
+            Answer {
+                alike: false,
+                units: 0,
+            },
+        )?;
+        Ok(PoolReducer {
+            alloc,
+            pool,
+            loaded,
+            values,
+            normals,
+            answers,
+        })
+    }
+
+    /// Forgets every term and all that was worked out, so that another version may be used. The memory is kept, but for
+    /// that of a very large pool.
+    #[tactic(auto, using(crate::proofs::Serving::loaded_blank, crate::proofs::Serving::values_blank, crate::proofs::Serving::normals_blank, crate::proofs::Serving::answers_blank))]
+    pub fn clear(&mut self)
+        ensures empty { self.new.pool ≡ [] }
+        ensures serves { (S : PlainSignature) → Serves S self.new }
+    {
+        if self.pool.len() > MOST_KEPT {
+            if let Ok(pool) = Pool::new(self.alloc) {
+                self.pool = pool;
+            }
+        }
+        self.pool.clear();
+        self.loaded.clear();
+        self.values.clear();
+        self.normals.clear();
+        self.answers.clear();
+    }
 }

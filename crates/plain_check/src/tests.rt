@@ -1,6 +1,7 @@
 //! Small files, as the commands that scoping makes of them.
 use crate::{check_plain, infer_plain};
 use command_check::{enter_command, is_untyped};
+use conversion::PoolReducer;
 use dk_model::{
     Code, Entry, Listed, NoMemory, Scoped, Signature, SymSort, Term, Verdict, make_annotated,
     make_app, make_bare, make_product,
@@ -52,7 +53,11 @@ fn appended(alloc: Global, version: &Version, entry: Entry<Stored>) -> Result<Ve
 }
 
 /// The number of the first command that isn't accepted, and its verdict; or how many there are.
-fn outcome(alloc: Global, commands: &[Scoped], budget: u64) -> Result<(usize, Verdict), NoMemory> {
+fn outcome_of_trees(
+    alloc: Global,
+    commands: &[Scoped],
+    budget: u64,
+) -> Result<(usize, Verdict), NoMemory> {
     let mut version = Version::empty(alloc)?;
     for (i, command) in commands.iter().enumerate() {
         match enter_command(&mut Trees::new(alloc), &version, command, budget) {
@@ -61,6 +66,31 @@ fn outcome(alloc: Global, commands: &[Scoped], budget: u64) -> Result<(usize, Ve
         }
     }
     Ok((commands.len(), Verdict::Accepted))
+}
+
+/// The same over shared terms.
+fn outcome_of_shared_terms(
+    alloc: Global,
+    commands: &[Scoped],
+    budget: u64,
+) -> Result<(usize, Verdict), NoMemory> {
+    let mut version = Version::empty(alloc)?;
+    let mut terms = PoolReducer::new(alloc)?;
+    for (i, command) in commands.iter().enumerate() {
+        terms.clear();
+        match enter_command(&mut terms, &version, command, budget) {
+            Ok(entry) => version = appended(alloc, &version, entry)?,
+            Err(verdict) => return Ok((i + 1, verdict)),
+        }
+    }
+    Ok((commands.len(), Verdict::Accepted))
+}
+
+/// Both, which are one: the number is 0 where they differ.
+fn outcome(alloc: Global, commands: &[Scoped], budget: u64) -> Result<(usize, Verdict), NoMemory> {
+    let trees = outcome_of_trees(alloc, commands, budget)?;
+    let shared = outcome_of_shared_terms(alloc, commands, budget)?;
+    Ok(if trees == shared { trees } else { (0, shared.1) })
 }
 
 fn after_two(alloc: Global, command: Scoped, budget: u64) -> Result<(usize, Verdict), NoMemory> {

@@ -10,6 +10,13 @@ use dk_model::NodeOf;
 pub struct TermId(pub(crate) u32);
 
 impl TermId {
+    /// The place of a pool's first node.
+    pub fn first() -> TermId
+        ensures { result.0 ≡ 0 }
+    {
+        TermId(0)
+    }
+
     /// The place as a number, from 0.
     pub fn number(self) -> u32
         ensures { result ≡ self.0 }

@@ -1,4 +1,4 @@
-use Rattle.std.proofs.Common.{◌≡◌, ◌∙◌, ◌<◌, ◌≤◌, ◌+◌, ◌-◌, ◌++◌, ◌∷◌, [], List, Vec, Global, map, drop, length, ℕ, true, false, None, Some, Ok, Err, ap, subst, refl, sym as flip, arith}
+use Rattle.std.proofs.Common.{◌≡◌, ◌∙◌, ◌<◌, ◌≤◌, ◌+◌, ◌-◌, ◌++◌, ◌∷◌, [], List, Vec, Global, map, drop, length, ℕ, true, false, None, Some, Ok, Err, ap, subst, refl, sym as flip, arith, rules, sym, true≢false}
 use Rattle.std.specs.Prelude.{replicate, get_or}
 use Rattle.dk_model.specs.Trees.{Tree, symbol}
 use Rattle.dk_model.specs.Signatures.{PlainRule, PlainSignature}
@@ -21,14 +21,22 @@ use Rattle.conversion.specs.Pausing.{plain, IsPause, ArePauses, Await, IsGap}
 use Rattle.conversion.specs.Reducers.{Serves, IsValue}
 use Rattle.conversion.specs.Selections.{step_cell}
 use Rattle.conversion.specs.Turning.{next_due}
-use Rattle.conversion.proofs.Winding.{extends_more}
-use Rattle.conversion.proofs.Serving.{value_made, values_put, loaded_grown, values_grown, normals_grown, answers_grown}
+use Rattle.conversion.proofs.Winding.{extends_more, extends_none}
+use Rattle.conversion.proofs.Serving.{value_made, values_put, loaded_grown, values_grown, normals_grown, answers_grown, answers_put, answer_made, normals_put, normal_made}
 use Rattle.conversion.proofs.Growing.{columns_set, columns_within, columns_taken, columns_dropped, column_within, captures_within, captures_grown, none_captured}
 use Rattle.conversion.proofs.Choosing.{row_fails, row_takes, row_ends, no_column, row_asks, no_choice, got_either, past_end, among_item}
 use Rattle.conversion.proofs.Passing.{row_goes, row_misses, row_stops, row_ended, guard_goes, guard_misses, guard_stops, guards_ended, cell_misses, cell_caught, cell_given, recorded_new, recorded_before, set_past, guard_compared, captures_begun, guards_begun, row_misses_all, row_ends_all, guards_miss_all, guards_end_all, row_takes_all}
 use Rattle.conversion.proofs.Pausing.{await_grown, pauses_grown, pauses_pushed, pauses_popped, popped_pause}
 use Rattle.conversion.proofs.Evaluating.{await_on, asks_on, awaited_is, awaited_falls, closed_on, awaited_value, await_done}
 use Rattle.conversion.proofs.Selecting.{turns_same, choice_goes, choice_stands, choice_asks}
+use Rattle.conversion.specs.declared.compare.Step.{Step}
+use Rattle.conversion.specs.declared.compare.Step.TheVariants.{Pair, Conclude}
+use Rattle.conversion.specs.Pending.{IsUnderWay, rest_compared, pending}
+use Rattle.conversion.proofs.Comparing.{steps_popped, pair_within, concluded_within, way_open, way_goes, way_stops, way_skips, way_concludes, concluded_gives, concluded_units, pair_alike, pair_known, known_too_few, comparison_costs, pair_first_ends, pair_second_ends, pair_parts, pair_stopped}
+use Rattle.conversion.specs.Waiting.{value_due, IsFrame, IsWaiting, continued, TakesValueApart}
+use Rattle.conversion.proofs.Waiting.{frames_popped, frame_popped, waits_popped, way_popped, way_due, part_stops, argument_next, annotation_next, domain_next, built_next, part_due, ended, normal_costs, way_found, way_concluding, weak_ends, part_stopped}
+use Rattle.conversion.specs.declared.normal.Frame.{Frame}
+use Rattle.conversion.specs.declared.normal.Next.{Next}
 use Rattle.conversion.proofs.state.PoolReducer.+evaluation.Goals as goal
 
 -- the cells of a row
@@ -503,3 +511,321 @@ turn_matrix-returns-in-Asks-clause-gives t c =
     turns_same S _ _ c.select.new.self.pool c.ask.new.stack.items c.ask.new.left c.ask.result
     (choice_asks S c.args.matrix c.args.left.now c.args.self.now.pool c.select.new.self.pool c.args.stack.now.items c.in_ok-captures.ensures.keeps c.requires.stack c.select.new.left c.in-Asks.gap c.in-Asks.term g.0 g.1)
     c.ask.ensures.gives
+
+-- The steps of a comparison
+
+pub compare-compare_pair-requires-then-alike-clause-t : goal.compare-compare_pair-requires-then-alike-clause-t
+compare-compare_pair-requires-then-alike-clause-t t c =
+    let e : c.loop-step.work.items ≡ c.pop.new.self.items ++ (Pair c.in-Pair.first c.in-Pair.second ∷ []) = c.in-Some.ensures.items ∙ ap (λ (x : Step). c.pop.new.self.items ++ (x ∷ [])) c.in-Pair.is in
+    (pair_within (length c.loop-step.self.pool) c.pop.new.self.items c.in-Pair.first c.in-Pair.second (rw e at c.loop-step.invariant.way.within)).0
+
+pub compare-compare_pair-requires-then-alike-clause-u : goal.compare-compare_pair-requires-then-alike-clause-u
+compare-compare_pair-requires-then-alike-clause-u t c =
+    let e : c.loop-step.work.items ≡ c.pop.new.self.items ++ (Pair c.in-Pair.first c.in-Pair.second ∷ []) = c.in-Some.ensures.items ∙ ap (λ (x : Step). c.pop.new.self.items ++ (x ∷ [])) c.in-Pair.is in
+    (pair_within (length c.loop-step.self.pool) c.pop.new.self.items c.in-Pair.first c.in-Pair.second (rw e at c.loop-step.invariant.way.within)).1
+
+pub compare-compare_pair-requires-then-alike-clause-steps : goal.compare-compare_pair-requires-then-alike-clause-steps
+compare-compare_pair-requires-then-alike-clause-steps t c =
+    let e : c.loop-step.work.items ≡ c.pop.new.self.items ++ (Pair c.in-Pair.first c.in-Pair.second ∷ []) = c.in-Some.ensures.items ∙ ap (λ (x : Step). c.pop.new.self.items ++ (x ∷ [])) c.in-Pair.is in
+    steps_popped (length c.loop-step.self.pool) c.pop.new.self.items (Pair c.in-Pair.first c.in-Pair.second) (rw e at c.loop-step.invariant.way.within)
+
+pub compare-compare_pair-requires-then-alike-clause-opened : goal.compare-compare_pair-requires-then-alike-clause-opened
+compare-compare_pair-requires-then-alike-clause-opened t c =
+    let e : c.loop-step.work.items ≡ c.pop.new.self.items ++ (Pair c.in-Pair.first c.in-Pair.second ∷ []) = c.in-Some.ensures.items ∙ ap (λ (x : Step). c.pop.new.self.items ++ (x ∷ [])) c.in-Pair.is in
+    way_open (entries_of c.args.version.now) c.loop-step.self.pool _ c.loop-step.left c.loop-step.alike c.pop.new.self.items c.in-Pair.first c.in-Pair.second c.if-alike.true
+    (rw e at c.loop-step.invariant.way)
+
+pub compare-returns-in_err-alike-in-Pair-clause-gives : goal.compare-returns-in_err-alike-in-Pair-clause-gives
+compare-returns-in_err-alike-in-Pair-clause-gives t c =
+    let e : c.loop-step.work.items ≡ c.pop.new.self.items ++ (Pair c.in-Pair.first c.in-Pair.second ∷ []) = c.in-Some.ensures.items ∙ ap (λ (x : Step). c.pop.new.self.items ++ (x ∷ [])) c.in-Pair.is in
+    let h = way_stops (entries_of c.args.version.now) c.loop-step.self.pool c.compare_pair-then-alike.new.self.pool _ c.loop-step.left c.compare_pair-then-alike.new.left c.loop-step.alike
+    c.in_err-alike-in-Pair.field-0.0 c.pop.new.self.items c.compare_pair-then-alike.new.work.items c.in-Pair.first c.in-Pair.second c.if-alike.true
+    (rw e at c.loop-step.invariant.way) c.in_err-alike-in-Pair.ensures.gives in
+    search rules
+
+pub compare-loop-step-preserved-then-alike : goal.compare-loop-step-preserved-then-alike
+compare-loop-step-preserved-then-alike t c =
+    let e : c.loop-step.work.items ≡ c.pop.new.self.items ++ (Pair c.in-Pair.first c.in-Pair.second ∷ []) = c.in-Some.ensures.items ∙ ap (λ (x : Step). c.pop.new.self.items ++ (x ∷ [])) c.in-Pair.is in
+    let h = c.in_ok-alike-in-Pair.ensures in
+    record {
+      way = way_goes (entries_of c.args.version.now) c.loop-step.self.pool c.compare_pair-then-alike.new.self.pool _ c.loop-step.left c.compare_pair-then-alike.new.left c.loop-step.alike
+          (rest_compared (entries_of c.args.version.now) c.in_ok-alike-in-Pair.alike c.compare_pair-then-alike.new.left) c.pop.new.self.items c.compare_pair-then-alike.new.work.items
+          c.in-Pair.first c.in-Pair.second c.if-alike.true (rw e at c.loop-step.invariant.way) h.gives;
+      keeps = extends_more _ _ _ c.loop-step.invariant.keeps h.keeps;
+      serves = h.serves;
+      less = omega (arith, c.loop-step.invariant.less, h.spent);
+    }
+
+pub compare-loop-step-preserved-else-alike : goal.compare-loop-step-preserved-else-alike
+compare-loop-step-preserved-else-alike t c =
+    let e : c.loop-step.work.items ≡ c.pop.new.self.items ++ (Pair c.in-Pair.first c.in-Pair.second ∷ []) = c.in-Some.ensures.items ∙ ap (λ (x : Step). c.pop.new.self.items ++ (x ∷ [])) c.in-Pair.is in
+    record {
+      way = way_skips (entries_of c.args.version.now) c.loop-step.self.pool _ c.loop-step.left c.loop-step.alike c.pop.new.self.items c.in-Pair.first c.in-Pair.second c.if-alike.false
+          (rw e at c.loop-step.invariant.way);
+      keeps = c.loop-step.invariant.keeps;
+      serves = c.loop-step.invariant.serves;
+      less = c.loop-step.invariant.less;
+    }
+
+pub compare-overflow_sub-units : goal.compare-overflow_sub-units
+compare-overflow_sub-units t c =
+    let e : c.loop-step.work.items ≡ c.pop.new.self.items ++ (Conclude c.in-Conclude.first c.in-Conclude.second c.in-Conclude.before ∷ []) =
+    c.in-Some.ensures.items ∙ ap (λ (x : Step). c.pop.new.self.items ++ (x ∷ [])) c.in-Conclude.is in
+    concluded_units (entries_of c.args.version.now) c.loop-step.self.pool _ c.loop-step.left c.loop-step.alike c.pop.new.self.items c.in-Conclude.first c.in-Conclude.second c.in-Conclude.before
+    (rw e at c.loop-step.invariant.way)
+
+pub compare-loop-step-preserved : goal.compare-loop-step-preserved
+compare-loop-step-preserved t c =
+    let S = entries_of c.args.version.now in
+    let i = c.loop-step.invariant in
+    let e : c.loop-step.work.items ≡ c.pop.new.self.items ++ (Conclude c.in-Conclude.first c.in-Conclude.second c.in-Conclude.before ∷ []) =
+    c.in-Some.ensures.items ∙ ap (λ (x : Step). c.pop.new.self.items ++ (x ∷ [])) c.in-Conclude.is in
+    let way = rw e at i.way in
+    let within = concluded_within (length c.loop-step.self.pool) c.pop.new.self.items c.in-Conclude.first c.in-Conclude.second c.in-Conclude.before way.within in
+    record {
+      way = way_concludes S c.loop-step.self.pool _ c.loop-step.left c.loop-step.alike c.pop.new.self.items c.in-Conclude.first c.in-Conclude.second c.in-Conclude.before way;
+      keeps = i.keeps;
+      serves = record {
+        loaded = i.serves.loaded;
+        values = i.serves.values;
+        normals = i.serves.normals;
+        answers = answers_put _ _ _ _ c.in-Conclude.first.0 c.in-Conclude.second.0 _ i.serves.answers
+            (answer_made S c.loop-step.self.pool c.loop-step.self.pool c.in-Conclude.first c.in-Conclude.second c.loop-step.alike (c.in-Conclude.before - c.loop-step.left)
+            c.in-Conclude.before c.loop-step.left (extends_none c.loop-step.self.pool) within.0 within.1
+            (concluded_gives S c.loop-step.self.pool _ c.loop-step.left c.loop-step.alike c.pop.new.self.items c.in-Conclude.first c.in-Conclude.second c.in-Conclude.before way) refl)
+            (rw (c.number.ensures, c.number-in-Conclude.ensures) at c.put.ensures);
+      };
+      less = i.less;
+    }
+
+-- A pair that is remembered, and a pair whose weak head forms are compared
+
+pub compare_pair-returns-then-same-clause-gives : goal.compare_pair-returns-then-same-clause-gives
+compare_pair-returns-then-same-clause-gives t c = pair_alike (entries_of c.args.version.now) c.args.self.now.pool c.args.left.now c.args.t c.args.u c.args.work.now.items
+    (omega (arith, c.if-left-eq0.false)) (c.same.ensures.0 c.if-same.true) c.requires.steps c.requires.opened
+
+pub compare_pair-returns-then-left-found-clause-gives : goal.compare_pair-returns-then-left-found-clause-gives
+compare_pair-returns-then-left-found-clause-gives t c =
+    let h = c.requires.serves.answers.each c.args.t.0 c.args.u.0 c.in-Some.found (search rules) in (
+      known_too_few (entries_of c.args.version.now) c.args.left.now c.in-Some.found.units c.in-Some.found.alike (term c.args.self.now.pool c.args.t) (term c.args.self.now.pool c.args.u)
+          (pending c.args.self.now.pool c.args.work.now.items) h.takes c.if-left-found.true,
+      refl,
+    )
+
+pub compare_pair-returns-in-Some-clause-gives : goal.compare_pair-returns-in-Some-clause-gives
+compare_pair-returns-in-Some-clause-gives t c =
+    let h = c.requires.serves.answers.each c.args.t.0 c.args.u.0 c.in-Some.found (search rules) in
+    pair_known (entries_of c.args.version.now) c.args.self.now.pool c.args.left.now c.in-Some.found.units c.in-Some.found.alike c.args.t c.args.u c.args.work.now.items
+    h.takes (omega (arith, c.if-left-found.false)) c.requires.steps c.requires.opened
+
+pub compare_pair-returns-in-Some-clause-turned : goal.compare_pair-returns-in-Some-clause-turned
+compare_pair-returns-in-Some-clause-turned t c =
+    let h = c.requires.serves.answers.each c.args.t.0 c.args.u.0 c.in-Some.found (search rules) in
+    let k = comparison_costs (entries_of c.args.version.now) c.in-Some.found.units c.in-Some.found.alike (term c.args.self.now.pool c.args.t) (term c.args.self.now.pool c.args.u) h.takes in
+    omega (arith, k, c.if-left-found.false)
+
+pub compare_pair-returns-in_err-x-clause-gives : goal.compare_pair-returns-in_err-x-clause-gives
+compare_pair-returns-in_err-x-clause-gives t c =
+    let d : term c.args.self.now.pool c.args.t ≡ term c.args.self.now.pool c.args.u → ⊥ = λ e. true≢false (sym (c.same.ensures.1 e) ∙ c.if-same.false) in
+    let p : 0 < c.args.left.now = omega (arith, c.if-left-eq0.false) in
+    let h = pair_stopped (entries_of c.args.version.now) c.in_err-x.field-0.0 _ _ c.evaluate.new.self.pool c.args.work.now.items c.evaluate.new.left
+    (pair_first_ends (entries_of c.args.version.now) c.args.self.now.pool c.args.left.now c.args.t c.args.u (pending c.args.self.now.pool c.args.work.now.items) p d) c.in_err-x.ensures.gives in
+    search rules
+
+pub compare_pair-returns-in_err-y-clause-gives : goal.compare_pair-returns-in_err-y-clause-gives
+compare_pair-returns-in_err-y-clause-gives t c =
+    let d : term c.args.self.now.pool c.args.t ≡ term c.args.self.now.pool c.args.u → ⊥ = λ e. true≢false (sym (c.same.ensures.1 e) ∙ c.if-same.false) in
+    let p : 0 < c.args.left.now = omega (arith, c.if-left-eq0.false) in
+    let h = pair_stopped (entries_of c.args.version.now) c.in_err-y.field-0.0 _ _ c.evaluate-2.new.self.pool c.args.work.now.items c.evaluate-2.new.left
+    (pair_second_ends (entries_of c.args.version.now) c.args.self.now.pool c.evaluate.new.self.pool c.args.left.now c.evaluate.new.left c.args.t c.args.u c.in_ok-x.x
+    (pending c.args.self.now.pool c.args.work.now.items) p d c.requires.u c.in_ok-x.ensures.keeps c.in_ok-x.ensures.gives.0) c.in_err-y.ensures.gives in
+    search rules
+
+pub compare_pair-returns-clause-gives : goal.compare_pair-returns-clause-gives
+compare_pair-returns-clause-gives t c =
+    let S = entries_of c.args.version.now in
+    let d : term c.args.self.now.pool c.args.t ≡ term c.args.self.now.pool c.args.u → ⊥ = λ e. true≢false (sym (c.same.ensures.1 e) ∙ c.if-same.false) in
+    let p : 0 < c.args.left.now = omega (arith, c.if-left-eq0.false) in
+    let way = pair_parts S c.args.self.now.pool c.evaluate.new.self.pool c.evaluate-2.new.self.pool c.args.left.now c.evaluate.new.left c.evaluate-2.new.left
+    c.args.t c.args.u c.in_ok-x.x c.in_ok-y.y c.args.work.now.items p (omega (arith, c.in_ok-x.ensures.spent, c.in_ok-y.ensures.spent)) d c.requires.t c.requires.u
+    c.in_ok-x.ensures.keeps c.in_ok-y.ensures.keeps c.in_ok-x.ensures.gives.1 c.in_ok-x.ensures.gives.0 c.in_ok-y.ensures.gives.0 c.requires.steps c.requires.opened in
+    c.in_ok-alike.ensures S _ c.evaluate-2.new.left (rw c.in_ok-push_step.ensures way)
+
+-- The frames of a normal form
+
+pub normalise-resume-requires-clause-frame : goal.normalise-resume-requires-clause-frame
+normalise-resume-requires-clause-frame t c = frame_popped (length c.loop-frame.self.pool) c.pop.new.self.items c.in-Some.frame (rw c.in-Some.ensures.items at c.loop-frame.invariant.way.frames)
+
+pub normalise-resume-requires-clause-frames : goal.normalise-resume-requires-clause-frames
+normalise-resume-requires-clause-frames t c = frames_popped (length c.loop-frame.self.pool) c.pop.new.self.items c.in-Some.frame (rw c.in-Some.ensures.items at c.loop-frame.invariant.way.frames)
+
+pub normalise-resume-requires-clause-waits : goal.normalise-resume-requires-clause-waits
+normalise-resume-requires-clause-waits t c = waits_popped (entries_of c.args.version.now) c.loop-frame.self.pool c.pop.new.self.items c.in-Some.frame (value_due c.loop-frame.self.pool c.loop-frame.value c.loop-frame.left)
+    c.loop-frame.left (rw c.in-Some.ensures.items at c.loop-frame.invariant.way.waiting)
+
+pub normalise-resume-requires-clause-waiting : goal.normalise-resume-requires-clause-waiting
+normalise-resume-requires-clause-waiting t c = (way_popped (entries_of c.args.version.now) c.loop-frame.self.pool c.pop.new.self.items c.in-Some.frame _
+    (value_due c.loop-frame.self.pool c.loop-frame.value c.loop-frame.left) c.loop-frame.left (rw c.in-Some.ensures.items at c.loop-frame.invariant.way)).waiting
+
+pub normalise-returns-in_err-value-2-clause-gives : goal.normalise-returns-in_err-value-2-clause-gives
+normalise-returns-in_err-value-2-clause-gives t c =
+    let way = way_popped (entries_of c.args.version.now) c.loop-frame.self.pool c.pop.new.self.items c.in-Some.frame _
+    (value_due c.loop-frame.self.pool c.loop-frame.value c.loop-frame.left) c.loop-frame.left (rw c.in-Some.ensures.items at c.loop-frame.invariant.way) in
+    let h = part_stops (entries_of c.args.version.now) c.resume.new.self.pool c.resume.new.frames.items _ _ c.in_err-value-2.field-0.0 c.resume.new.left way.comes c.in_err-value-2.ensures.gives in
+    search rules
+
+pub normalise-loop-frame-preserved : goal.normalise-loop-frame-preserved
+normalise-loop-frame-preserved t c =
+    let way = way_popped (entries_of c.args.version.now) c.loop-frame.self.pool c.pop.new.self.items c.in-Some.frame _
+    (value_due c.loop-frame.self.pool c.loop-frame.value c.loop-frame.left) c.loop-frame.left (rw c.in-Some.ensures.items at c.loop-frame.invariant.way) in
+    let h = c.in_ok-value-2.ensures in
+    record {
+      way = way_due (entries_of c.args.version.now) _ _ _ _ _ _ way.comes h.gives.0;
+      there = h.gives.1;
+      keeps = extends_more _ _ _ c.loop-frame.invariant.keeps h.keeps;
+      serves = h.serves;
+      less = omega (arith, c.loop-frame.invariant.less, h.spent);
+    }
+
+-- A frame goes on once its part has a normal form
+
+pub resume-descend-requires-clause-frames : goal.resume-descend-requires-clause-frames
+resume-descend-requires-clause-frames t c = rw c.in_ok-push_frame-in-Argument.ensures (argument_next (entries_of c.args.version.now) c.args.self.now.pool c.args.frames.now.items c.args.frame c.args.value c.in-Argument.argument c.args.left.now c.in-Argument.is c.requires.value c.requires.frames c.requires.waiting).frames
+
+pub resume-descend-requires-clause-waiting : goal.resume-descend-requires-clause-waiting
+resume-descend-requires-clause-waiting t c = rw c.in_ok-push_frame-in-Argument.ensures (argument_next (entries_of c.args.version.now) c.args.self.now.pool c.args.frames.now.items c.args.frame c.args.value c.in-Argument.argument c.args.left.now c.in-Argument.is c.requires.value c.requires.frames c.requires.waiting).waiting
+
+pub resume-returns-in_ok-push_frame-in-Argument-clause-gives : goal.resume-returns-in_ok-push_frame-in-Argument-clause-gives
+resume-returns-in_ok-push_frame-in-Argument-clause-gives t c =
+    let way = argument_next (entries_of c.args.version.now) c.args.self.now.pool c.args.frames.now.items c.args.frame c.args.value c.in-Argument.argument c.args.left.now c.in-Argument.is c.requires.value c.requires.frames c.requires.waiting in
+    part_due (entries_of c.args.version.now) _ _ _ _ _ _ way.comes (rw c.in_ok-push_frame-in-Argument.ensures at c.descend.ensures.gives)
+
+pub resume-descend-requires-in-Annotation-clause-frames : goal.resume-descend-requires-in-Annotation-clause-frames
+resume-descend-requires-in-Annotation-clause-frames t c = rw c.in_ok-push_frame-in-Annotation.ensures (annotation_next (entries_of c.args.version.now) c.args.self.now.pool c.args.frames.now.items c.args.frame c.args.value c.in-Annotation.body c.args.left.now c.in-Annotation.is c.requires.value c.requires.frames c.requires.waiting).frames
+
+pub resume-descend-requires-in-Annotation-clause-waiting : goal.resume-descend-requires-in-Annotation-clause-waiting
+resume-descend-requires-in-Annotation-clause-waiting t c = rw c.in_ok-push_frame-in-Annotation.ensures (annotation_next (entries_of c.args.version.now) c.args.self.now.pool c.args.frames.now.items c.args.frame c.args.value c.in-Annotation.body c.args.left.now c.in-Annotation.is c.requires.value c.requires.frames c.requires.waiting).waiting
+
+pub resume-returns-in_ok-push_frame-in-Annotation-clause-gives : goal.resume-returns-in_ok-push_frame-in-Annotation-clause-gives
+resume-returns-in_ok-push_frame-in-Annotation-clause-gives t c =
+    let way = annotation_next (entries_of c.args.version.now) c.args.self.now.pool c.args.frames.now.items c.args.frame c.args.value c.in-Annotation.body c.args.left.now c.in-Annotation.is c.requires.value c.requires.frames c.requires.waiting in
+    part_due (entries_of c.args.version.now) _ _ _ _ _ _ way.comes (rw c.in_ok-push_frame-in-Annotation.ensures at c.descend-in-Annotation.ensures.gives)
+
+pub resume-descend-requires-in-Domain-clause-frames : goal.resume-descend-requires-in-Domain-clause-frames
+resume-descend-requires-in-Domain-clause-frames t c = rw c.in_ok-push_frame-in-Domain.ensures (domain_next (entries_of c.args.version.now) c.args.self.now.pool c.args.frames.now.items c.args.frame c.args.value c.in-Domain.codomain c.args.left.now c.in-Domain.is c.requires.value c.requires.frames c.requires.waiting).frames
+
+pub resume-descend-requires-in-Domain-clause-waiting : goal.resume-descend-requires-in-Domain-clause-waiting
+resume-descend-requires-in-Domain-clause-waiting t c = rw c.in_ok-push_frame-in-Domain.ensures (domain_next (entries_of c.args.version.now) c.args.self.now.pool c.args.frames.now.items c.args.frame c.args.value c.in-Domain.codomain c.args.left.now c.in-Domain.is c.requires.value c.requires.frames c.requires.waiting).waiting
+
+pub resume-returns-in_ok-push_frame-in-Domain-clause-gives : goal.resume-returns-in_ok-push_frame-in-Domain-clause-gives
+resume-returns-in_ok-push_frame-in-Domain-clause-gives t c =
+    let way = domain_next (entries_of c.args.version.now) c.args.self.now.pool c.args.frames.now.items c.args.frame c.args.value c.in-Domain.codomain c.args.left.now c.in-Domain.is c.requires.value c.requires.frames c.requires.waiting in
+    part_due (entries_of c.args.version.now) _ _ _ _ _ _ way.comes (rw c.in_ok-push_frame-in-Domain.ensures at c.descend-in-Domain.ensures.gives)
+
+pub resume-returns-in_ok-intern-in-Function-clause-gives : goal.resume-returns-in_ok-intern-in-Function-clause-gives
+resume-returns-in_ok-intern-in-Function-clause-gives t c = (
+  built_next (entries_of c.args.version.now) c.args.self.now.pool _ c.args.frames.now.items c.args.frame c.args.value c.in_ok-intern-in-Function.field-0 _ c.args.left.now
+      (ap (λ (f : Frame). continued (entries_of c.args.version.now) c.args.self.now.pool f (term c.args.self.now.pool c.args.value) c.args.left.now) c.in-Function.is)
+      c.in_ok-intern-in-Function.ensures.keeps c.in_ok-intern-in-Function.ensures.denotes c.requires.frames c.requires.waiting,
+  c.in_ok-intern-in-Function.ensures.within,
+)
+
+pub resume-returns-in_ok-intern-in-Body-clause-gives : goal.resume-returns-in_ok-intern-in-Body-clause-gives
+resume-returns-in_ok-intern-in-Body-clause-gives t c = (
+  built_next (entries_of c.args.version.now) c.args.self.now.pool _ c.args.frames.now.items c.args.frame c.args.value c.in_ok-intern-in-Body.field-0 _ c.args.left.now
+      (ap (λ (f : Frame). continued (entries_of c.args.version.now) c.args.self.now.pool f (term c.args.self.now.pool c.args.value) c.args.left.now) c.in-Body.is)
+      c.in_ok-intern-in-Body.ensures.keeps c.in_ok-intern-in-Body.ensures.denotes c.requires.frames c.requires.waiting,
+  c.in_ok-intern-in-Body.ensures.within,
+)
+
+pub resume-returns-in_ok-intern-in-Annotated-clause-gives : goal.resume-returns-in_ok-intern-in-Annotated-clause-gives
+resume-returns-in_ok-intern-in-Annotated-clause-gives t c = (
+  built_next (entries_of c.args.version.now) c.args.self.now.pool _ c.args.frames.now.items c.args.frame c.args.value c.in_ok-intern-in-Annotated.field-0 _ c.args.left.now
+      (ap (λ (f : Frame). continued (entries_of c.args.version.now) c.args.self.now.pool f (term c.args.self.now.pool c.args.value) c.args.left.now) c.in-Annotated.is)
+      c.in_ok-intern-in-Annotated.ensures.keeps c.in_ok-intern-in-Annotated.ensures.denotes c.requires.frames c.requires.waiting,
+  c.in_ok-intern-in-Annotated.ensures.within,
+)
+
+pub resume-returns-in_ok-intern-in-Codomain-clause-gives : goal.resume-returns-in_ok-intern-in-Codomain-clause-gives
+resume-returns-in_ok-intern-in-Codomain-clause-gives t c = (
+  built_next (entries_of c.args.version.now) c.args.self.now.pool _ c.args.frames.now.items c.args.frame c.args.value c.in_ok-intern-in-Codomain.field-0 _ c.args.left.now
+      (ap (λ (f : Frame). continued (entries_of c.args.version.now) c.args.self.now.pool f (term c.args.self.now.pool c.args.value) c.args.left.now) c.in-Codomain.is)
+      c.in_ok-intern-in-Codomain.ensures.keeps c.in_ok-intern-in-Codomain.ensures.denotes c.requires.frames c.requires.waiting,
+  c.in_ok-intern-in-Codomain.ensures.within,
+)
+
+pub resume-returns-in-Conclude-clause-serves : goal.resume-returns-in-Conclude-clause-serves
+resume-returns-in-Conclude-clause-serves t c =
+    let S = entries_of c.args.version.now in
+    let w = subst (λ (f : Frame). IsWaiting S c.args.self.now.pool (value_due c.args.self.now.pool c.args.value c.args.left.now) c.args.left.now f) c.in-Conclude.is c.requires.waits in
+    let i = subst (IsFrame (length c.args.self.now.pool)) c.in-Conclude.is c.requires.frame in
+    record {
+      loaded = c.requires.serves.loaded;
+      values = c.requires.serves.values;
+      normals = normals_put _ _ _ _ c.in-Conclude.whole.0 0 _ c.requires.serves.normals
+          (normal_made S c.args.self.now.pool c.args.self.now.pool c.in-Conclude.whole (record { id = c.args.value; units = c.in-Conclude.before - c.args.left.now })
+          c.in-Conclude.before c.args.left.now (extends_none c.args.self.now.pool) i c.requires.value w.0 refl)
+          (rw c.number.ensures at c.put.ensures);
+      answers = c.requires.serves.answers;
+    }
+
+-- A normal form that is remembered, and one that is worked out part by part
+
+pub descend-returns-then-left-eq0-clause-gives : goal.descend-returns-then-left-eq0-clause-gives
+descend-returns-then-left-eq0-clause-gives t c =
+    let S = entries_of c.args.version.now in
+    (c.loop-left.invariant.way.comes ∙ ended S c.loop-left.self.pool c.loop-left.frames.items _ (ap (λ n. normal_of S n (term c.loop-left.self.pool c.loop-left.part)) c.if-left-eq0.true), c.if-left-eq0.true)
+
+pub descend-returns-then-left-found-clause-gives : goal.descend-returns-then-left-found-clause-gives
+descend-returns-then-left-found-clause-gives t c =
+    let h = c.loop-left.invariant.serves.normals.each c.loop-left.part.0 0 c.in-Some.found (search rules) in
+    (c.loop-left.invariant.way.comes ∙ ended (entries_of c.args.version.now) c.loop-left.self.pool c.loop-left.frames.items _ (h.takes.ends c.loop-left.left c.if-left-found.true), refl)
+
+pub descend-returns-in-Some-clause-gives : goal.descend-returns-in-Some-clause-gives
+descend-returns-in-Some-clause-gives t c =
+    let h = c.loop-left.invariant.serves.normals.each c.loop-left.part.0 0 c.in-Some.found (search rules) in (
+      way_found (entries_of c.args.version.now) c.loop-left.self.pool c.loop-left.frames.items _ c.loop-left.part c.in-Some.found.id c.loop-left.left c.in-Some.found.units h.takes
+          (omega (arith, c.if-left-found.false)) c.loop-left.invariant.way,
+      h.gives,
+    )
+
+pub descend-returns-in-Some-clause-turned : goal.descend-returns-in-Some-clause-turned
+descend-returns-in-Some-clause-turned t c =
+    let h = c.loop-left.invariant.serves.normals.each c.loop-left.part.0 0 c.in-Some.found (search rules) in
+    let k = normal_costs (entries_of c.args.version.now) c.in-Some.found.units (term c.loop-left.self.pool c.loop-left.part) (term c.loop-left.self.pool c.in-Some.found.id) h.takes in
+    omega (arith, k, c.if-left-found.false, c.loop-left.invariant.less)
+
+pub descend-returns-in_err-value-clause-gives : goal.descend-returns-in_err-value-clause-gives
+descend-returns-in_err-value-clause-gives t c =
+    let S = entries_of c.args.version.now in
+    let p : 0 < c.loop-left.left = omega (arith, c.if-left-eq0.false) in
+    let h = part_stopped S c.in_err-value.field-0.0 _ _ c.evaluate.new.self.pool c.loop-left.frames.items c.evaluate.new.left
+    (λ e. c.loop-left.invariant.way.comes ∙ ended S c.loop-left.self.pool c.loop-left.frames.items _ (weak_ends S c.loop-left.left (term c.loop-left.self.pool c.loop-left.part) p e))
+    c.in_err-value.ensures.gives in
+    search rules
+
+pub descend-returns-in-Head-clause-gives : goal.descend-returns-in-Head-clause-gives
+descend-returns-in-Head-clause-gives t c =
+    let S = entries_of c.args.version.now in
+    let p : 0 < c.loop-left.left = omega (arith, c.if-left-eq0.false) in
+    let w = way_concluding S c.loop-left.self.pool c.evaluate.new.self.pool c.loop-left.frames.items _ c.loop-left.part c.in_ok-value.value c.loop-left.left c.evaluate.new.left p
+    (omega (arith, c.in_ok-value.ensures.spent)) c.loop-left.invariant.there c.in_ok-value.ensures.keeps c.in_ok-value.ensures.gives.0 c.loop-left.invariant.way in
+    let h = subst (λ (x : Next). TakesValueApart c.evaluate.new.self.pool (term c.evaluate.new.self.pool c.in_ok-value.value) c.push_frame.new.frames.items x c.take_apart.new.frames.items)
+    c.in-Head.is c.in_ok-next.ensures in
+    (h.1 S _ c.evaluate.new.left (rw c.in_ok-push_frame.ensures w), h.0)
+
+pub descend-loop-left-preserved : goal.descend-loop-left-preserved
+descend-loop-left-preserved t c =
+    let S = entries_of c.args.version.now in
+    let p : 0 < c.loop-left.left = omega (arith, c.if-left-eq0.false) in
+    let w = way_concluding S c.loop-left.self.pool c.evaluate.new.self.pool c.loop-left.frames.items _ c.loop-left.part c.in_ok-value.value c.loop-left.left c.evaluate.new.left p
+    (omega (arith, c.in_ok-value.ensures.spent)) c.loop-left.invariant.there c.in_ok-value.ensures.keeps c.in_ok-value.ensures.gives.0 c.loop-left.invariant.way in
+    let h = subst (λ (x : Next). TakesValueApart c.evaluate.new.self.pool (term c.evaluate.new.self.pool c.in_ok-value.value) c.push_frame.new.frames.items x c.take_apart.new.frames.items)
+    c.in-Part.is c.in_ok-next.ensures in
+    record {
+      way = h.1 S _ c.evaluate.new.left (rw c.in_ok-push_frame.ensures w);
+      there = h.0;
+      keeps = extends_more _ _ _ c.loop-left.invariant.keeps c.in_ok-value.ensures.keeps;
+      serves = c.in_ok-value.ensures.serves;
+      less = omega (arith, c.loop-left.invariant.less, c.in_ok-value.ensures.spent);
+    }

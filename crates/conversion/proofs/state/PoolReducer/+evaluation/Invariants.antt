@@ -11,6 +11,8 @@ use Rattle.conversion.specs.Pausing.{plain, selected, ArePauses, Await}
 use Rattle.conversion.specs.Reducers.{Serves}
 use Rattle.conversion.specs.Turning.{next_due, next_rank, IsNext}
 use Rattle.conversion.proofs.Through.{passed, guards_from}
+use Rattle.conversion.specs.Pending.{IsUnderWay, rest_compared}
+use Rattle.conversion.specs.Waiting.{IsResumed, value_due, resumed}
 use Rattle.conversion.proofs.state.PoolReducer.+evaluation.Given as goal
 
 -- thirty-two for a unit, so that a call with the same units goes from a larger rank to a smaller one
@@ -51,11 +53,20 @@ decreases-guards_hold l = 32 * l.left.now + 14
 abbrev pub decreases-guard_holds : goal.decreases-guard_holds
 decreases-guard_holds l = 32 * l.left.now + 13
 
+abbrev pub decreases-normalise : goal.decreases-normalise
+decreases-normalise l = 32 * l.left.now + 7
+
+abbrev pub decreases-resume : goal.decreases-resume
+decreases-resume l = 32 * l.left.now + 6
+
+abbrev pub decreases-descend : goal.decreases-descend
+decreases-descend l = 32 * l.left.now + 5
+
 abbrev pub decreases-compare : goal.decreases-compare
 decreases-compare l = 32 * l.left.now + 3
 
-abbrev pub decreases-normalise : goal.decreases-normalise
-decreases-normalise l = 32 * l.left.now + 7
+abbrev pub decreases-compare_pair : goal.decreases-compare_pair
+decreases-compare_pair l = 32 * l.left.now + 2
 
 -- the turns of a weak head form
 
@@ -110,3 +121,44 @@ invariant-guards_hold-loop-i l = record {
   serves : Serves (entries_of l.version) l.self;
   less : l.left ≤ l.fn.left;
 }
+
+abbrev pub invariant-compare-loop-step : goal.invariant-compare-loop-step
+invariant-compare-loop-step l = record {
+  way : IsUnderWay (entries_of l.version) l.self.pool (comparison_of (entries_of l.fn.version) l.fn.left (term l.fn.self.pool l.fn.t) (term l.fn.self.pool l.fn.u))
+      (rest_compared (entries_of l.version) l.alike l.left) l.left l.work.items;
+  keeps : Extends l.fn.self.pool l.self.pool;
+  serves : Serves (entries_of l.version) l.self;
+  less : l.left ≤ l.fn.left;
+}
+
+-- a unit for more steps than a stack holds
+abbrev pub decreases-compare-loop-step : goal.decreases-compare-loop-step
+decreases-compare-loop-step l = 18446744073709551616 * l.left + vec_len l.work
+
+abbrev pub invariant-normalise-loop-frame : goal.invariant-normalise-loop-frame
+invariant-normalise-loop-frame l = record {
+  way : IsResumed (entries_of l.version) l.self.pool (normal_of (entries_of l.fn.version) l.fn.left (term l.fn.self.pool l.fn.whole))
+      (value_due l.self.pool l.value l.left) l.left l.frames.items;
+  there : l.value.0 < length l.self.pool;
+  keeps : Extends l.fn.self.pool l.self.pool;
+  serves : Serves (entries_of l.version) l.self;
+  less : l.left ≤ l.fn.left;
+}
+
+-- a unit for more frames than a stack holds
+abbrev pub decreases-normalise-loop-frame : goal.decreases-normalise-loop-frame
+decreases-normalise-loop-frame l = 18446744073709551616 * l.left + vec_len l.frames
+
+abbrev pub invariant-descend-loop-left : goal.invariant-descend-loop-left
+invariant-descend-loop-left l = record {
+  way : IsResumed (entries_of l.version) l.self.pool
+      (resumed (entries_of l.fn.version) l.fn.self.pool l.fn.frames.items (normal_of (entries_of l.fn.version) l.fn.left (term l.fn.self.pool l.fn.whole)))
+      (normal_of (entries_of l.version) l.left (term l.self.pool l.part)) l.left l.frames.items;
+  there : l.part.0 < length l.self.pool;
+  keeps : Extends l.fn.self.pool l.self.pool;
+  serves : Serves (entries_of l.version) l.self;
+  less : l.left ≤ l.fn.left;
+}
+
+abbrev pub decreases-descend-loop-left : goal.decreases-descend-loop-left
+decreases-descend-loop-left l = l.left

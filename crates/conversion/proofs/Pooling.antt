@@ -1,0 +1,113 @@
+-- The clauses of a reducer from those of a pool.
+use Rattle.std.proofs.Common.{◌≡◌, ◌∙◌, ◌+◌, ◌-◌, ◌<◌, ◌≤◌, ℕ, zero, suc, List, [], Some, None, Bool, true, false, Result, Ok, Err, refl, ap, sym as flip, arith, length, if◌then◌else◌}
+use Rattle.std.proofs.lemmas.Bool.Decides.{nat_tests}
+use Rattle.std.specs.Prelude.{eqb, nat_lt, ◌||◌, ◌&&◌, not}
+use Rattle.dk_model.specs.Trees.{Tree, star, kind, symbol, variable, rule_variable, apply, bare, annotated, product}
+use Rattle.dk_model.specs.Substitution.{shift, substitute, substituted_variable}
+use Rattle.dk_model.specs.Captures.{mentions_others}
+use Rattle.dk_model.specs.Signatures.{PlainSignature}
+use Rattle.dk_model.specs.Units.{Units}
+use Rattle.dk_model.specs.declared.NodeOf.{NodeOf}
+use Rattle.dk_model.specs.declared.NodeOf.TheVariants.{Star, Kind, Sym, Var, Rvar, App, Abs, Prod}
+use Rattle.dk_model.specs.declared.stop.Stop.{Stop}
+use Rattle.dk_model.specs.declared.stop.Stop.TheVariants.{Ended, NoMemory}
+use Rattle.shared_term.specs.declared.id.TermId.{TermId}
+use Rattle.shared_term.specs.Pools.{Node, term, terms, Extends, IsWithin}
+use Rattle.shared_term.specs.Pools.{denoted as node_term}
+use Rattle.signature_log.specs.Reducers.{Keeps, Gives, GivesAnswer, Shows, OwnsParts, built}
+use Rattle.conversion.specs.declared.state.PoolReducer.{PoolReducer}
+use Rattle.conversion.specs.Given.{GivesTerm, GivesBool}
+use Rattle.conversion.specs.Owned.{owned, denoted}
+use Rattle.conversion.specs.Reducers.{Serves}
+use Rattle.conversion.proofs.Serving.{loaded_grown, values_grown, normals_grown, answers_grown}
+
+pub pool_keeps : (old new : PoolReducer) → Extends old.pool new.pool → Keeps owned denoted old new
+pool_keeps old new e = record { own = λ t l. omega (arith, e.longer, l); same = λ t l. e.keeps t.0 l }
+
+pub pool_gives : (due : Units Tree) (r : PoolReducer) (result : Result TermId Stop) (left : ℕ) → GivesTerm due r.pool result left → Gives owned denoted due r result left
+pool_gives due r (Ok t) left h = h
+pool_gives due r (Err Ended) left h = h
+pool_gives due r (Err NoMemory) left h = tt
+
+pub pool_answers : (due : Units Bool) (result : Result Bool Stop) (left : ℕ) → GivesBool due result left → GivesAnswer due result left
+pool_answers due (Ok b) left h = h
+pool_answers due (Err Ended) left h = h
+pool_answers due (Err NoMemory) left h = tt
+
+-- a node of the pool
+
+pub pool_built : (r : PoolReducer) (n : Node) → node_term (terms r.pool) n ≡ built denoted r n
+pool_built r Star = refl
+pool_built r Kind = refl
+pool_built r (Sym k) = refl
+pool_built r (Var k) = refl
+pool_built r (Rvar k) = refl
+pool_built r (App f a) = refl
+pool_built r (Abs None b) = refl
+pool_built r (Abs (Some n) b) = refl
+pool_built r (Prod a b) = refl
+
+pub parts_within : (r : PoolReducer) (n : Node) → OwnsParts owned r n → IsWithin (length r.pool) n
+parts_within r Star h = tt
+parts_within r Kind h = tt
+parts_within r (Sym k) h = tt
+parts_within r (Var k) h = tt
+parts_within r (Rvar k) h = tt
+parts_within r (App f a) h = h
+parts_within r (Abs None b) h = h
+parts_within r (Abs (Some n) b) h = h
+parts_within r (Prod a b) h = h
+
+parts_owned : (r : PoolReducer) (i : ℕ) (n : Node) → i < length r.pool → IsWithin i n → OwnsParts owned r n
+parts_owned r i Star l h = tt
+parts_owned r i Kind l h = tt
+parts_owned r i (Sym k) l h = tt
+parts_owned r i (Var k) l h = tt
+parts_owned r i (Rvar k) l h = tt
+parts_owned r i (App f a) l h = (omega (arith, l, h.0), omega (arith, l, h.1))
+parts_owned r i (Abs None b) l h = omega (arith, l, h)
+parts_owned r i (Abs (Some n) b) l h = (omega (arith, l, h.0), omega (arith, l, h.1))
+parts_owned r i (Prod a b) l h = (omega (arith, l, h.0), omega (arith, l, h.1))
+
+pub pool_shows : (r : PoolReducer) (t : TermId) (n : Node) → t.0 < length r.pool → term r.pool t ≡ node_term (terms r.pool) n → IsWithin t.0 n → Shows owned denoted r (term r.pool t) n
+pool_shows r t n l e h = (e ∙ pool_built r n, parts_owned r t.0 n l h)
+
+-- a larger pool beside the same tables
+pub serves_grown : (S : PlainSignature) (old new : PoolReducer) → Extends old.pool new.pool → new.loaded ≡ old.loaded → new.values ≡ old.values → new.normals ≡ old.normals → new.answers ≡ old.answers
+    → Serves S old → Serves S new
+serves_grown S old new e a b c d h = record {
+  loaded = rw a (loaded_grown S old.pool new.pool old.loaded e h.loaded);
+  values = rw b (values_grown S old.pool new.pool old.values e h.values);
+  normals = rw c (normals_grown S old.pool new.pool old.normals e h.normals);
+  answers = rw d (answers_grown S old.pool new.pool old.answers e h.answers);
+}
+
+-- what takes the place of a variable that doesn't occur is of no account
+
+left_false : (a b : Bool) → (a || b) ≡ false → a ≡ false
+left_false true b e = e
+left_false false b e = refl
+
+right_false : (a b : Bool) → (a || b) ≡ false → b ≡ false
+right_false true b e = cc
+right_false false b e = e
+
+other_variable : (d k : ℕ) (u v : Tree) → ((not (nat_lt k d) && nat_lt (k - d) 1) && not false) ≡ false → substituted_variable d u k ≡ substituted_variable d v k
+other_variable d k u v e = grind (arith, nat_tests)
+
+unmentioned_at : (d : ℕ) (u v t : Tree) → mentions_others d 1 [] t ≡ false → substitute d u t ≡ substitute d v t
+unmentioned_at d u v star e = refl
+unmentioned_at d u v kind e = refl
+unmentioned_at d u v (symbol k) e = refl
+unmentioned_at d u v (rule_variable k) e = refl
+unmentioned_at d u v (variable k) e = other_variable d k u v e
+unmentioned_at d u v (apply f a) e = ap (λ (x : Tree). apply x (substitute d u a)) (unmentioned_at d u v f (left_false (mentions_others d 1 [] f) (mentions_others d 1 [] a) e))
+    ∙ ap (λ (x : Tree). apply (substitute d v f) x) (unmentioned_at d u v a (right_false (mentions_others d 1 [] f) (mentions_others d 1 [] a) e))
+unmentioned_at d u v (bare b) e = ap bare (unmentioned_at (d + 1) u v b e)
+unmentioned_at d u v (annotated n b) e = ap (λ (x : Tree). annotated x (substitute (d + 1) u b)) (unmentioned_at d u v n (left_false (mentions_others d 1 [] n) (mentions_others (d + 1) 1 [] b) e))
+    ∙ ap (λ (x : Tree). annotated (substitute d v n) x) (unmentioned_at (d + 1) u v b (right_false (mentions_others d 1 [] n) (mentions_others (d + 1) 1 [] b) e))
+unmentioned_at d u v (product a b) e = ap (λ (x : Tree). product x (substitute (d + 1) u b)) (unmentioned_at d u v a (left_false (mentions_others d 1 [] a) (mentions_others (d + 1) 1 [] b) e))
+    ∙ ap (λ (x : Tree). product (substitute d v a) x) (unmentioned_at (d + 1) u v b (right_false (mentions_others d 1 [] a) (mentions_others (d + 1) 1 [] b) e))
+
+pub unmentioned : (u v t : Tree) → mentions_others 0 1 [] t ≡ false → substitute 0 u t ≡ substitute 0 v t
+unmentioned u v t e = unmentioned_at 0 u v t e

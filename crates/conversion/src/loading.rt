@@ -1,0 +1,73 @@
+//! Bringing a boxed term into a pool.
+ghost use Rattle.std.specs.Prelude.{◌≡◌, ◌+◌, ◌≤◌, ◌<◌, length, IfOk};
+ghost use Rattle.dk_model.specs.Trees.{tree, apply};
+ghost use Rattle.shared_term.specs.Pools.{term, Extends};
+ghost use Rattle.conversion.specs.Machine.{wound};
+ghost use Rattle.conversion.specs.Spine.{behind_references, size, total_size};
+
+use dk_model::{NoMemory, NodeOf, Term};
+use shared_term::{Pool, TermId};
+use std::alloc::Global;
+
+/// Brings a boxed term into a pool. It nests with the levels of the term, and not with the length of an application.
+#[tactic(auto, using(crate::proofs::Winding::extends_none, crate::proofs::Winding::extends_more, crate::proofs::References::references_pushed, crate::proofs::References::total_pushed))]
+pub(crate) fn loaded(alloc: Global, pool: &mut Pool, it: &Term) -> Result<TermId, NoMemory>
+    ensures there { IfOk result (λ t. t.0 < length pool.new) }
+    ensures is { IfOk result (λ t. term pool.new t ≡ tree it.now) }
+    ensures keeps { Extends pool.old pool.new }
+{
+    match it {
+        Term::Star => pool.intern(NodeOf::Star),
+        Term::Kind => pool.intern(NodeOf::Kind),
+        Term::Sym(k) => pool.intern(NodeOf::Sym(*k)),
+        Term::Var(k) => pool.intern(NodeOf::Var(*k)),
+        Term::Rvar(k) => pool.intern(NodeOf::Rvar(*k)),
+        Term::App(f, a) => {
+            let (head, arguments) = spine(alloc, f, a)?;
+            let mut arguments = arguments;
+            let mut whole = loaded(alloc, pool, head)?;
+            while let Some(argument) = arguments.pop() {
+                let argument = loaded(alloc, pool, argument)?;
+                whole = pool.intern(NodeOf::App(whole, argument))?;
+            }
+            Ok(whole)
+        }
+        Term::Abs(None, b) => {
+            let body = loaded(alloc, pool, b)?;
+            pool.intern(NodeOf::Abs(None, body))
+        }
+        Term::Abs(Some(n), b) => {
+            let annotation = loaded(alloc, pool, n)?;
+            let body = loaded(alloc, pool, b)?;
+            pool.intern(NodeOf::Abs(Some(annotation), body))
+        }
+        Term::Prod(a, b) => {
+            let domain = loaded(alloc, pool, a)?;
+            let codomain = loaded(alloc, pool, b)?;
+            pool.intern(NodeOf::Prod(domain, codomain))
+        }
+    }
+}
+
+/// The head of `f a`, and its arguments on a stack, the first one on top.
+#[tactic(auto, using(crate::proofs::References::references_pushed, crate::proofs::References::total_pushed))]
+fn spine<'a>(alloc: Global, f: &'a Term, a: &'a Term) -> Result<(&'a Term, Vec<&'a Term>), NoMemory>
+    ensures whole { IfOk result (λ s. wound (tree s.0.now) (behind_references s.1.items)
+        ≡ apply (tree f.now) (tree a.now)) }
+    ensures smaller { IfOk result (λ s. size (tree s.0.now) + total_size (behind_references s.1.items)
+        ≤ size (tree f.now) + size (tree a.now)) }
+{
+    let mut arguments = Vec::new(alloc);
+    arguments.push(a)?;
+    let mut head = f;
+    loop {
+        match head {
+            Term::App(g, b) => {
+                let b: &'a Term = b;
+                arguments.push(b)?;
+                head = g;
+            }
+            other => return Ok((other, arguments)),
+        }
+    }
+}
