@@ -9,7 +9,8 @@ use Rattle.dk_model.specs.Matrix.{rigid_at, opened_columns, refined_rows}
 use Rattle.dk_model.specs.Matrix.{Column as PlainColumn, Row as PlainRow}
 use Rattle.dk_model.specs.Captures.{Captures}
 use Rattle.dk_model.specs.Selection.{RowTrial, Selected, select_from, row_taken}
-use Rattle.dk_model.specs.Evaluation.{whnf_of, comparison_of, normal_of, selection_of}
+use Rattle.dk_model.specs.Evaluation.{whnf_of, comparison_of, normal_of}
+use Rattle.dk_model.specs.Equations.{selection_of}
 use Rattle.dk_model.specs.declared.stop.Stop.{Stop}
 use Rattle.dk_model.specs.declared.stop.Stop.TheVariants.{Ended, NoMemory}
 use Rattle.dk_model.proofs.Turns.{selection_is}

@@ -5,8 +5,8 @@ use Rattle.dk_model.specs.Signatures.{PlainSignature}
 use Rattle.dk_model.specs.Units.{Units, bind}
 use Rattle.dk_model.specs.Matrix.{opened_columns}
 use Rattle.dk_model.specs.Matrix.{Column as PlainColumn, Row as PlainRow}
-use Rattle.dk_model.specs.Evaluation.{whnf_of, selection_of}
-use Rattle.dk_model.specs.Equations.{after_selection}
+use Rattle.dk_model.specs.Evaluation.{whnf_of}
+use Rattle.dk_model.specs.Equations.{selection_of, after_selection}
 use Rattle.shared_term.specs.declared.id.TermId.{TermId}
 use Rattle.shared_term.specs.Pools.{Node, term, Extends}
 use Rattle.conversion.specs.declared.matrix.Matrix.{Matrix}

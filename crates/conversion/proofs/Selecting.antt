@@ -13,8 +13,8 @@ use Rattle.dk_model.specs.Selection.{Selected}
 use Rattle.dk_model.specs.Spines.{arguments, applied}
 use Rattle.dk_model.specs.Matrix.{Column, Row}
 use Rattle.dk_model.specs.Captures.{filled, Captures}
-use Rattle.dk_model.specs.Evaluation.{whnf_of, selection_of}
-use Rattle.dk_model.specs.Equations.{after_selection}
+use Rattle.dk_model.specs.Evaluation.{whnf_of}
+use Rattle.dk_model.specs.Equations.{selection_of, after_selection}
 use Rattle.dk_model.specs.declared.stop.Stop.{Stop}
 use Rattle.dk_model.specs.declared.stop.Stop.TheVariants.{Ended, NoMemory}
 use Rattle.dk_model.proofs.Turns.{whnf_falls}

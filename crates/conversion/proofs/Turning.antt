@@ -15,8 +15,8 @@ use Rattle.dk_model.specs.Selection.{Selected}
 use Rattle.dk_model.specs.Spines.{arguments, contraction, head_symbol, body_of, applied}
 use Rattle.dk_model.specs.Matrix.{rows_for, width, Column, Row}
 use Rattle.dk_model.specs.Captures.{filled, Captures}
-use Rattle.dk_model.specs.Evaluation.{whnf_of, selection_of, columns, rows}
-use Rattle.dk_model.specs.Equations.{after_selection}
+use Rattle.dk_model.specs.Evaluation.{whnf_of, columns, rows}
+use Rattle.dk_model.specs.Equations.{selection_of, after_selection}
 use Rattle.dk_model.specs.declared.stop.Stop.{Stop}
 use Rattle.dk_model.proofs.Turns.{whnf_contracts, whnf_stands, whnf_selects}
 use Rattle.shared_term.specs.declared.id.TermId.{TermId}

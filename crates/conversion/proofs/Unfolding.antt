@@ -10,8 +10,8 @@ use Rattle.dk_model.specs.SymbolRules.{rules_of}
 use Rattle.dk_model.specs.Matrix.{Cell, blank, Column, Row, rigid_at, rows_for}
 use Rattle.dk_model.specs.Captures.{filled, Captures}
 use Rattle.dk_model.specs.Selection.{Selected, captures_of_row, guards_hold, row_taken, select_from}
-use Rattle.dk_model.specs.Evaluation.{whnf_of, comparison_of, normal_of, selection_of, columns, rows, rewritten}
-use Rattle.dk_model.specs.Equations.{after_selection}
+use Rattle.dk_model.specs.Evaluation.{whnf_of, comparison_of, normal_of, columns, rows, rewritten}
+use Rattle.dk_model.specs.Equations.{selection_of, after_selection}
 use Rattle.dk_model.proofs.Turns.{selection_is}
 use Rattle.conversion.specs.Machine.{wound}
 use Rattle.conversion.specs.Turning.{rule_due}

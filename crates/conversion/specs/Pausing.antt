@@ -9,8 +9,8 @@ use Rattle.dk_model.specs.Units.{Units, bind}
 use Rattle.dk_model.specs.Selection.{Selected}
 use Rattle.dk_model.specs.Matrix.{opened_columns, refined_rows}
 use Rattle.dk_model.specs.Matrix.{Column as PlainColumn, Row as PlainRow}
-use Rattle.dk_model.specs.Evaluation.{whnf_of, selection_of}
-use Rattle.dk_model.specs.Equations.{after_selection}
+use Rattle.dk_model.specs.Evaluation.{whnf_of}
+use Rattle.dk_model.specs.Equations.{selection_of, after_selection}
 use Rattle.shared_term.specs.Pools.{Node, term}
 use Rattle.conversion.specs.declared.matrix.Column.{Column}
 use Rattle.conversion.specs.declared.matrix.Matrix.{Matrix}

@@ -1,7 +1,8 @@
 use Rattle.std.proofs.Common.{◌≡◌, ◌≤◌, ◌<◌, ◌+◌, ◌*◌, length, map, drop, vec_len, Some}
 use Rattle.dk_model.specs.SymbolRules.{rules_of}
 use Rattle.dk_model.specs.Selection.{captures_of_row, guards_hold}
-use Rattle.dk_model.specs.Evaluation.{whnf_of, selection_of, comparison_of, normal_of}
+use Rattle.dk_model.specs.Evaluation.{whnf_of, comparison_of, normal_of}
+use Rattle.dk_model.specs.Equations.{selection_of}
 use Rattle.shared_term.specs.Pools.{term, Extends}
 use Rattle.shared_term.specs.Changes.{AreCaptures, captured_terms}
 use Rattle.signature_log.specs.Versions.{entries_of}
