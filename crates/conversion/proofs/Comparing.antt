@@ -5,7 +5,8 @@ use Rattle.std.specs.Prelude.{eqb, ◌&&◌}
 use Rattle.dk_model.specs.Trees.{Tree, star, kind, symbol, variable, rule_variable, apply, bare, annotated, product}
 use Rattle.dk_model.specs.Substitution.{equal}
 use Rattle.dk_model.specs.Signatures.{PlainSignature}
-use Rattle.dk_model.specs.Units.{Units, bind, Takes}
+use Rattle.dk_model.specs.Units.{Units, bind}
+use Rattle.dk_model.specs.Taking.{Takes}
 use Rattle.dk_model.specs.Spines.{pairs_of}
 use Rattle.dk_model.specs.Evaluation.{whnf_of, comparison_of}
 use Rattle.dk_model.proofs.Turns.{comparison_is}

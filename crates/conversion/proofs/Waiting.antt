@@ -2,7 +2,8 @@
 use Rattle.std.proofs.Common.{List, [], ◌∷◌, ◌++◌, ◌≡◌, ◌-◌, ◌<◌, ◌≤◌, ℕ, zero, suc, Bool, true, false, Some, None, Result, Ok, Err, refl, ap, subst, ◌∙◌, sym as flip, arith, length}
 use Rattle.dk_model.specs.Trees.{Tree, apply, bare, annotated, product}
 use Rattle.dk_model.specs.Signatures.{PlainSignature}
-use Rattle.dk_model.specs.Units.{Units, bind, Takes}
+use Rattle.dk_model.specs.Units.{Units, bind}
+use Rattle.dk_model.specs.Taking.{Takes}
 use Rattle.dk_model.specs.Parts.{each_normal}
 use Rattle.dk_model.specs.Evaluation.{whnf_of, normal_of}
 use Rattle.dk_model.proofs.Turns.{normal_is}

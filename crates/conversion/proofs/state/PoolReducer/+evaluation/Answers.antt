@@ -33,7 +33,7 @@ use Rattle.conversion.specs.declared.compare.Step.{Step}
 use Rattle.conversion.specs.declared.compare.Step.TheVariants.{Pair, Conclude}
 use Rattle.conversion.specs.Pending.{IsUnderWay, rest_compared, pending}
 use Rattle.conversion.proofs.Comparing.{steps_popped, pair_within, concluded_within, way_open, way_goes, way_stops, way_skips, way_concludes, concluded_gives, concluded_units, pair_alike, pair_known, known_too_few, comparison_costs, pair_first_ends, pair_second_ends, pair_parts, pair_stopped}
-use Rattle.conversion.specs.Waiting.{value_due, IsFrame, IsWaiting, continued, TakesValueApart}
+use Rattle.conversion.specs.Waiting.{AreFrames, AreWaiting, value_due, IsFrame, IsWaiting, continued, TakesValueApart}
 use Rattle.conversion.proofs.Waiting.{frames_popped, frame_popped, waits_popped, way_popped, way_due, part_stops, argument_next, annotation_next, domain_next, built_next, part_due, ended, normal_costs, way_found, way_concluding, weak_ends, part_stopped}
 use Rattle.conversion.specs.declared.normal.Frame.{Frame}
 use Rattle.conversion.specs.declared.normal.Next.{Next}
@@ -514,26 +514,16 @@ turn_matrix-returns-in-Asks-clause-gives t c =
 
 -- The steps of a comparison
 
-pub compare-compare_pair-requires-then-alike-clause-t : goal.compare-compare_pair-requires-then-alike-clause-t
-compare-compare_pair-requires-then-alike-clause-t t c =
+pub compare-compare_pair-requires-then-alike : goal.compare-compare_pair-requires-then-alike
+compare-compare_pair-requires-then-alike t c =
     let e : c.loop-step.work.items ≡ c.pop.new.self.items ++ (Pair c.in-Pair.first c.in-Pair.second ∷ []) = c.in-Some.ensures.items ∙ ap (λ (x : Step). c.pop.new.self.items ++ (x ∷ [])) c.in-Pair.is in
-    (pair_within (length c.loop-step.self.pool) c.pop.new.self.items c.in-Pair.first c.in-Pair.second (rw e at c.loop-step.invariant.way.within)).0
-
-pub compare-compare_pair-requires-then-alike-clause-u : goal.compare-compare_pair-requires-then-alike-clause-u
-compare-compare_pair-requires-then-alike-clause-u t c =
-    let e : c.loop-step.work.items ≡ c.pop.new.self.items ++ (Pair c.in-Pair.first c.in-Pair.second ∷ []) = c.in-Some.ensures.items ∙ ap (λ (x : Step). c.pop.new.self.items ++ (x ∷ [])) c.in-Pair.is in
-    (pair_within (length c.loop-step.self.pool) c.pop.new.self.items c.in-Pair.first c.in-Pair.second (rw e at c.loop-step.invariant.way.within)).1
-
-pub compare-compare_pair-requires-then-alike-clause-steps : goal.compare-compare_pair-requires-then-alike-clause-steps
-compare-compare_pair-requires-then-alike-clause-steps t c =
-    let e : c.loop-step.work.items ≡ c.pop.new.self.items ++ (Pair c.in-Pair.first c.in-Pair.second ∷ []) = c.in-Some.ensures.items ∙ ap (λ (x : Step). c.pop.new.self.items ++ (x ∷ [])) c.in-Pair.is in
-    steps_popped (length c.loop-step.self.pool) c.pop.new.self.items (Pair c.in-Pair.first c.in-Pair.second) (rw e at c.loop-step.invariant.way.within)
-
-pub compare-compare_pair-requires-then-alike-clause-opened : goal.compare-compare_pair-requires-then-alike-clause-opened
-compare-compare_pair-requires-then-alike-clause-opened t c =
-    let e : c.loop-step.work.items ≡ c.pop.new.self.items ++ (Pair c.in-Pair.first c.in-Pair.second ∷ []) = c.in-Some.ensures.items ∙ ap (λ (x : Step). c.pop.new.self.items ++ (x ∷ [])) c.in-Pair.is in
-    way_open (entries_of c.args.version.now) c.loop-step.self.pool _ c.loop-step.left c.loop-step.alike c.pop.new.self.items c.in-Pair.first c.in-Pair.second c.if-alike.true
-    (rw e at c.loop-step.invariant.way)
+    let way = rw e at c.loop-step.invariant.way in
+    let within = pair_within (length c.loop-step.self.pool) c.pop.new.self.items c.in-Pair.first c.in-Pair.second way.within in
+    let steps = steps_popped (length c.loop-step.self.pool) c.pop.new.self.items (Pair c.in-Pair.first c.in-Pair.second) way.within in
+    let opened = way_open (entries_of c.args.version.now) c.loop-step.self.pool _ c.loop-step.left c.loop-step.alike c.pop.new.self.items c.in-Pair.first c.in-Pair.second c.if-alike.true way in
+    let serves = c.loop-step.invariant.serves in
+    let less = c.loop-step.invariant.less in
+    search rules
 
 pub compare-returns-in_err-alike-in-Pair-clause-gives : goal.compare-returns-in_err-alike-in-Pair-clause-gives
 compare-returns-in_err-alike-in-Pair-clause-gives t c =
@@ -653,19 +643,19 @@ compare_pair-returns-clause-gives t c =
 
 -- The frames of a normal form
 
-pub normalise-resume-requires-clause-frame : goal.normalise-resume-requires-clause-frame
-normalise-resume-requires-clause-frame t c = frame_popped (length c.loop-frame.self.pool) c.pop.new.self.items c.in-Some.frame (rw c.in-Some.ensures.items at c.loop-frame.invariant.way.frames)
-
-pub normalise-resume-requires-clause-frames : goal.normalise-resume-requires-clause-frames
-normalise-resume-requires-clause-frames t c = frames_popped (length c.loop-frame.self.pool) c.pop.new.self.items c.in-Some.frame (rw c.in-Some.ensures.items at c.loop-frame.invariant.way.frames)
-
-pub normalise-resume-requires-clause-waits : goal.normalise-resume-requires-clause-waits
-normalise-resume-requires-clause-waits t c = waits_popped (entries_of c.args.version.now) c.loop-frame.self.pool c.pop.new.self.items c.in-Some.frame (value_due c.loop-frame.self.pool c.loop-frame.value c.loop-frame.left)
-    c.loop-frame.left (rw c.in-Some.ensures.items at c.loop-frame.invariant.way.waiting)
-
-pub normalise-resume-requires-clause-waiting : goal.normalise-resume-requires-clause-waiting
-normalise-resume-requires-clause-waiting t c = (way_popped (entries_of c.args.version.now) c.loop-frame.self.pool c.pop.new.self.items c.in-Some.frame _
-    (value_due c.loop-frame.self.pool c.loop-frame.value c.loop-frame.left) c.loop-frame.left (rw c.in-Some.ensures.items at c.loop-frame.invariant.way)).waiting
+pub normalise-resume-requires : goal.normalise-resume-requires
+normalise-resume-requires t c =
+    let way = rw c.in-Some.ensures.items at c.loop-frame.invariant.way in
+    let frame = frame_popped (length c.loop-frame.self.pool) c.pop.new.self.items c.in-Some.frame way.frames in
+    let frames = frames_popped (length c.loop-frame.self.pool) c.pop.new.self.items c.in-Some.frame way.frames in
+    let waits = waits_popped (entries_of c.args.version.now) c.loop-frame.self.pool c.pop.new.self.items c.in-Some.frame (value_due c.loop-frame.self.pool c.loop-frame.value c.loop-frame.left)
+        c.loop-frame.left way.waiting in
+    let waiting = (way_popped (entries_of c.args.version.now) c.loop-frame.self.pool c.pop.new.self.items c.in-Some.frame _
+        (value_due c.loop-frame.self.pool c.loop-frame.value c.loop-frame.left) c.loop-frame.left way).waiting in
+    let there = c.loop-frame.invariant.there in
+    let serves = c.loop-frame.invariant.serves in
+    let less = c.loop-frame.invariant.less in
+    search rules
 
 pub normalise-returns-in_err-value-2-clause-gives : goal.normalise-returns-in_err-value-2-clause-gives
 normalise-returns-in_err-value-2-clause-gives t c =
@@ -689,33 +679,48 @@ normalise-loop-frame-preserved t c =
 
 -- A frame goes on once its part has a normal form
 
-pub resume-descend-requires-clause-frames : goal.resume-descend-requires-clause-frames
-resume-descend-requires-clause-frames t c = rw c.in_ok-push_frame-in-Argument.ensures (argument_next (entries_of c.args.version.now) c.args.self.now.pool c.args.frames.now.items c.args.frame c.args.value c.in-Argument.argument c.args.left.now c.in-Argument.is c.requires.value c.requires.frames c.requires.waiting).frames
-
-pub resume-descend-requires-clause-waiting : goal.resume-descend-requires-clause-waiting
-resume-descend-requires-clause-waiting t c = rw c.in_ok-push_frame-in-Argument.ensures (argument_next (entries_of c.args.version.now) c.args.self.now.pool c.args.frames.now.items c.args.frame c.args.value c.in-Argument.argument c.args.left.now c.in-Argument.is c.requires.value c.requires.frames c.requires.waiting).waiting
+pub resume-descend-requires : goal.resume-descend-requires
+resume-descend-requires t c =
+    let way = argument_next (entries_of c.args.version.now) c.args.self.now.pool c.args.frames.now.items c.args.frame c.args.value c.in-Argument.argument c.args.left.now c.in-Argument.is
+        c.requires.value c.requires.frames c.requires.waiting in
+    let frames = subst (λ (l : List Frame). AreFrames (length c.args.self.now.pool) l) (flip c.in_ok-push_frame-in-Argument.ensures) way.frames in
+    let waiting = subst (λ (l : List Frame). AreWaiting (entries_of c.args.version.now) c.args.self.now.pool
+        (normal_of (entries_of c.args.version.now) c.args.left.now (term c.args.self.now.pool c.in-Argument.argument)) c.args.left.now l) (flip c.in_ok-push_frame-in-Argument.ensures) way.waiting in
+    let within = subst (IsFrame (length c.args.self.now.pool)) c.in-Argument.is c.requires.frame in
+    let serves = c.requires.serves in
+    search rules
 
 pub resume-returns-in_ok-push_frame-in-Argument-clause-gives : goal.resume-returns-in_ok-push_frame-in-Argument-clause-gives
 resume-returns-in_ok-push_frame-in-Argument-clause-gives t c =
     let way = argument_next (entries_of c.args.version.now) c.args.self.now.pool c.args.frames.now.items c.args.frame c.args.value c.in-Argument.argument c.args.left.now c.in-Argument.is c.requires.value c.requires.frames c.requires.waiting in
     part_due (entries_of c.args.version.now) _ _ _ _ _ _ way.comes (rw c.in_ok-push_frame-in-Argument.ensures at c.descend.ensures.gives)
 
-pub resume-descend-requires-in-Annotation-clause-frames : goal.resume-descend-requires-in-Annotation-clause-frames
-resume-descend-requires-in-Annotation-clause-frames t c = rw c.in_ok-push_frame-in-Annotation.ensures (annotation_next (entries_of c.args.version.now) c.args.self.now.pool c.args.frames.now.items c.args.frame c.args.value c.in-Annotation.body c.args.left.now c.in-Annotation.is c.requires.value c.requires.frames c.requires.waiting).frames
-
-pub resume-descend-requires-in-Annotation-clause-waiting : goal.resume-descend-requires-in-Annotation-clause-waiting
-resume-descend-requires-in-Annotation-clause-waiting t c = rw c.in_ok-push_frame-in-Annotation.ensures (annotation_next (entries_of c.args.version.now) c.args.self.now.pool c.args.frames.now.items c.args.frame c.args.value c.in-Annotation.body c.args.left.now c.in-Annotation.is c.requires.value c.requires.frames c.requires.waiting).waiting
+pub resume-descend-requires-in-Annotation : goal.resume-descend-requires-in-Annotation
+resume-descend-requires-in-Annotation t c =
+    let way = annotation_next (entries_of c.args.version.now) c.args.self.now.pool c.args.frames.now.items c.args.frame c.args.value c.in-Annotation.body c.args.left.now c.in-Annotation.is
+        c.requires.value c.requires.frames c.requires.waiting in
+    let frames = subst (λ (l : List Frame). AreFrames (length c.args.self.now.pool) l) (flip c.in_ok-push_frame-in-Annotation.ensures) way.frames in
+    let waiting = subst (λ (l : List Frame). AreWaiting (entries_of c.args.version.now) c.args.self.now.pool
+        (normal_of (entries_of c.args.version.now) c.args.left.now (term c.args.self.now.pool c.in-Annotation.body)) c.args.left.now l) (flip c.in_ok-push_frame-in-Annotation.ensures) way.waiting in
+    let within = subst (IsFrame (length c.args.self.now.pool)) c.in-Annotation.is c.requires.frame in
+    let serves = c.requires.serves in
+    search rules
 
 pub resume-returns-in_ok-push_frame-in-Annotation-clause-gives : goal.resume-returns-in_ok-push_frame-in-Annotation-clause-gives
 resume-returns-in_ok-push_frame-in-Annotation-clause-gives t c =
     let way = annotation_next (entries_of c.args.version.now) c.args.self.now.pool c.args.frames.now.items c.args.frame c.args.value c.in-Annotation.body c.args.left.now c.in-Annotation.is c.requires.value c.requires.frames c.requires.waiting in
     part_due (entries_of c.args.version.now) _ _ _ _ _ _ way.comes (rw c.in_ok-push_frame-in-Annotation.ensures at c.descend-in-Annotation.ensures.gives)
 
-pub resume-descend-requires-in-Domain-clause-frames : goal.resume-descend-requires-in-Domain-clause-frames
-resume-descend-requires-in-Domain-clause-frames t c = rw c.in_ok-push_frame-in-Domain.ensures (domain_next (entries_of c.args.version.now) c.args.self.now.pool c.args.frames.now.items c.args.frame c.args.value c.in-Domain.codomain c.args.left.now c.in-Domain.is c.requires.value c.requires.frames c.requires.waiting).frames
-
-pub resume-descend-requires-in-Domain-clause-waiting : goal.resume-descend-requires-in-Domain-clause-waiting
-resume-descend-requires-in-Domain-clause-waiting t c = rw c.in_ok-push_frame-in-Domain.ensures (domain_next (entries_of c.args.version.now) c.args.self.now.pool c.args.frames.now.items c.args.frame c.args.value c.in-Domain.codomain c.args.left.now c.in-Domain.is c.requires.value c.requires.frames c.requires.waiting).waiting
+pub resume-descend-requires-in-Domain : goal.resume-descend-requires-in-Domain
+resume-descend-requires-in-Domain t c =
+    let way = domain_next (entries_of c.args.version.now) c.args.self.now.pool c.args.frames.now.items c.args.frame c.args.value c.in-Domain.codomain c.args.left.now c.in-Domain.is
+        c.requires.value c.requires.frames c.requires.waiting in
+    let frames = subst (λ (l : List Frame). AreFrames (length c.args.self.now.pool) l) (flip c.in_ok-push_frame-in-Domain.ensures) way.frames in
+    let waiting = subst (λ (l : List Frame). AreWaiting (entries_of c.args.version.now) c.args.self.now.pool
+        (normal_of (entries_of c.args.version.now) c.args.left.now (term c.args.self.now.pool c.in-Domain.codomain)) c.args.left.now l) (flip c.in_ok-push_frame-in-Domain.ensures) way.waiting in
+    let within = subst (IsFrame (length c.args.self.now.pool)) c.in-Domain.is c.requires.frame in
+    let serves = c.requires.serves in
+    search rules
 
 pub resume-returns-in_ok-push_frame-in-Domain-clause-gives : goal.resume-returns-in_ok-push_frame-in-Domain-clause-gives
 resume-returns-in_ok-push_frame-in-Domain-clause-gives t c =
