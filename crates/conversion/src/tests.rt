@@ -212,8 +212,14 @@ fn takes(alloc: Global, number: usize, units: u64) -> Result<bool, NoMemory> {
     let mut left_again = units;
     let found_again = terms.whnf(&version, &whole, &mut left_again);
     Ok(
-        found == Ok(value) && left == 0 && ended == Err(Stop::Ended) && short == 0
-            && found_again == Ok(value) && left_again == 0 && ended_again == Err(Stop::Ended) && short_again == 0,
+        found == Ok(value)
+            && left == 0
+            && ended == Err(Stop::Ended)
+            && short == 0
+            && found_again == Ok(value)
+            && left_again == 0
+            && ended_again == Err(Stop::Ended)
+            && short_again == 0,
     )
 }
 
@@ -249,8 +255,13 @@ fn compared(alloc: Global, last: usize, units: u64) -> Result<Option<bool>, NoMe
     let found_again = terms.same(&version, &sum, &other, &mut left_again);
     let mut short_again = units.saturating_sub(1);
     let ended_again = terms.same(&version, &sum, &other, &mut short_again);
-    let exact = left == 0 && left_again == 0 && short == 0 && short_again == 0
-        && ended == Err(Stop::Ended) && ended_again == Err(Stop::Ended) && found == found_again;
+    let exact = left == 0
+        && left_again == 0
+        && short == 0
+        && short_again == 0
+        && ended == Err(Stop::Ended)
+        && ended_again == Err(Stop::Ended)
+        && found == found_again;
     match found {
         Ok(alike) if exact => Ok(Some(alike)),
         _ => Ok(None),

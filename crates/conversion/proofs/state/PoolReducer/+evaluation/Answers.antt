@@ -649,9 +649,9 @@ normalise-resume-requires t c =
     let frame = frame_popped (length c.loop-frame.self.pool) c.pop.new.self.items c.in-Some.frame way.frames in
     let frames = frames_popped (length c.loop-frame.self.pool) c.pop.new.self.items c.in-Some.frame way.frames in
     let waits = waits_popped (entries_of c.args.version.now) c.loop-frame.self.pool c.pop.new.self.items c.in-Some.frame (value_due c.loop-frame.self.pool c.loop-frame.value c.loop-frame.left)
-        c.loop-frame.left way.waiting in
+    c.loop-frame.left way.waiting in
     let waiting = (way_popped (entries_of c.args.version.now) c.loop-frame.self.pool c.pop.new.self.items c.in-Some.frame _
-        (value_due c.loop-frame.self.pool c.loop-frame.value c.loop-frame.left) c.loop-frame.left way).waiting in
+    (value_due c.loop-frame.self.pool c.loop-frame.value c.loop-frame.left) c.loop-frame.left way).waiting in
     let there = c.loop-frame.invariant.there in
     let serves = c.loop-frame.invariant.serves in
     let less = c.loop-frame.invariant.less in
@@ -682,10 +682,10 @@ normalise-loop-frame-preserved t c =
 pub resume-descend-requires : goal.resume-descend-requires
 resume-descend-requires t c =
     let way = argument_next (entries_of c.args.version.now) c.args.self.now.pool c.args.frames.now.items c.args.frame c.args.value c.in-Argument.argument c.args.left.now c.in-Argument.is
-        c.requires.value c.requires.frames c.requires.waiting in
+    c.requires.value c.requires.frames c.requires.waiting in
     let frames = subst (λ (l : List Frame). AreFrames (length c.args.self.now.pool) l) (flip c.in_ok-push_frame-in-Argument.ensures) way.frames in
     let waiting = subst (λ (l : List Frame). AreWaiting (entries_of c.args.version.now) c.args.self.now.pool
-        (normal_of (entries_of c.args.version.now) c.args.left.now (term c.args.self.now.pool c.in-Argument.argument)) c.args.left.now l) (flip c.in_ok-push_frame-in-Argument.ensures) way.waiting in
+    (normal_of (entries_of c.args.version.now) c.args.left.now (term c.args.self.now.pool c.in-Argument.argument)) c.args.left.now l) (flip c.in_ok-push_frame-in-Argument.ensures) way.waiting in
     let within = subst (IsFrame (length c.args.self.now.pool)) c.in-Argument.is c.requires.frame in
     let serves = c.requires.serves in
     search rules
@@ -698,10 +698,10 @@ resume-returns-in_ok-push_frame-in-Argument-clause-gives t c =
 pub resume-descend-requires-in-Annotation : goal.resume-descend-requires-in-Annotation
 resume-descend-requires-in-Annotation t c =
     let way = annotation_next (entries_of c.args.version.now) c.args.self.now.pool c.args.frames.now.items c.args.frame c.args.value c.in-Annotation.body c.args.left.now c.in-Annotation.is
-        c.requires.value c.requires.frames c.requires.waiting in
+    c.requires.value c.requires.frames c.requires.waiting in
     let frames = subst (λ (l : List Frame). AreFrames (length c.args.self.now.pool) l) (flip c.in_ok-push_frame-in-Annotation.ensures) way.frames in
     let waiting = subst (λ (l : List Frame). AreWaiting (entries_of c.args.version.now) c.args.self.now.pool
-        (normal_of (entries_of c.args.version.now) c.args.left.now (term c.args.self.now.pool c.in-Annotation.body)) c.args.left.now l) (flip c.in_ok-push_frame-in-Annotation.ensures) way.waiting in
+    (normal_of (entries_of c.args.version.now) c.args.left.now (term c.args.self.now.pool c.in-Annotation.body)) c.args.left.now l) (flip c.in_ok-push_frame-in-Annotation.ensures) way.waiting in
     let within = subst (IsFrame (length c.args.self.now.pool)) c.in-Annotation.is c.requires.frame in
     let serves = c.requires.serves in
     search rules
@@ -714,10 +714,10 @@ resume-returns-in_ok-push_frame-in-Annotation-clause-gives t c =
 pub resume-descend-requires-in-Domain : goal.resume-descend-requires-in-Domain
 resume-descend-requires-in-Domain t c =
     let way = domain_next (entries_of c.args.version.now) c.args.self.now.pool c.args.frames.now.items c.args.frame c.args.value c.in-Domain.codomain c.args.left.now c.in-Domain.is
-        c.requires.value c.requires.frames c.requires.waiting in
+    c.requires.value c.requires.frames c.requires.waiting in
     let frames = subst (λ (l : List Frame). AreFrames (length c.args.self.now.pool) l) (flip c.in_ok-push_frame-in-Domain.ensures) way.frames in
     let waiting = subst (λ (l : List Frame). AreWaiting (entries_of c.args.version.now) c.args.self.now.pool
-        (normal_of (entries_of c.args.version.now) c.args.left.now (term c.args.self.now.pool c.in-Domain.codomain)) c.args.left.now l) (flip c.in_ok-push_frame-in-Domain.ensures) way.waiting in
+    (normal_of (entries_of c.args.version.now) c.args.left.now (term c.args.self.now.pool c.in-Domain.codomain)) c.args.left.now l) (flip c.in_ok-push_frame-in-Domain.ensures) way.waiting in
     let within = subst (IsFrame (length c.args.self.now.pool)) c.in-Domain.is c.requires.frame in
     let serves = c.requires.serves in
     search rules
