@@ -1,5 +1,5 @@
 -- What the program did, clause by clause.
-use Rattle.std.proofs.Common.{◌≡◌, ◌≢◌, ◌⊎◌, ◌<◌, inl, inr, ℕ, List, [], refl, sym, ap, subst, ◌∙◌, arith}
+use Rattle.std.proofs.Common.{◌≡◌, ◌≢◌, ◌⊎◌, ◌<◌, ◌+◌, inl, inr, ℕ, List, [], length, refl, sym, ap, subst, ◌∙◌, arith}
 use Rattle.std.specs.Prelude.{Bool, true, false, Option, Some, None}
 use Rattle.dk_io.specs.Bytes.{Books, Opens, added, book_of}
 use Rattle.dk_io.specs.Causes.{Rose}
@@ -7,15 +7,12 @@ use Rattle.dk_model.specs.Limits.{standard}
 use Rattle.dk_model.specs.declared.code.Verdict.TheVariants as verdict
 use Rattle.command_line.specs.Requests.{Request}
 use Rattle.command_line.specs.Usage.{usage_text}
-use Rattle.verdict_book.specs.Report.{report_of, status_of}
+use Rattle.verdict_book.specs.Report.{FileReport, report_of, status_of}
 use Rattle.verdict_book.specs.declared.outcome.Outcome.{Outcome}
 use Rattle.verdict_book.specs.declared.outcome.Outcome.TheVariants.{Accepted, Stopped, Unread}
 use Rattle.dk_check_run.specs.Answers.{Answers, SameCounts, asks_nothing, memory_ended, not_opened, checked}
-use Rattle.dk_check_run.specs.Counts.{MayRiseAtUnread, RoseAtUnread}
-use Rattle.dk_check_run.specs.Outcomes.{FileReport}
-use Rattle.dk_check_run.specs.Progress.{EndsOn}
+use Rattle.dk_check_run.specs.Counts.{EndsOn, MayRiseAtUnread, RoseAtUnread}
 use Rattle.dk_check_run.specs.Run.{AsksFor, HasHeld, HasShelfFault, IsDecided, IsDue, ReportsFile, ShelfState, SinkState, Writes, WritesDue, memory_at_once, of_a_failed_opening, of_a_failed_read, of_memory, of_no_memory, of_the_file, report_for, text_of, unopened}
-use Rattle.dk_check_run.proofs.Memory.{told}
 
 same_request : {request : Option Request} {q r : Request} → request ≡ Some q → request ≡ Some r → q ≡ r
 same_request {request = request} {q = q} {r = r} a b = some_same q r (sym a ∙ b)
@@ -55,9 +52,14 @@ held_over o old opened new not3 same faults missed = record {
   missed = λ name. missed_of o not3 opened.missed new.missed missed name ∙ same.missed name;
 }
 
-at_once : (quiet : Bool) → report_of [] (Stopped 0 0 verdict.Memory) 0 quiet ≡ memory_at_once
+pub at_once : (quiet : Bool) → report_of [] (Stopped 0 0 verdict.Memory) 0 quiet ≡ memory_at_once
 at_once true = refl
 at_once false = refl
+
+-- the text where memory ended before the first command, whatever the budget
+pub at_once_by : (budget : ℕ) (quiet : Bool) → report_of [] (Stopped 0 0 verdict.Memory) budget quiet ≡ memory_at_once
+at_once_by budget true = refl
+at_once_by budget false = refl
 
 module _ (q : Request) (book : Option (List ℕ)) (bytes : List ℕ) (old opened new : ShelfState) (names : List (List ℕ)) where
   -- the outcome is the file's own
@@ -77,17 +79,19 @@ module _ (q : Request) (book : Option (List ℕ)) (bytes : List ℕ) (old opened
 
   -- how the open book ended
   pub book_due : (o : Outcome) → book ≡ Some bytes → SameCounts old opened → RoseAtUnread opened.faults new.faults o → MayRiseAtUnread opened.missed new.missed o
-      → EndsOn standard q.budget bytes new.left names o ⊎ ((names ≡ []) × (o ≡ Stopped 0 0 verdict.Memory)) → IsDue q book old new (status_of o) (report_of names o q.budget q.quiet)
-  book_due o has same faults missed (inr m) = nothing_due o same faults missed m.0 m.1
-  book_due (Accepted n) has same faults missed (inl ends) = own_due (Accepted n) (λ e. absurd (omega (arith, e))) has same faults missed ends
-  book_due (Stopped n line verdict.Accepted) has same faults missed (inl ends) = absurd ends
-  book_due (Stopped n line (verdict.Refused code)) has same faults missed (inl ends) = own_due (Stopped n line (verdict.Refused code)) (λ e. absurd (omega (arith, e))) has same faults missed ends
-  book_due (Stopped n line verdict.Ended) has same faults missed (inl ends) = own_due (Stopped n line verdict.Ended) (λ e. absurd (omega (arith, e))) has same faults missed ends
-  book_due (Stopped n line verdict.Memory) has same faults missed (inl ends) =
-      let t = told q bytes names n line ends in
-      subst (λ text. IsDue q book old new 4 text) (sym t.text)
-      (of_memory bytes has (held_over (Stopped n line verdict.Memory) old opened new (λ e. absurd (omega (arith, e))) same faults missed) t.accepted line t.memory)
-  book_due (Unread n) has same faults missed (inl ends) =
+      → EndsOn standard q.budget bytes new.left names o → IsDue q book old new (status_of o) (report_of names o q.budget q.quiet)
+  book_due (Accepted n) has same faults missed ends = own_due (Accepted n) (λ e. absurd (omega (arith, e))) has same faults missed ends
+  book_due (Stopped n line verdict.Accepted) has same faults missed ends = own_due (Stopped n line verdict.Accepted) (λ e. absurd (omega (arith, e))) has same faults missed ends
+  book_due (Stopped n line (verdict.Refused code)) has same faults missed ends = own_due (Stopped n line (verdict.Refused code)) (λ e. absurd (omega (arith, e))) has same faults missed ends
+  book_due (Stopped n line verdict.Ended) has same faults missed ends = own_due (Stopped n line verdict.Ended) (λ e. absurd (omega (arith, e))) has same faults missed ends
+  book_due (Stopped n line verdict.Memory) has same faults missed (inl m) =
+      nothing_due (Stopped n line verdict.Memory) same faults missed m.0 (ap (λ k. Stopped k line verdict.Memory) m.1 ∙ ap (λ l. Stopped 0 l verdict.Memory) m.2)
+  book_due (Stopped n line verdict.Memory) has same faults missed (inr m) =
+      subst (λ text. IsDue q book old new 4 text)
+      (ap (λ ns. report_of ns (Stopped (length names + 1) line verdict.Memory) q.budget q.quiet) (sym m.names_are)
+      ∙ ap (λ k. report_of names (Stopped k line verdict.Memory) q.budget q.quiet) (sym m.number_is))
+      (of_memory bytes has (held_over (Stopped n line verdict.Memory) old opened new (λ e. absurd (omega (arith, e))) same faults missed) (length names) line m.memory)
+  book_due (Unread n) has same faults missed ends =
       subst (λ (r : FileReport). IsDue q book old new 3 (text_of q r)) ends.4
       (of_a_failed_read ends.0 ends.1 (has ∙ ap Some ends.2) ends.3 (subst (λ count. Rose count new.faults) same.faults faults) n (ap (λ (r : FileReport). r.outcome) ends.4))
 
@@ -111,9 +115,9 @@ due request old new before after result (checked r opened is opens same c) q boo
     let t = subst (λ (o : Option Books). Opens o r.file opened.left) asks.told opens in
     subst (λ (x : Request). WritesDue x book old new before after result) same_q
     (record {
-      status = status_of c.outcome;
-      text = report_of c.names c.outcome r.budget r.quiet;
-      due = book_due r book t.0 old opened new c.names c.outcome (sym has ∙ t.1) same c.faults c.missed (c.ends t.0 t.2);
+      status = status_of c.report.outcome;
+      text = report_of c.report.names c.report.outcome r.budget r.quiet;
+      due = book_due r book t.0 old opened new c.report.names c.report.outcome (sym has ∙ t.1) same c.faults c.missed (c.ends t.0 t.2);
       writes = c.writes;
     })
 
@@ -175,7 +179,7 @@ shelf_held request old new before after result (memory_ended same writes) is = h
 shelf_held request old new before after result (not_opened r e left rose writes) is = let not = decided_not result is in absurd (not.1 (is_status writes not.3))
 shelf_held request old new before after result (checked r opened e opens same c) is =
     let not = decided_not result is in
-    held_over c.outcome old opened new (not_of (is_status c.writes not.3) not.1) same c.faults c.missed
+    held_over c.report.outcome old opened new (not_of (is_status c.writes not.3) not.1) same c.faults c.missed
 
 -- ---- usage
 
@@ -201,7 +205,7 @@ pub usage_only : (request : Option Request) (old new : ShelfState) (before after
 usage_only request old new before after result (asks_nothing none same writes) is = none
 usage_only request old new before after result (memory_ended same writes) is = let f : result ≡ 4 = is_status writes (two_five is) in absurd (omega (arith, is, f))
 usage_only request old new before after result (not_opened r e left rose writes) is = let f : result ≡ 3 = is_status writes (two_five is) in absurd (omega (arith, is, f))
-usage_only request old new before after result (checked r opened e opens same c) is = absurd (status_not_two c.outcome (sym (is_status c.writes (two_five is)) ∙ is))
+usage_only request old new before after result (checked r opened e opens same c) is = absurd (status_not_two c.report.outcome (sym (is_status c.writes (two_five is)) ∙ is))
 
 pub untouched : (request : Option Request) (old new : ShelfState) (before after : SinkState) (result : ℕ) → Answers request old new before after result → request ≡ None → new ≡ old
 untouched request old new before after result (asks_nothing none same writes) is = same
@@ -228,8 +232,8 @@ shelf_failed request old new before after result (asks_nothing none same writes)
 shelf_failed request old new before after result (memory_ended same writes) is = let f : result ≡ 4 = is_status writes (three_five is) in absurd (omega (arith, is, f))
 shelf_failed request old new before after result (not_opened q e left rose writes) is = (q, e, inl (left, rose, writes.whole (three_five is)))
 shelf_failed request old new before after result (checked q opened e opens same c) is =
-    let three : status_of c.outcome ≡ 3 = sym (is_status c.writes (three_five is)) ∙ is in
-    (q, e, inr (subst (λ n. Rose n new.faults) same.faults (unread_of c.outcome three opened.faults new.faults c.faults)))
+    let three : status_of c.report.outcome ≡ 3 = sym (is_status c.writes (three_five is)) ∙ is in
+    (q, e, inr (subst (λ n. Rose n new.faults) same.faults (unread_of c.report.outcome three opened.faults new.faults c.faults)))
 
 -- ---- a fault of the sink
 
@@ -262,4 +266,4 @@ pub statuses : (request : Option Request) (old new : ShelfState) (before after :
 statuses request old new before after result (asks_nothing none same writes) = small_status writes (omega arith)
 statuses request old new before after result (memory_ended same writes) = small_status writes (omega arith)
 statuses request old new before after result (not_opened r is left rose writes) = small_status writes (omega arith)
-statuses request old new before after result (checked r opened is opens same c) = small_status c.writes (status_small c.outcome)
+statuses request old new before after result (checked r opened is opens same c) = small_status c.writes (status_small c.report.outcome)

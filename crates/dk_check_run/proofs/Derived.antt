@@ -17,8 +17,8 @@ use Rattle.typing_model.specs.Derivations.{HasDerivation}
 use Rattle.typing_model.proofs.Commands.{accepted_derives}
 use Rattle.typing_model.proofs.Rules.{comparison_joins, normal_reduces, whnf_reduces}
 use Rattle.command_line.specs.Requests.{Request}
-use Rattle.verdict_book.specs.Report.{status_of}
-use Rattle.dk_check_run.specs.Outcomes.{FileReport, Theory, by_verdict, no_theory, report_from, scoped_entry, scoped_verdict, theory_after, verdict_after, verdict_at}
+use Rattle.verdict_book.specs.Report.{FileReport, status_of}
+use Rattle.file_report.specs.Outcomes.{Theory, by_verdict, no_theory, report_from, scoped_entry, scoped_verdict, theory_after, verdict_after, verdict_at}
 use Rattle.dk_check_run.specs.Answers.{Answers}
 use Rattle.dk_check_run.specs.Run.{AllDerived, AsksFor, IsDerived, ShelfState, SinkState}
 use Rattle.dk_check_run.proofs.Clauses.{own}

@@ -1,12 +1,6 @@
-pub mod Bytes
 pub mod Clauses
 pub mod Derived
-pub mod Ends
-pub mod Lexes
-pub mod Lines
-pub mod Memory
-pub mod Pieces
-pub mod Sound
-pub mod Stands
-pub mod Starts
-pub mod Steps
+pub mod Desking
+pub mod Judging
+pub mod Preparing
+pub mod Reporting

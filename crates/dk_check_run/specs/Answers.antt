@@ -1,16 +1,12 @@
 -- For proofs: what the program did, by its steps.
-use Rattle.std.specs.Prelude.{◌≡◌, ◌⊎◌, ℕ, Bool, List, [], Option, Some, None}
+use Rattle.std.specs.Prelude.{◌≡◌, ℕ, Bool, List, Option, Some, None}
 use Rattle.dk_io.specs.Bytes.{Opens}
 use Rattle.dk_io.specs.Causes.{Rose}
 use Rattle.dk_model.specs.Limits.{standard}
-use Rattle.dk_model.specs.declared.code.Verdict.TheVariants as verdict
 use Rattle.command_line.specs.Requests.{Request}
 use Rattle.command_line.specs.Usage.{usage_text}
-use Rattle.verdict_book.specs.Report.{report_of, status_of}
-use Rattle.verdict_book.specs.declared.outcome.Outcome.{Outcome}
-use Rattle.verdict_book.specs.declared.outcome.Outcome.TheVariants.{Stopped}
-use Rattle.dk_check_run.specs.Counts.{MayRiseAtUnread, RoseAtUnread}
-use Rattle.dk_check_run.specs.Progress.{EndsOn}
+use Rattle.verdict_book.specs.Report.{FileReport, report_of, status_of}
+use Rattle.dk_check_run.specs.Counts.{EndsOn, MayRiseAtUnread, RoseAtUnread}
 use Rattle.dk_check_run.specs.Run.{ShelfState, SinkState, Writes, memory_at_once, unopened}
 
 -- the shelf is as it was, but for the book that is open
@@ -19,16 +15,14 @@ pub record SameCounts (old new : ShelfState) : Type 0 where
   pub faults : new.faults ≡ old.faults
   pub missed : (name : List ℕ) → new.missed name ≡ old.missed name
 
--- the open book was read and its report written, or memory ended before its first command
+-- the open book was read and its report written
 pub record ChecksBook (budget : ℕ) (quiet : Bool) (old new : ShelfState) (before after : SinkState) (result : ℕ) : Type 0 where
-  pub names : List (List ℕ)
-  pub outcome : Outcome
-  pub ends : (bytes : List ℕ) → old.left ≡ Some bytes
-      → EndsOn standard budget bytes new.left names outcome ⊎ ((names ≡ []) × (outcome ≡ Stopped 0 0 verdict.Memory))
+  pub report : FileReport
+  pub ends : (bytes : List ℕ) → old.left ≡ Some bytes → EndsOn standard budget bytes new.left report.names report.outcome
   pub books : new.books ≡ old.books
-  pub faults : RoseAtUnread old.faults new.faults outcome
-  pub missed : MayRiseAtUnread old.missed new.missed outcome
-  pub writes : Writes before after (report_of names outcome budget quiet) (status_of outcome) result
+  pub faults : RoseAtUnread old.faults new.faults report.outcome
+  pub missed : MayRiseAtUnread old.missed new.missed report.outcome
+  pub writes : Writes before after (report_of report.names report.outcome budget quiet) (status_of report.outcome) result
 
 -- what the program did, by what the words ask
 pub data Answers (request : Option Request) (old new : ShelfState) (before after : SinkState) (result : ℕ) : Type 0 where

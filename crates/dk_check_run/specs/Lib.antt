@@ -1,7 +1,6 @@
 pub mod Answers
 pub mod Clauses
 pub mod Counts
-pub mod Outcomes
-pub mod Progress
+pub mod Desks
+pub mod Jobs
 pub mod Run
-pub mod Theories

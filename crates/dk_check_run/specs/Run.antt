@@ -1,21 +1,20 @@
 -- Trusted: what the program answers, the text and the status that are due (docs/report.md).
-use Rattle.std.specs.Prelude.{◌≡◌, ◌≢◌, ◌⊎◌, ◌≤◌, ℕ, ◌+◌, List, [], ◌∷◌, ◌++◌, length, take, drop, Option, Some, unwrap_or, codes}
+use Rattle.std.specs.Prelude.{◌≡◌, ◌≢◌, ◌⊎◌, ℕ, ◌+◌, List, [], ◌∷◌, ◌++◌, take, Option, Some, codes}
 use Rattle.dk_io.specs.Bytes.{AddsSome, Books, added, book_of}
 use Rattle.dk_io.specs.Causes.{Rose}
 use Rattle.dk_model.specs.Limits.{standard}
 use Rattle.dk_model.specs.declared.code.Verdict.TheVariants as verdict
-use Rattle.dk_lexer.specs.Tokens.{Ending, broken, tokens, whole}
-use Rattle.dk_parser.specs.Reading.{TokenReading}
+use Rattle.dk_lexer.specs.Tokens.{broken, whole}
 use Rattle.dk_parser.specs.FileReading.{read}
-use Rattle.dk_parser.specs.Steps.{read_tokens}
 use Rattle.dk_parser.specs.Written.{WrittenCommand}
 use Rattle.scope_terms.specs.Scopes.{Scoping, scoped, refused, scope_of}
 use Rattle.dk_model.specs.Scoping.{PlainCommand}
 use Rattle.typing_model.specs.Derivations.{HasDerivation}
 use Rattle.command_line.specs.Requests.{Request}
-use Rattle.verdict_book.specs.Report.{concat, report_of, status_of, stop_line}
+use Rattle.verdict_book.specs.Report.{concat, FileReport, report_of, status_of, stop_line}
 use Rattle.verdict_book.specs.declared.outcome.Outcome.TheVariants.{Stopped, Unread}
-use Rattle.dk_check_run.specs.Outcomes.{FileReport, Theory, no_theory, report_of_bytes, theory_after}
+use Rattle.file_report.specs.Outcomes.{Theory, no_theory, report_of_bytes, theory_after}
+use Rattle.file_report.specs.Memory.{IsMemoryAt}
 
 -- ---- texts
 
@@ -55,27 +54,6 @@ abbrev pub IsFileDerived : Request → List ℕ → Type 0
 IsFileDerived q bytes = AllDerived q.budget no_theory (read standard bytes whole).commands
 
 -- ---- where memory ended
-
--- the line of the next command: its own where it is whole; else that of its first token where one was read; else this one
-abbrev pub next_line : List WrittenCommand → Option ℕ → ℕ → ℕ
-next_line (c ∷ cs) begun place = c.line
-next_line [] begun place = unwrap_or begun place
-
--- how the commands of these bytes are read
-abbrev pub reading_at : List ℕ → Ending → TokenReading
-reading_at given ending = read_tokens standard (tokens standard given ending).tokens
-
--- memory ended at the command behind so many accepted ones, seen from a front of the file's bytes: the line is where that command
--- stands, or begins, or would begin (that of an open comment, or of the next byte)
-pub record IsMemoryAt (q : Request) (bytes : List ℕ) (accepted line : ℕ) : Type 0 where
-  pub accepted_are : accepted ≤ length (report_for q bytes).names
-  pub given : List ℕ
-  pub rest : List ℕ
-  pub bytes_are : bytes ≡ given ++ rest
-  pub ending : Ending
-  pub last : ending ≡ whole → rest ≡ []
-  pub read_are : accepted ≤ length (reading_at given ending).commands
-  pub line_is : line ≡ next_line (drop accepted (reading_at given ending).commands) (reading_at given ending).begun (tokens standard given broken).line
 
 -- the first `ok` lines of the file's own report, and the line that says where memory ended
 abbrev pub memory_text : Request → List ℕ → ℕ → ℕ → List ℕ
@@ -123,7 +101,7 @@ pub data IsDue (q : Request) (book : Option (List ℕ)) (old new : ShelfState) :
       → (number : ℕ) → (report_given q given).outcome ≡ Unread number → IsDue q book old new 3 (text_of q (report_given q given))
   of_a_failed_opening : new.left ≡ old.left → Rose (old.missed q.file) (new.missed q.file) → IsDue q book old new 3 (unopened q.file)
   of_memory : (bytes : List ℕ) → book ≡ Some bytes → HasHeld old new
-      → (accepted line : ℕ) → IsMemoryAt q bytes accepted line → IsDue q book old new 4 (memory_text q bytes accepted line)
+      → (accepted line : ℕ) → IsMemoryAt standard q.budget bytes whole accepted line → IsDue q book old new 4 (memory_text q bytes accepted line)
   of_no_memory : HasHeld old new → IsDue q book old new 4 memory_at_once
 
 -- the text was written, and this is the status; or the sink failed and took a front of it, and the status is 5

@@ -1,20 +1,24 @@
 //! What the program does: reads its words, opens the book, checks it and writes the report.
-ghost use Rattle.std.specs.Prelude.{◌<◌, ◌^◌, map, length};
+ghost use Rattle.std.specs.Prelude.{◌≡◌, map, length};
 ghost use Rattle.std.specs.String.{string_bytes};
 ghost use Rattle.command_line.specs.Requests.{request_of};
 ghost use Rattle.command_line.specs.Usage.{usage_text};
-ghost use Rattle.verdict_book.specs.Report.{report_of, status_of};
-ghost use Rattle.verdict_book.specs.Stops.{StopsAtFault};
+ghost use Rattle.board_core.specs.Machine.{IsFinished, marks_of};
+ghost use Rattle.verdict_book.specs.Books.{IsReportOf};
+ghost use Rattle.verdict_book.specs.Report.{FileReport, report_of, status_of};
 ghost use Rattle.dk_check_run.specs.Answers.{Answers, ChecksBook};
 ghost use Rattle.dk_check_run.specs.Run.{Writes, memory_at_once, shelf_state, sink_state, unopened};
 
-use crate::reader::Reader;
-use crate::shelf_read::read_book;
+use crate::desk::Desk;
+use crate::job::Job;
+use board_core::Book;
 use command_line::{read_request, usage_text};
 use dk_io::{Shelf, Sink, put, put_all};
-use dk_model::{Limits, Listed, Verdict};
+use dk_model::Limits;
+use file_reader::{Reader, read_book};
+use itoa::Buffer as Digits;
 use std::alloc::Global;
-use verdict_book::{Outcome, write_outcome};
+use verdict_book::{Title, history_has_report, outcome_of, write_report};
 
 // The status where a write failed.
 const SINK_FAILED: u8 = 5;
@@ -33,8 +37,16 @@ fn put_memory<K: Sink>(sink: &mut K) -> u8
     ensures { Writes (sink_state K.taken K.faults sink.old)
         (sink_state K.taken K.faults sink.new) memory_at_once 4 result }
 {
-    let outcome = Outcome::Stopped(0, 0, Verdict::Memory);
-    match write_outcome(&outcome, &[], 0, true, sink) {
+    let mut digits = Digits::new();
+    let none = digits.format(0u32).as_bytes();
+    let pieces = [
+        b"memory ".as_slice(),
+        none,
+        b" line ".as_slice(),
+        none,
+        b"\n".as_slice(),
+    ];
+    match put_all(sink, &pieces) {
         Ok(()) => 4,
         Err(_) => SINK_FAILED,
     }
@@ -66,31 +78,35 @@ fn check_book<H: Shelf, K: Sink>(
         (sink_state K.taken K.faults sink.old)
         (sink_state K.taken K.faults sink.new) result }
 {
-    let mut reader = match Reader::new(alloc, Limits::standard(), budget) {
-        Ok(reader) => reader,
-        Err(_) => {
-            let outcome = Outcome::Stopped(0, 0, Verdict::Memory);
-            return put_outcome(sink, &outcome, &[], budget, quiet);
-        }
+    history_has_report();
+    let limits = Limits::standard();
+    let Ok(mut reader) = Reader::new(alloc, limits) else {
+        return put_memory(sink);
     };
-    let outcome = read_book(alloc, shelf, &mut reader);
-    put_outcome(sink, &outcome, reader.theory.shown(), budget, quiet)
+    let Ok(mut desk) = Desk::new(alloc, limits, budget) else {
+        return put_memory(sink);
+    };
+    let read_end = read_book(alloc, shelf, &mut reader, &mut desk);
+    let (book, titles) = desk.close(read_end);
+    put_report(sink, &book, &titles, budget, quiet)
 }
 
-fn put_outcome<K: Sink>(
+// Writes the report of a finished book.
+fn put_report<K: Sink>(
     sink: &mut K,
-    outcome: &Outcome,
-    names: &[Listed<u8>],
+    book: &Book<Job>,
+    titles: &[Title],
     budget: u64,
     quiet: bool,
 ) -> u8
-    requires few { length names.now < 2 ^ 63 }
-    requires fault { StopsAtFault outcome.now }
-    ensures { Writes (sink_state K.taken K.faults sink.old)
-        (sink_state K.taken K.faults sink.new)
-        (report_of names.now outcome.now budget quiet) (status_of outcome.now) result }
+    requires finished { IsFinished (marks_of book.now.jobs) book.now.events }
+    requires all { length titles.now ≡ length book.now.jobs }
+    ensures { (report : FileReport) → IsReportOf titles.now book.now.events report →
+        Writes (sink_state K.taken K.faults sink.old) (sink_state K.taken K.faults sink.new)
+        (report_of report.names report.outcome budget quiet) (status_of report.outcome) result }
 {
-    match write_outcome(outcome, names, budget, quiet, sink) {
+    let outcome = outcome_of(book, titles);
+    match write_report(book, titles, budget, quiet, sink) {
         Ok(()) => outcome.status(),
         Err(_) => SINK_FAILED,
     }

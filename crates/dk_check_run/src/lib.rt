@@ -2,8 +2,8 @@
 #![tactic(auto)]
 
 mod answering;
-mod reader;
-mod shelf_read;
+mod desk;
+mod job;
 mod theory;
 mod top;
 

@@ -479,7 +479,7 @@ fn answers_each_failure(rt: HostRuntime) -> Result<(), Fail> {
             status,
             taken,
         } = row;
-        let [_, option, file] = words;
+        let [_, option, file] = *words;
         assert!(rt; *piece > 0 && *sink_piece > 0, "at {option} {file}");
         let words = words_of(alloc, words)?;
         let mut shelf = shelf_of(alloc, text, *piece, &[*shelf_call])?;

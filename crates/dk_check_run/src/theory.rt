@@ -1,27 +1,43 @@
-//! The theory of the commands accepted so far, and the check of the next one.
-ghost use Rattle.std.specs.Prelude.{◌≡◌, ◌<◌, ◌≤◌, ◌∷◌, ◌++◌, [], IfOk, IfErr, OnOk, OnErr, length, map};
+//! What the commands so far declare, and the job of the next one.
+ghost use Rattle.std.specs.Prelude.{◌≡◌, ◌<◌, ◌++◌, ◌∷◌, [], true, IfOk, IfErr, map};
+ghost use Rattle.dk_model.specs.Scoping.{plain_command};
+ghost use Rattle.dk_model.specs.Signatures.{maybe_by};
+ghost use Rattle.dk_model.specs.Answering.{is_untyped};
+ghost use Rattle.dk_model.specs.Verdicts.{entry_of, inferred_type, verdict_of};
 ghost use Rattle.dk_parser.specs.Written.{written_rules};
-ghost use Rattle.dk_parser.specs.RawViews.{written_form, written_pattern, written_rule};
-ghost use Rattle.signature_log.specs.Versions.{stored_entry};
-ghost use Rattle.dk_check_run.specs.Outcomes.{head_name, shown_name, verdict_after};
-ghost use Rattle.dk_check_run.specs.Theories.{AcceptsWith, Adds, IsKept, IsOtherVerdict, Judges, checked_of, nothing_checked};
+ghost use Rattle.dk_parser.specs.RawViews.{written_command, written_form, written_pattern, written_rule};
+ghost use Rattle.shared_term.specs.Storage.{stored_term};
+ghost use Rattle.signature_log.specs.Versions.{entries_of, stored_entry};
+ghost use Rattle.file_report.specs.Outcomes.{head_name, no_theory, shown_name, verdict_after};
+ghost use Rattle.dk_check_run.specs.Jobs.{IsOtherVerdict, Prepares, theory_of};
 
-use command_check::enter_command;
-use dk_model::{Code, Entry, Fault, Limits, Listed, NoMemory, Verdict};
+use crate::job::{Job, Worker};
+use command_check::{entry_of, is_untyped};
+use dk_model::{Entry, Fault, Listed, NoMemory, Scoped, TypeFault, Verdict};
 use dk_parser::{Raw, RawForm, RawPat, RawRule};
 use scope_terms::Names;
 use shared_term::Stored;
 use signature_log::Version;
 use std::alloc::Global;
+use std::mem::replace;
+use std::snapshot::Snapshot;
 use std::sync::Arc;
-use tree_evaluation::Trees;
+use verdict_book::Title;
 
-/// What the commands accepted so far declare, and the names of their `ok` lines.
+/// What the commands so far declare, as if each were accepted.
 #[derive(Drop)]
 pub struct Theory {
     names: Names,
     version: Version,
-    shown: Vec<Listed<u8>>,
+}
+
+/// A command that can be put on the board.
+#[derive(Drop)]
+pub struct Prepared {
+    pub job: Job,
+    /// Whether its check is done: its type was inferred, since the next version needs it.
+    pub settled: bool,
+    pub title: Title,
 }
 
 // The name for the `ok` line: the declared one, or that at the head of the first rule.
@@ -55,88 +71,123 @@ fn head_name(alloc: Global, left: &RawPat) -> Result<Listed<u8>, NoMemory>
     }
 }
 
+// The type that is inferred for a definition without a declared one; else its verdict. Other commands have none.
+#[tactic(auto, using(crate::proofs::Preparing::typed_infers_none))]
+fn inferred(
+    worker: &mut Worker,
+    version: &Version,
+    command: &Scoped,
+    budget: u64,
+) -> Result<Option<Stored>, Verdict>
+    ensures ok { IfOk result (λ t. maybe_by stored_term t
+        ≡ inferred_type (entries_of version.now) (plain_command command.now) budget) }
+    ensures accepted { IfOk result (λ _. is_untyped (plain_command command.now) ≡ true →
+        verdict_of (entries_of version.now) (plain_command command.now) budget
+        ≡ Verdict.Accepted) }
+    ensures err { IfErr result (IsOtherVerdict
+        (verdict_of (entries_of version.now) (plain_command command.now) budget)) }
+{
+    if !is_untyped(command) {
+        return Ok(None);
+    }
+    match worker.infer(version, command, budget) {
+        Ok(typ) => Ok(Some(typ)),
+        Err(verdict) => Err(verdict),
+    }
+}
+
+// The entry that the command adds if it is accepted; else its verdict, where the entry can't be made.
+#[tactic(auto, using(crate::proofs::Preparing::entry_refused))]
+fn entry_after(
+    alloc: Global,
+    worker: &mut Worker,
+    version: &Version,
+    command: &Scoped,
+    budget: u64,
+) -> Result<Entry<Stored>, Verdict>
+    ensures ok { IfOk result (λ e. stored_entry e
+        ≡ entry_of (entries_of version.now) (plain_command command.now)
+        (inferred_type (entries_of version.now) (plain_command command.now) budget)) }
+    ensures accepted { IfOk result (λ _. is_untyped (plain_command command.now) ≡ true →
+        verdict_of (entries_of version.now) (plain_command command.now) budget
+        ≡ Verdict.Accepted) }
+    ensures err { IfErr result (IsOtherVerdict
+        (verdict_of (entries_of version.now) (plain_command command.now) budget)) }
+{
+    let typ = inferred(worker, version, command, budget)?;
+    match entry_of(alloc, version, command, typ) {
+        Ok(entry) => Ok(entry),
+        Err(TypeFault::Refused(code)) => Err(Verdict::Refused(code)),
+        Err(TypeFault::Ended) => Err(Verdict::Ended),
+        Err(TypeFault::NoMemory) => Err(Verdict::Memory),
+    }
+}
+
 impl Theory {
     pub fn new(alloc: Global) -> Result<Theory, NoMemory>
-        ensures empty { IfOk result (λ t. checked_of t ≡ nothing_checked) }
-        ensures sound { IfOk result (λ t. IsKept t) }
+        ensures { IfOk result (λ t. theory_of t ≡ no_theory) }
     {
         let names = Names::new(alloc)?;
         Ok(Theory {
             names,
             version: Version::empty(alloc)?,
-            shown: Vec::new(alloc),
         })
     }
 
-    /// The names of the `ok` lines, in order.
-    pub fn shown(&self) -> &[Listed<u8>]
-        ensures { result.now ≡ (checked_of self.now).shown }
-    {
-        &self.shown
-    }
-
-    /// The verdict on the next command; an accepted one is added.
-    ///
-    /// After another verdict, want of memory too, the names of the `ok` lines are as before, and the theory is let go.
-    pub fn judge(&mut self, alloc: Global, limits: &Limits, budget: u64, raw: Raw) -> Verdict
-        requires sound { IsKept self.old }
-        requires few { limits.now.commands < 4294967296 }
-        ensures sound { result ≡ Verdict.Accepted → IsKept self.new }
-        ensures few { result ≡ Verdict.Accepted →
-            length (checked_of self.new).shown ≤ limits.now.commands }
-        ensures judged { Judges limits.now budget (checked_of self.old)
-            (written_form raw.form) result (checked_of self.new) }
-    {
-        if self.shown.len() >= limits.commands as usize {
-            return Verdict::Refused(Code::E08);
-        }
-        match self.checked_entry(alloc, budget, &raw) {
-            Ok(entry) => match shown_name(alloc, raw.form) {
-                Ok(name) => match self.add(alloc, entry, name) {
-                    Ok(()) => Verdict::Accepted,
-                    Err(_) => Verdict::Memory,
-                },
-                Err(_) => Verdict::Memory,
-            },
-            Err(verdict) => verdict,
-        }
-    }
-
-    // The entry of the next command where it is accepted; else its verdict. Its name is declared once scoping accepts it, also
-    // where the check then refuses: after such a verdict the theory is let go.
-    fn checked_entry(
+    /// The job of the next command, over the commands before it; the theory goes on as if it were accepted. Or, where the
+    /// next version can't be made, the command's verdict; then the theory is to be let go.
+    pub fn prepare(
         &mut self,
         alloc: Global,
+        worker: &mut Worker,
         budget: u64,
-        raw: &Raw,
-    ) -> Result<Entry<Stored>, Verdict>
-        requires { (checked_of self.old).theory.names.count < 4294967295 }
-        ensures ok { IfOk result
-            (λ e. AcceptsWith (checked_of self.old) budget (written_form raw.now.form)
-            (stored_entry e) (checked_of self.new)) }
-        ensures err { IfErr result
-            (λ v. IsOtherVerdict (verdict_after (checked_of self.old).theory budget
-            (written_form raw.now.form)) v) }
-        ensures kept { (checked_of self.new).shown ≡ (checked_of self.old).shown }
+        raw: Raw,
+    ) -> Result<Prepared, Verdict>
+        requires { (theory_of self.old).names.count < 4294967295 }
+        ensures ok { IfOk result (λ p. Prepares budget (theory_of self.old) (written_command raw) p
+            (theory_of self.new)) }
+        ensures err { IfErr result (IsOtherVerdict
+            (verdict_after (theory_of self.old) budget (written_form raw.form))) }
     {
-        match self.names.scope(alloc, raw) {
-            Ok(scoped) => enter_command(&mut Trees::new(alloc), &self.version, &scoped, budget),
-            Err(Fault::Refused(code)) => Err(Verdict::Refused(code)),
-            Err(Fault::NoMemory) => Err(Verdict::Memory),
-        }
+        let command = match self.names.scope(alloc, &raw) {
+            Ok(command) => command,
+            Err(Fault::Refused(code)) => return Err(Verdict::Refused(code)),
+            Err(Fault::NoMemory) => return Err(Verdict::Memory),
+        };
+        let entry = entry_after(alloc, worker, &self.version, &command, budget)?;
+        let Ok(before) = self.advance(alloc, entry) else {
+            return Err(Verdict::Memory);
+        };
+        let Raw { line, form } = raw;
+        let Ok(name) = shown_name(alloc, form) else {
+            return Err(Verdict::Memory);
+        };
+        let settled = is_untyped(&command);
+        let title = Title { name, line };
+        let job = Job {
+            version: before,
+            command,
+            budget,
+            title: Snapshot::of(&title),
+        };
+        Ok(Prepared {
+            job,
+            settled,
+            title,
+        })
     }
 
-    // Adds the entry of an accepted command, and its name.
-    fn add(&mut self, alloc: Global, entry: Entry<Stored>, name: Listed<u8>) -> Result<(), NoMemory>
-        ensures ok { OnOk result
-            (Adds (checked_of self.old) (stored_entry entry) name (checked_of self.new)) }
-        ensures err { OnErr result ((checked_of self.new).shown ≡ (checked_of self.old).shown) }
+    // Goes on to the version with this entry and gives the one before it.
+    fn advance(&mut self, alloc: Global, entry: Entry<Stored>) -> Result<Version, NoMemory>
+        ensures before { IfOk result (λ v. v ≡ self.old.version) }
+        ensures after { IfOk result (λ _. entries_of self.new.version
+            ≡ entries_of self.old.version ++ stored_entry entry ∷ []) }
+        ensures kept { self.new.names ≡ self.old.names }
     {
-        self.version = match self.version.append(Arc::new(alloc, entry)?) {
+        let next = match self.version.append(Arc::new(alloc, entry)?) {
             Ok(version) => version,
             Err(_) => return Err(NoMemory),
         };
-        self.shown.push(name)?;
-        Ok(())
+        Ok(replace(&mut self.version, next))
     }
 }

@@ -1,0 +1,311 @@
+-- The report of the book in which a file's commands were put and checked.
+use Rattle.std.proofs.Common.{◌≡◌, ◌≢◌, ◌⊎◌, inl, inr, ⊎_elim, ℕ, ◌+◌, ◌≤◌, Bool, true, false, List, [], ◌∷◌, ◌++◌, length, take, drop, refl, sym, ap, subst, ◌∙◌, arith, length-append}
+use Rattle.std.specs.Prelude.{Option, Some, None, ◌==◌, if◌then◌else◌}
+use Rattle.std.specs.List.{list_any}
+use Rattle.std.proofs.lemmas.List.{append_assoc, append-nil, drop_all}
+use Rattle.std.proofs.Math.Seq.{drop-append_seam}
+use Rattle.dk_io.specs.Causes.{Rose}
+use Rattle.dk_model.specs.declared.code.Verdict.{Verdict}
+use Rattle.dk_model.specs.declared.code.Verdict.TheVariants as verdict
+use Rattle.dk_model.specs.declared.limits.Limits.{Limits}
+use Rattle.dk_lexer.specs.Tokens.{Ending, broken, whole, tokens}
+use Rattle.dk_lexer.specs.Given.{begun_line}
+use Rattle.dk_parser.specs.FileReading.{Reading, read}
+use Rattle.dk_parser.specs.FileReading as tail
+use Rattle.dk_parser.specs.Steps.{read_tokens}
+use Rattle.dk_parser.specs.Written.{WrittenCommand}
+use Rattle.board_core.specs.declared.event.End.{End}
+use Rattle.board_core.specs.declared.event.End.TheVariants as end
+use Rattle.board_core.specs.declared.event.Event.{Event}
+use Rattle.board_core.specs.Events.{end_of, is_accepted, is_fault}
+use Rattle.board_core.specs.Machine.{IsFinished, IsLegal, marks_of}
+use Rattle.board_core.proofs.Histories.{fault_any, verdict_faults}
+use Rattle.verdict_book.specs.Report.{FileReport, status_of}
+use Rattle.verdict_book.specs.Books.{IsFirst, IsReportOf, end_outcome, fault_outcome, report_with}
+use Rattle.verdict_book.specs.declared.outcome.Outcome.{Outcome}
+use Rattle.verdict_book.specs.declared.outcome.Outcome.TheVariants.{Accepted, Stopped, Unread}
+use Rattle.verdict_book.specs.declared.title.Title.{Title}
+use Rattle.file_report.specs.Outcomes.{no_theory, verdict_at}
+use Rattle.file_report.specs.Memory.{IsNextLine, next_line}
+use Rattle.file_report.specs.Ends.{IsReadersEnd, report_behind}
+use Rattle.file_report.specs.Jobs.{AreJobsFrom, theory_over, titles_of}
+use Rattle.file_report.specs.Histories.{ChecksFile, Reports}
+use Rattle.file_report.proofs.Law.{history_reports}
+use Rattle.file_report.proofs.Putting.{jobs_wider, next_refused, tail_refused}
+use Rattle.dk_check_run.specs.declared.desk.Bounds.{Bounds}
+use Rattle.dk_check_run.specs.declared.desk.Desk.{Desk}
+use Rattle.dk_check_run.specs.declared.job.Job.{Job}
+use Rattle.file_reader.specs.declared.reader.Halt.TheVariants.{Refused, NoMemory, Judged}
+use Rattle.file_reader.specs.declared.shelf_read.ReadEnd.{ReadEnd}
+use Rattle.file_reader.specs.declared.shelf_read.ReadEnd.TheVariants as read_end
+use Rattle.dk_check_run.specs.Jobs.{job_of}
+use Rattle.file_reader.specs.Counts.{MayRiseByEnd, RoseByEnd}
+use Rattle.dk_check_run.specs.Counts.{EndsOn, MayRiseAtUnread, RoseAtUnread}
+use Rattle.dk_check_run.specs.Desks.{EndsAt, IsOver, IsReady, MayEndSo, StandsBehind, StartsEmpty, StopsAt, due, early, end_by, plain_jobs}
+use Rattle.file_reader.specs.Progress.{BeginsWith, LeavesAtEnd, MemoryAt, MemoryIn, ReadsTo}
+use Rattle.file_reader.proofs.Bytes.{bytes_begin}
+use Rattle.dk_check_run.proofs.Desking.{sound_left}
+
+not_accepted : (v : Verdict) → v ≢ verdict.Accepted → is_accepted v ≡ false
+not_accepted verdict.Accepted other = absurd (other refl)
+not_accepted (verdict.Refused code) other = refl
+not_accepted verdict.Ended other = refl
+not_accepted verdict.Memory other = refl
+
+-- where memory ended, as the law of histories tells it
+next_at : (limits : Limits) (bytes given rest : List ℕ) (file_ending ending : Ending) (done : List WrittenCommand) (count line : ℕ) → bytes ≡ given ++ rest → (ending ≡ whole → (rest ≡ []) × (file_ending ≡ whole)) → count ≡ length done
+    → MemoryAt limits given ending done line → IsNextLine limits bytes file_ending count line
+next_at limits bytes given rest file_ending ending done count line bytes_are last counted m = record {
+  given = given;
+  rest = rest;
+  bytes_are = bytes_are;
+  ending = ending;
+  last = last;
+  read_are = let e : length (read_tokens limits (tokens limits given ending).tokens).commands ≡ length done + length m.later = ap length m.commands_are ∙ length-append done m.later in omega (arith, e, counted);
+  line_is = m.line_is ∙ ap (λ cs. next_line cs (read_tokens limits (tokens limits given ending).tokens).begun (begun_line limits given))
+      (sym (ap (λ n. drop n (read_tokens limits (tokens limits given ending).tokens).commands) counted ∙ ap (drop (length done)) m.commands_are ∙ drop-append_seam done m.later));
+}
+
+module _ (bounds : Bounds) (bytes : List ℕ) (left : Option (List ℕ)) (desk : Desk) (jobs : List (Job × Bool)) (events : List Event)
+    (legal : IsLegal due early jobs events) (finished : IsFinished (marks_of jobs) events) (few : length jobs ≤ bounds.limits.commands) (same : jobs ≡ desk.book.jobs) where
+  -- the commands of these bytes were put, up to this end
+  checks : (given : List ℕ) (ending : Ending) (e : End) → end_of events ≡ Some e → AreJobsFrom bounds.budget no_theory (read bounds.limits given ending).commands (plain_jobs desk.book.jobs)
+      → IsReadersEnd bounds.limits bounds.budget given ending (length desk.book.jobs) e → ChecksFile job_of bounds.limits bounds.budget given ending jobs events
+  checks given ending e is are ends = record {
+    checks = record { legal = legal; finished = finished; few = few; jobs_are = subst (λ js. AreJobsFrom bounds.budget no_theory (read bounds.limits given ending).commands (plain_jobs js)) (sym same) are };
+    ends = λ e' is'. subst (λ js. IsReadersEnd bounds.limits bounds.budget given ending (length js) e') (sym same)
+        (subst (IsReadersEnd bounds.limits bounds.budget given ending (length desk.book.jobs)) (same_some e e' (sym is ∙ is')) ends);
+  }
+    where
+      same_some : (x y : End) → Some x ≡ Some y → x ≡ y
+      same_some x y e = cc
+
+  -- all commands of the bytes are jobs
+  all_done : (given : List ℕ) (ending : Ending) → StandsBehind bounds desk (read bounds.limits given ending).commands → drop (length desk.book.jobs) (read bounds.limits given ending).commands ≡ []
+  all_done given ending behind = ap (λ n. drop n (read bounds.limits given ending).commands) behind.counted ∙ drop_all (length (read bounds.limits given ending).commands) (read bounds.limits given ending).commands (omega arith)
+
+  wider : (cs : List WrittenCommand) → BeginsWith bounds.limits bytes whole cs → AreJobsFrom bounds.budget no_theory cs (plain_jobs desk.book.jobs)
+      → AreJobsFrom bounds.budget no_theory (read bounds.limits bytes whole).commands (plain_jobs desk.book.jobs)
+  wider cs begins are = subst (λ l. AreJobsFrom bounds.budget no_theory l (plain_jobs desk.book.jobs)) (sym begins.1) (jobs_wider bounds.budget no_theory cs begins.0 (plain_jobs desk.book.jobs) are)
+
+  memory_checks : (done : List WrittenCommand) (line : ℕ) → end_of events ≡ Some (end.Fault line verdict.Memory) → StandsBehind bounds desk done → MemoryIn bounds.limits bytes done line ⊎ MemoryAt bounds.limits bytes whole done line
+      → ChecksFile job_of bounds.limits bounds.budget bytes whole jobs events
+  memory_checks done line is behind (inl m) =
+      checks bytes whole _ is
+      (wider done (subst (λ bs. BeginsWith bounds.limits bs whole done) (sym m.bytes_are) (bytes_begin bounds.limits m.given done (m.memory.later, m.memory.commands_are) m.rest whole)) behind.jobs)
+      (inr (next_at bounds.limits bytes m.given m.rest whole broken done (length desk.book.jobs) line m.bytes_are (λ e. cc) behind.counted m.memory))
+  memory_checks done line is behind (inr m) =
+      checks bytes whole _ is (wider done (m.later, m.commands_are) behind.jobs)
+      (inr (next_at bounds.limits bytes bytes [] whole whole done (length desk.book.jobs) line (sym (append-nil bytes)) (λ e. (refl, refl)) behind.counted m))
+
+  -- the last of these commands has a verdict other than Accepted
+  fault_ends : (cs : List WrittenCommand) (line : ℕ) (v : Verdict) → EndsAt bounds desk cs (Some (end.Fault line v)) → BeginsWith bounds.limits bytes whole cs
+      → IsReadersEnd bounds.limits bounds.budget bytes whole (length desk.book.jobs) (end.Fault line v)
+  fault_ends cs line v ends begins = by_verdict v ends.5 ends.6
+    where
+      file : Reading
+      file = read bounds.limits bytes whole
+
+      done : List WrittenCommand
+      done = ends.0
+
+      c : WrittenCommand
+      c = ends.1
+
+      commands_are : file.commands ≡ done ++ c ∷ begins.0
+      commands_are = begins.1 ∙ ap (λ l. l ++ begins.0) ends.2 ∙ append_assoc done (c ∷ []) begins.0
+
+      IsDueTo : Verdict → Type 0
+      IsDueTo u = verdict_at bounds.limits bounds.budget (theory_over no_theory bounds.budget done) (length done) c.form ≡ u
+
+      refused : (u : Verdict) → is_accepted u ≡ false → IsDueTo u
+          → report_behind bounds.limits bounds.budget file (length desk.book.jobs) ≡ (let r : FileReport = record { names = []; outcome = Stopped (length desk.book.jobs + 1) line u } in r)
+      refused u other due_is =
+          ap (report_behind bounds.limits bounds.budget file) ends.3
+          ∙ next_refused bounds.limits bounds.budget file done begins.0 c u commands_are due_is other
+          ∙ ap (λ n. let r : FileReport = record { names = []; outcome = Stopped (n + 1) c.line u } in r) (sym ends.3)
+          ∙ ap (λ l. let r : FileReport = record { names = []; outcome = Stopped (length desk.book.jobs + 1) l u } in r) (sym ends.4)
+
+      by_verdict : (u : Verdict) → u ≢ verdict.Accepted → (u ≡ verdict.Memory) ⊎ IsDueTo u → IsReadersEnd bounds.limits bounds.budget bytes whole (length desk.book.jobs) (end.Fault line u)
+      by_verdict verdict.Accepted other is = absurd (other refl)
+      by_verdict (verdict.Refused code) other is = refused (verdict.Refused code) refl (⊎_elim (λ e. cc) (λ e. e) is)
+      by_verdict verdict.Ended other is = refused verdict.Ended refl (⊎_elim (λ e. cc) (λ e. e) is)
+      by_verdict verdict.Memory other is =
+          inr (next_at bounds.limits bytes bytes [] whole whole done (length desk.book.jobs) line (sym (append-nil bytes)) (λ e. (refl, refl)) ends.3 (record { later = c ∷ begins.0; commands_are = commands_are; line_is = ends.4 }))
+
+  -- the desk stopped at the last of these commands
+  stop_checks : (cs : List WrittenCommand) (judged : Option End) → end_of events ≡ Some (end_by (read_end.Halted Judged) judged) → AreJobsFrom bounds.budget no_theory cs (plain_jobs desk.book.jobs) → EndsAt bounds desk cs judged
+      → BeginsWith bounds.limits bytes whole cs → ChecksFile job_of bounds.limits bounds.budget bytes whole jobs events
+  stop_checks cs None is are ends begins = absurd ends
+  stop_checks cs (Some end.Whole) is are ends begins = absurd ends
+  stop_checks cs (Some end.Unread) is are ends begins = absurd ends
+  stop_checks cs (Some end.Stopped) is are ends begins = checks bytes whole _ is (wider cs begins are) tt
+  stop_checks cs (Some (end.Fault line v)) is are ends begins = checks bytes whole _ is (wider cs begins are) (fault_ends cs line v ends begins)
+
+  -- where the bytes were read to their end, or up to a fault, or memory ended, or a job was at fault
+  pub whole_checks : (e : ReadEnd) → e ≢ read_end.Unread → ReadsTo (StandsBehind bounds) (StopsAt bounds) bounds.limits bytes left desk e → end_of events ≡ Some (end_by e desk.end)
+      → ChecksFile job_of bounds.limits bounds.budget bytes whole jobs events
+  whole_checks read_end.Whole other reads is = checks bytes whole _ is reads.0.jobs (all_done bytes whole reads.0, reads.1)
+  whole_checks read_end.Unread other reads is = absurd (other refl)
+  whole_checks (read_end.Halted (Refused line code)) other reads is =
+      checks bytes whole _ is reads.0.jobs
+      (ap (report_behind bounds.limits bounds.budget (read bounds.limits bytes whole)) reads.0.counted
+      ∙ tail_refused bounds.limits bounds.budget (read bounds.limits bytes whole) line code reads.1
+      ∙ ap (λ n. let r : FileReport = record { names = []; outcome = Stopped (n + 1) line (verdict.Refused code) } in r) (sym reads.0.counted))
+  whole_checks (read_end.Halted (NoMemory line)) other reads is = memory_checks reads.0 line is reads.1 reads.2
+  whole_checks (read_end.Halted Judged) other reads is = stop_checks reads.0 desk.end is reads.1.jobs reads.1.ends reads.2
+
+  -- where a read failed
+  pub unread_checks : (given : List ℕ) → StandsBehind bounds desk (read bounds.limits given broken).commands → (read bounds.limits given broken).tail ≡ tail.unread → end_of events ≡ Some end.Unread
+      → ChecksFile job_of bounds.limits bounds.budget given broken jobs events
+  unread_checks given behind unread is = checks given broken _ is behind.jobs (all_done given broken behind, unread)
+
+-- ---- the outcome
+
+module _ (titles : List Title) (events : List Event) (report : FileReport) (reports : IsReportOf titles events report) where
+  -- no job is at fault
+  no_fault_outcome : list_any is_fault events ≡ false → (e : End) → end_of events ≡ Some e → report.outcome ≡ end_outcome (length titles) (Some e)
+  no_fault_outcome none e is = by_first reports.0 reports.1 reports.2
+    where
+      by_first : (f : Option (ℕ × Verdict)) → IsFirst events f → report ≡ report_with titles f (end_of events) → report.outcome ≡ end_outcome (length titles) (Some e)
+      by_first None first made = ap (λ (r : FileReport). r.outcome) made ∙ ap (end_outcome (length titles)) is
+      by_first (Some f) first made =
+          let some : list_any is_fault events ≡ true = fault_any f.0 events (verdict_faults f.0 f.1 events first.0 first.1) in
+          let bad : false ≡ true = sym none ∙ some in cc
+
+  -- a job is at fault
+  fault_outcome_is : list_any is_fault events ≡ true → (number : ℕ) × (line : ℕ) × (v : Verdict) × (report.outcome ≡ Stopped number line v)
+  fault_outcome_is some = by_first reports.0 reports.1 reports.2
+    where
+      by_first : (f : Option (ℕ × Verdict)) → IsFirst events f → report ≡ report_with titles f (end_of events) → (number : ℕ) × (line : ℕ) × (v : Verdict) × (report.outcome ≡ Stopped number line v)
+      by_first None first made = let bad : false ≡ true = sym first ∙ some in cc
+      by_first (Some f) first made = (f.0, _, f.1, ap (λ (r : FileReport). r.outcome) made)
+
+-- an outcome of a book that was read to its end, or that halted before
+abbrev pub IsNotUnread : Outcome → Type 0
+IsNotUnread (Accepted count) = Unit {0}
+IsNotUnread (Stopped number line v) = Unit {0}
+IsNotUnread (Unread number) = ⊥
+
+own_stop : (count line : ℕ) (v : Verdict) → IsNotUnread (fault_outcome count line v)
+own_stop count line verdict.Accepted = tt
+own_stop count line (verdict.Refused code) = tt
+own_stop count line verdict.Ended = tt
+own_stop count line verdict.Memory = by_line (line == 0)
+  where
+    by_line : (b : Bool) → IsNotUnread (if b then Stopped 0 0 verdict.Memory else Stopped (count + 1) line verdict.Memory)
+    by_line true = tt
+    by_line false = tt
+
+held : (before now : ℕ) (o : Outcome) → IsNotUnread o → now ≡ before → RoseAtUnread before now o
+held before now (Accepted n) is e = e
+held before now (Unread n) is e = absurd is
+held before now (Stopped n line v) is e = e
+
+missed_held : (before now : List ℕ → ℕ) (o : Outcome) → IsNotUnread o → ((name : List ℕ) → now name ≡ before name) → MayRiseAtUnread before now o
+missed_held before now (Accepted n) is e = e
+missed_held before now (Unread n) is e = absurd is
+missed_held before now (Stopped n line v) is e = e
+
+module _ (desk : Desk) (titles : List Title) (events : List Event) (report : FileReport) (reports : IsReportOf titles events report) (fault_same : list_any is_fault events ≡ list_any is_fault desk.book.events) where
+  stopped : list_any is_fault desk.book.events ≡ true → IsNotUnread report.outcome
+  stopped some = let f = fault_outcome_is titles events report reports (fault_same ∙ some) in subst IsNotUnread (sym f.3) tt
+
+  going : (e : End) → list_any is_fault desk.book.events ≡ false → end_of events ≡ Some e → IsNotUnread (end_outcome (length titles) (Some e)) → IsNotUnread report.outcome
+  going e none is own = subst IsNotUnread (sym (no_fault_outcome titles events report reports (fault_same ∙ none) e is)) own
+
+  over : (judged : Option End) → MayEndSo desk.book judged → end_of events ≡ Some (end_by (read_end.Halted Judged) judged) → IsNotUnread report.outcome
+  over None may is = absurd may
+  over (Some end.Whole) may is = absurd may
+  over (Some end.Unread) may is = absurd may
+  over (Some end.Stopped) may is = stopped may
+  over (Some (end.Fault line v)) may is = by_fault (list_any is_fault desk.book.events) refl
+    where
+      by_fault : (b : Bool) → list_any is_fault desk.book.events ≡ b → IsNotUnread report.outcome
+      by_fault true some = stopped some
+      by_fault false none = going (end.Fault line v) none is (own_stop (length titles) line v)
+
+  not_unread : (e : ReadEnd) → e ≢ read_end.Unread → LeavesAtEnd IsReady IsOver desk e → end_of events ≡ Some (end_by e desk.end) → IsNotUnread report.outcome
+  not_unread read_end.Whole other leaves is = going end.Whole leaves.no_fault is tt
+  not_unread read_end.Unread other leaves is = absurd (other refl)
+  not_unread (read_end.Halted (Refused line code)) other leaves is = going (end.Fault line (verdict.Refused code)) leaves.no_fault is (own_stop (length titles) line (verdict.Refused code))
+  not_unread (read_end.Halted (NoMemory line)) other leaves is = going (end.Fault line verdict.Memory) leaves.no_fault is (own_stop (length titles) line verdict.Memory)
+  not_unread (read_end.Halted Judged) other leaves is = over desk.end leaves.ends is
+
+  unread : IsReady desk → end_of events ≡ Some end.Unread → report.outcome ≡ Unread (length titles + 1)
+  unread ready is = no_fault_outcome titles events report reports (fault_same ∙ ready.no_fault) end.Unread is
+
+  -- the counts of faults, by the outcome
+  pub faults_by : (e : ReadEnd) (before now : ℕ) → LeavesAtEnd IsReady IsOver desk e → end_of events ≡ Some (end_by e desk.end) → RoseByEnd before now e → RoseAtUnread before now report.outcome
+  faults_by read_end.Unread before now leaves is rose = subst (RoseAtUnread before now) (sym (unread leaves is)) rose
+  faults_by read_end.Whole before now leaves is same = held before now report.outcome (not_unread read_end.Whole (λ e. cc) leaves is) same
+  faults_by (read_end.Halted halt) before now leaves is same = held before now report.outcome (not_unread (read_end.Halted halt) (λ e. cc) leaves is) same
+
+  pub missed_by : (e : ReadEnd) (before now : List ℕ → ℕ) → LeavesAtEnd IsReady IsOver desk e → end_of events ≡ Some (end_by e desk.end) → MayRiseByEnd before now e → MayRiseAtUnread before now report.outcome
+  missed_by read_end.Unread before now leaves is rose = subst (MayRiseAtUnread before now) (sym (unread leaves is)) rose
+  missed_by read_end.Whole before now leaves is same = missed_held before now report.outcome (not_unread read_end.Whole (λ e. cc) leaves is) same
+  missed_by (read_end.Halted halt) before now leaves is same = missed_held before now report.outcome (not_unread (read_end.Halted halt) (λ e. cc) leaves is) same
+
+-- ---- what the book comes to
+
+module _ (bounds : Bounds) (bytes : List ℕ) (left : Option (List ℕ)) (desk : Desk) (jobs : List (Job × Bool)) (events : List Event) (titles : List Title) (report : FileReport)
+    (legal : IsLegal due early jobs events) (finished : IsFinished (marks_of jobs) events) (few : length jobs ≤ bounds.limits.commands) (same : jobs ≡ desk.book.jobs)
+    (titles_are : titles ≡ titles_of job_of jobs) (reports : IsReportOf titles events report) (fault_same : list_any is_fault events ≡ list_any is_fault desk.book.events) where
+  own : (given : List ℕ) (ending : Ending) → ChecksFile job_of bounds.limits bounds.budget given ending jobs events → Reports bounds.limits bounds.budget given ending report.names report.outcome
+  own given ending checks = history_reports job_of bounds.limits bounds.budget given ending jobs events report checks (subst (λ ts. IsReportOf ts events report) titles_are reports)
+
+  whole_ends : (o : Outcome) → IsNotUnread o → Reports bounds.limits bounds.budget bytes whole report.names o → EndsOn bounds.limits bounds.budget bytes left report.names o
+  whole_ends (Accepted count) is r = r
+  whole_ends (Stopped number line v) is r = r
+  whole_ends (Unread number) is r = absurd is
+
+  pub ends : (e : ReadEnd) → LeavesAtEnd IsReady IsOver desk e → end_of events ≡ Some (end_by e desk.end) → ReadsTo (StandsBehind bounds) (StopsAt bounds) bounds.limits bytes left desk e
+      → EndsOn bounds.limits bounds.budget bytes left report.names report.outcome
+  ends read_end.Unread leaves is reads =
+      let unread_is : report.outcome ≡ Unread (length titles + 1) = unread desk titles events report reports fault_same leaves is in
+      subst (EndsOn bounds.limits bounds.budget bytes left report.names) (sym unread_is) (
+        reads.0,
+        reads.1,
+        reads.2,
+        reads.3,
+        subst (Reports bounds.limits bounds.budget reads.0 broken report.names) unread_is
+            (own reads.0 broken (unread_checks bounds bytes left desk jobs events legal finished few same reads.0 reads.4 reads.5 is)),
+      )
+  ends read_end.Whole leaves is reads =
+      whole_ends report.outcome (not_unread desk titles events report reports fault_same read_end.Whole (λ e. cc) leaves is)
+      (own bytes whole (whole_checks bounds bytes left desk jobs events legal finished few same read_end.Whole (λ e. cc) reads is))
+  ends (read_end.Halted halt) leaves is reads =
+      whole_ends report.outcome (not_unread desk titles events report reports fault_same (read_end.Halted halt) (λ e. cc) leaves is)
+      (own bytes whole (whole_checks bounds bytes left desk jobs events legal finished few same (read_end.Halted halt) (λ e. cc) reads is))
+
+pub status_not_five : (o : Outcome) → status_of o ≢ 5
+status_not_five (Accepted n) e = absurd (omega (arith, e))
+status_not_five (Unread n) e = absurd (omega (arith, e))
+status_not_five (Stopped n line verdict.Accepted) e = absurd (omega (arith, e))
+status_not_five (Stopped n line (verdict.Refused code)) e = absurd (omega (arith, e))
+status_not_five (Stopped n line verdict.Ended) e = absurd (omega (arith, e))
+status_not_five (Stopped n line verdict.Memory) e = absurd (omega (arith, e))
+
+-- ---- the desk from its start to its close
+
+pub starts_behind : (bounds : Bounds) (limits : Limits) (desk : Desk) → limits ≡ bounds.limits → StartsEmpty limits bounds.budget desk → StandsBehind bounds desk []
+starts_behind bounds limits desk same starts = record {
+  limits_are = starts.limits_are ∙ same;
+  budget_is = starts.budget_is;
+  theory = starts.theory;
+  counted = ap length starts.jobs;
+  jobs = subst (λ js. AreJobsFrom bounds.budget no_theory [] (plain_jobs js)) (sym starts.jobs) tt;
+}
+
+limits_of : (bounds : Bounds) (bytes : List ℕ) (left : Option (List ℕ)) (desk : Desk) (e : ReadEnd) → ReadsTo (StandsBehind bounds) (StopsAt bounds) bounds.limits bytes left desk e → desk.limits ≡ bounds.limits
+limits_of bounds bytes left desk read_end.Whole reads = reads.0.limits_are
+limits_of bounds bytes left desk read_end.Unread reads = reads.4.limits_are
+limits_of bounds bytes left desk (read_end.Halted (Refused line code)) reads = reads.0.limits_are
+limits_of bounds bytes left desk (read_end.Halted (NoMemory line)) reads = reads.1.limits_are
+limits_of bounds bytes left desk (read_end.Halted Judged) reads = reads.1.limits_are
+
+pub few_jobs : (bounds : Bounds) (bytes : List ℕ) (left : Option (List ℕ)) (desk : Desk) (e : ReadEnd) (jobs : List (Job × Bool)) → LeavesAtEnd IsReady IsOver desk e
+    → ReadsTo (StandsBehind bounds) (StopsAt bounds) bounds.limits bytes left desk e → jobs ≡ desk.book.jobs → length jobs ≤ bounds.limits.commands
+few_jobs bounds bytes left desk e jobs leaves reads same =
+    subst (λ (l : Limits). length jobs ≤ l.commands) (limits_of bounds bytes left desk e reads)
+    (subst (λ js. length js ≤ desk.limits.commands) (sym same) (sound_left desk e leaves).few)

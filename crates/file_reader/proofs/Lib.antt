@@ -1,0 +1,6 @@
+pub mod Bytes
+pub mod Lexes
+pub mod Lines
+pub mod Pieces
+pub mod Stands
+pub mod Starts
