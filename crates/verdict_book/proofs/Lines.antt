@@ -8,14 +8,6 @@ use Rattle.verdict_book.specs.Report.{ok_line, ok_lines}
 use Rattle.verdict_book.specs.Books.{names_of}
 use Rattle.verdict_book.specs.declared.title.Title.{Title}
 
-pub oks_next : (done whole : List ℕ) (n i : ℕ) (names : List (List ℕ)) (name : List ℕ) → i < length names → name ≡ get_or names i name → n ≡ i + 1 → whole ≡ done ++ ok_lines (i + 1) (drop i names) → whole ≡ (done ++ ok_line n name) ++ ok_lines (i + 1 + 1) (drop (i + 1) names)
-oks_next done whole n i names name lt is number before =
-    before
-    ∙ ap (λ t. done ++ t) (at_drop_more (ok_lines (i + 1)) names i name lt)
-    ∙ ap (λ (x : List ℕ). done ++ (ok_line (i + 1) x ++ ok_lines (i + 1 + 1) (drop (i + 1) names))) (sym is)
-    ∙ ap (λ m. done ++ (ok_line m name ++ ok_lines (i + 1 + 1) (drop (i + 1) names))) (sym number)
-    ∙ sym (append_assoc done (ok_line n name) (ok_lines (i + 1 + 1) (drop (i + 1) names)))
-
 pub titles_next : (done whole : List ℕ) (n i : ℕ) (titles : List Title) (title : Title) → i < length titles → title ≡ get_or titles i title → n ≡ i + 1 → whole ≡ done ++ ok_lines (i + 1) (names_of (drop i titles))
     → whole ≡ (done ++ ok_line n title.name) ++ ok_lines (i + 1 + 1) (names_of (drop (i + 1) titles))
 titles_next done whole n i titles title lt is number before =

@@ -1,9 +1,7 @@
-//! Writes a report through one buffer, in few and large pieces.
-ghost use Rattle.std.specs.Prelude.{◌<◌, ◌^◌, length};
-ghost use Rattle.dk_io.specs.Writing.{Wrote};
+//! The lines of a report.
 ghost use Rattle.dk_io.specs.Causes.{HasCause};
 ghost use Rattle.dk_io.specs.Gathered.{Gathers};
-ghost use Rattle.verdict_book.specs.Report.{last_line, ok_line, ok_lines, report_of, shown_lines, stop_line};
+ghost use Rattle.verdict_book.specs.Report.{last_line, ok_line, stop_line};
 ghost use Rattle.verdict_book.specs.Stops.{IsFault, StopsAtFault};
 
 use crate::{Outcome, Piece, put_pieces};
@@ -32,41 +30,6 @@ pub fn put_ok<K: Sink>(
             Piece::Text(b"\n"),
         ],
     )
-}
-
-// The lines of accepted commands.
-fn put_oks<K: Sink>(buffer: &mut Buffer, sink: &mut K, names: &[Listed<u8>]) -> Result<(), Failed>
-    requires { length names.now < 2 ^ 63 }
-    ensures put { Gathers (K.taken sink.old) buffer.old (K.taken sink.new) buffer.new
-        (ok_lines 1 names.now) result }
-    ensures cause { HasCause (K.faults sink.old) (K.faults sink.new) result }
-{
-    let mut number = 1;
-    for name in names {
-        match put_ok(buffer, sink, number, name) {
-            Ok(()) => number += 1,
-            Err(failed) => return Err(failed),
-        }
-    }
-    Ok(())
-}
-
-fn put_shown<K: Sink>(
-    buffer: &mut Buffer,
-    sink: &mut K,
-    quiet: bool,
-    names: &[Listed<u8>],
-) -> Result<(), Failed>
-    requires { length names.now < 2 ^ 63 }
-    ensures put { Gathers (K.taken sink.old) buffer.old (K.taken sink.new) buffer.new
-        (shown_lines quiet names.now) result }
-    ensures cause { HasCause (K.faults sink.old) (K.faults sink.new) result }
-{
-    if quiet {
-        put_pieces(buffer, sink, &[])
-    } else {
-        put_oks(buffer, sink, names)
-    }
 }
 
 fn put_stop<K: Sink>(
@@ -131,50 +94,5 @@ pub fn put_last<K: Sink>(
             let unread = Piece::Text(b"unread ");
             put_pieces(buffer, sink, &[unread, Piece::Number(number as u64), end])
         }
-    }
-}
-
-// The lines of the report, one after the other.
-fn put_report<K: Sink>(
-    buffer: &mut Buffer,
-    sink: &mut K,
-    outcome: Outcome,
-    names: &[Listed<u8>],
-    budget: u64,
-    quiet: bool,
-) -> Result<(), Failed>
-    requires few { length names.now < 2 ^ 63 }
-    requires fault { StopsAtFault outcome }
-    ensures put { Gathers (K.taken sink.old) buffer.old (K.taken sink.new) buffer.new
-        (report_of names.now outcome budget quiet) result }
-    ensures cause { HasCause (K.faults sink.old) (K.faults sink.new) result }
-{
-    match put_shown(buffer, sink, quiet, names) {
-        Ok(()) => put_last(buffer, sink, outcome, budget),
-        Err(failed) => Err(failed),
-    }
-}
-
-/// Writes the report: an `ok` line for each of the names, unless `quiet`, and the last line. Takes no memory.
-///
-/// `budget` is the number in a line that says that the budget ended. After `Failed` the sink has taken a
-/// front of the report.
-pub fn write_outcome<K: Sink>(
-    outcome: &Outcome,
-    names: &[Listed<u8>],
-    budget: u64,
-    quiet: bool,
-    sink: &mut K,
-) -> Result<(), Failed>
-    requires few { length names.now < 2 ^ 63 }
-    requires fault { StopsAtFault outcome.now }
-    ensures wrote { Wrote (K.taken sink.old) (K.taken sink.new)
-        (report_of names.now outcome.now budget quiet) result }
-    ensures cause { HasCause (K.faults sink.old) (K.faults sink.new) result }
-{
-    let mut buffer = Buffer::new();
-    match put_report(&mut buffer, sink, *outcome, names, budget, quiet) {
-        Ok(()) => buffer.flush(sink),
-        Err(failed) => Err(failed),
     }
 }

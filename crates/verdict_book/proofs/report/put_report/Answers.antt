@@ -1,8 +1,0 @@
-use Rattle.dk_io.proofs.Gather.{gathers_then, gathers_stop}
-use Rattle.verdict_book.proofs.report.put_report.Goals as goal
-
-pub returns-in-Ok-clause-put : goal.returns-in-Ok-clause-put
-returns-in-Ok-clause-put g c = gathers_then c.in-Ok.ensures.put c.put_last.ensures.put
-
-pub returns-in-Err-clause-put : goal.returns-in-Err-clause-put
-returns-in-Err-clause-put g c = gathers_stop _ c.in-Err.ensures.put
