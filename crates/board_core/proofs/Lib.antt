@@ -5,3 +5,4 @@ pub mod Holding
 pub mod Replaying
 pub mod Reading
 pub mod Legal
+mod Rooms

@@ -1,7 +1,8 @@
 -- What the fields of a book say of its jobs and its history.
-use Rattle.std.specs.Prelude.{◌≡◌, ℕ, ◌+◌, ◌-◌, ◌*◌, ◌^◌, ◌<◌, ◌≤◌, Bool, true, false, ◌==◌, List, [], ◌∷◌, length, map, slice_get, slice_index_or, cond, count_by, is_none, vec_capacity, Option, Some, None}
+use Rattle.std.specs.Prelude.{◌≡◌, ℕ, ◌+◌, ◌-◌, ◌*◌, ◌^◌, ◌<◌, ◌≤◌, Bool, true, false, ◌==◌, List, [], ◌∷◌, length, map, slice_get, slice_index_or, cond, count_by, is_none, vec_len, vec_capacity, Option, Some, None}
 use Rattle.std.specs.List.{list_any}
 use Rattle.std.specs.Arc.{arc_value}
+use Rattle.std.specs.VecDeque.{deque_capacity}
 use Rattle.dk_model.specs.declared.code.Verdict.{Verdict}
 use Rattle.board_core.specs.declared.event.End.{End}
 use Rattle.board_core.specs.declared.event.Event.{Event}
@@ -55,7 +56,7 @@ pub record Keeps (room : ℕ) (marks : List Bool) (waiting : List ℕ) (verdicts
   pub lawful : IsLawful marks es
 
 abbrev pub posted : {J : Type 0} → Posted J → J × Bool
-posted p = (p.job.value, p.settled)
+posted p = (arc_value p.job, p.settled)
 
 abbrev pub waiter : {J : Type 0} → Waiting J → ℕ × J
 waiter w = (w.number, arc_value w.job)
@@ -66,6 +67,20 @@ jobs_in ps = map posted ps
 abbrev pub waiters_in : {J : Type 0} → List (Waiting J) → List (ℕ × J)
 waiters_in ws = map waiter ws
 
+abbrev pub IsPowerOfTwo : ℕ → Type 0
+IsPowerOfTwo n = (k : ℕ) × (n ≡ 2 ^ k)
+
+-- Lists with these capacities have places for a power of two of jobs, at least so many
+pub record IsWide (count jobs waiting verdicts history : ℕ) : Type 0 where
+  pub places : ℕ
+  pub power : IsPowerOfTwo places
+  pub enough : count ≤ places
+  pub jobs_fit : places ≤ jobs
+  pub waiting_fit : places ≤ waiting
+  pub verdicts_fit : places ≤ verdicts
+  pub history_fit : 3 * places + 1 ≤ history
+
 pub record Kept {J : Type 0} (b : Inside J) : Type 0 where
   pub keeps : Keeps (vec_capacity b.history) (marks_of (jobs_in b.jobs.items)) (numbers (waiters_in b.waiting.items)) b.verdicts.items b.fault b.end b.history.items
   pub own : Each (IsOwn (jobs_in b.jobs.items)) (waiters_in b.waiting.items)
+  pub wide : IsWide (vec_len b.jobs) (vec_capacity b.jobs) (deque_capacity b.waiting) (vec_capacity b.verdicts) (vec_capacity b.history)

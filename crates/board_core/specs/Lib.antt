@@ -3,3 +3,4 @@ pub mod Machine
 pub mod Shown
 pub mod Kept
 pub mod Parts
+pub mod Rooms

@@ -5,6 +5,7 @@ ghost use Rattle.std.specs.Arc.{arc_value};
 ghost use Rattle.board_core.specs.declared.event.Event.{Event};
 ghost use Rattle.board_core.specs.Events.{is_seal, is_fault, puts, end_of, verdict_at, is_settled, IsFirstFault};
 ghost use Rattle.board_core.specs.Machine.{Allowed, Holds, HoldsNone, IsLawful, marks_of};
+ghost use Rattle.board_core.specs.Rooms.{IsRoomBehind};
 ghost use Rattle.board_core.specs.Shown.{added, put_on, ClaimReply, HoldsGiven, IsRefusal};
 
 mod replay;
@@ -12,19 +13,19 @@ mod replay;
 mod tests;
 
 use crate::event::{End, Event};
-use crate::steps::{fault_after, idle, let_wait, make_room, take_below};
+use crate::room::{Leftover, Lists, Offer, make_place};
+use crate::steps::{fault_after, idle, let_wait, share_of, take_below};
 use crate::task::{Claimed, PutRefused};
 use dk_model::{NoMemory, Verdict};
 use std::alloc::Global;
 use std::collections::VecDeque;
 use std::marker::Model;
-use std::snapshot::Snapshot;
 use std::sync::Arc;
 
-/// What is kept of a job as it was put: its mark, and for contracts alone its value.
+/// A job as it was put.
 #[derive(Drop)]
 pub struct Posted<J> {
-    pub job: Snapshot<J>,
+    pub job: Arc<J>,
     pub settled: bool,
 }
 
@@ -36,8 +37,6 @@ pub struct Waiting<J> {
 }
 
 /// The jobs, numbered from 1, each settled or not, and the history of all that happened to them.
-///
-/// A job is held until it is claimed: of an answered or settled one the mark, the verdict and the events are left.
 #[derive(Drop)]
 pub struct Book<J> {
     jobs: Vec<Posted<J>>,
@@ -64,22 +63,6 @@ impl<J> Model for Book<J> {
 }
 
 impl<J> Book<J> {
-    /// A book without jobs. The one place that its seal needs is reserved here.
-    pub fn new(alloc: Global) -> Result<Book<J>, NoMemory>
-        ensures { IfOk result (λ b. b ≡ record { jobs = []; events = [] }) }
-    {
-        let mut history = Vec::new(alloc);
-        history.reserve(1)?;
-        Ok(Book {
-            jobs: Vec::new(alloc),
-            waiting: VecDeque::new(alloc),
-            verdicts: Vec::new(alloc),
-            fault: None,
-            end: None,
-            history,
-        })
-    }
-
     /// All that happened, in order, and what every history of a book is.
     pub fn history(&self) -> &[Event]
         ensures value { result.now ≡ self.now.events }
@@ -135,9 +118,29 @@ impl<J> Book<J> {
 }
 
 impl<J: Drop> Book<J> {
+    /// A book without jobs. The places for the first job and for the seal are reserved here.
+    pub fn new(alloc: Global) -> Result<Book<J>, NoMemory>
+        ensures { IfOk result (λ b. b ≡ record { jobs = []; events = [] }) }
+    {
+        let Lists {
+            jobs,
+            waiting,
+            verdicts,
+            history,
+        } = Lists::with_places(alloc, 1)?;
+        Ok(Book {
+            jobs,
+            waiting,
+            verdicts,
+            fault: None,
+            end: None,
+            history,
+        })
+    }
+
     /// Puts a job, which takes the next number, unless some verdict is other than `Accepted`. A
-    /// settled job counts as answered `Accepted`, is never claimed and is let go. Room for the job's
-    /// claim and answer is made here. A refusal changes nothing and hands the job back.
+    /// settled job counts as answered `Accepted` and is never claimed. Room for the job's claim and
+    /// answer is made here. A refusal changes nothing and hands the job back.
     pub fn put(&mut self, job: Arc<J>, settled: bool) -> Result<u32, PutRefused<J>>
         requires few { length self.old.jobs < 4294967294 }
         requires unsealed { list_any is_seal self.old.events ≡ false }
@@ -147,13 +150,53 @@ impl<J: Drop> Book<J> {
         ensures refused { IfErr result (λ r. IsRefusal self.old.events (arc_value job) r) }
         ensures err { IfErr result (λ r. self.new ≡ self.old) }
     {
+        let alloc = *self.history.allocator();
+        let offer = Offer::new(alloc, job, settled, self.len() as u32);
+        let (reply, _leftover) = self.post(offer);
+        reply
+    }
+
+    /// The same with the room for the job made before, so that it takes no memory. What is over is
+    /// given back, so that the caller lets it go when it wants to.
+    pub fn post(&mut self, offer: Offer<J>) -> (Result<u32, PutRefused<J>>, Leftover<J>)
+        requires few { length self.old.jobs < 4294967294 }
+        requires unsealed { list_any is_seal self.old.events ≡ false }
+        requires behind { offer.behind ≡ length self.old.jobs }
+        requires room { IsRoomBehind offer.behind offer.room }
+        ensures running { IfOk result.0 (λ n. list_any is_fault self.old.events ≡ false) }
+        ensures number { IfOk result.0 (λ n. n ≡ length self.old.jobs + 1) }
+        ensures ok { IfOk result.0 (λ n.
+            self.new ≡ put_on self.old (arc_value offer.job) offer.settled n) }
+        ensures refused { IfErr result.0 (λ r. IsRefusal self.old.events (arc_value offer.job) r) }
+        ensures err { IfErr result.0 (λ r. self.new ≡ self.old) }
+    {
+        let Offer {
+            job,
+            settled,
+            behind: _,
+            room,
+        } = offer;
         if let Some((number, verdict)) = self.fault {
-            return Err(PutRefused::Stopped {
+            let stopped = PutRefused::Stopped {
                 number,
                 verdict,
                 job,
-            });
+            };
+            return (
+                Err(stopped),
+                Leftover {
+                    lists: room.into_lists(),
+                    job: None,
+                },
+            );
         }
+        let Ok(share) = share_of(&job) else {
+            let leftover = Leftover {
+                lists: room.into_lists(),
+                job: None,
+            };
+            return (Err(PutRefused::NoMemory { job }), leftover);
+        };
         let Book {
             jobs,
             waiting,
@@ -161,19 +204,24 @@ impl<J: Drop> Book<J> {
             history,
             ..
         } = self;
-        let Ok(()) = make_room(jobs, waiting, verdicts, history) else {
-            return Err(PutRefused::NoMemory { job });
+        let Ok(lists) = make_place(jobs, waiting, verdicts, history, room) else {
+            return (
+                Err(PutRefused::NoMemory { job }),
+                Leftover {
+                    lists: None,
+                    job: None,
+                },
+            );
         };
         let number = jobs.len() as u32 + 1;
-        let value = Snapshot::of(&*job);
         jobs.push_reserved(Posted {
-            job: value,
+            job: share,
             settled,
         });
-        let_wait(waiting, number, job, settled);
+        let job = let_wait(waiting, number, job, settled);
         verdicts.push_reserved(None);
         history.push_reserved(Event::Put(number));
-        Ok(number)
+        (Ok(number), Leftover { lists, job })
     }
 
     /// Gives the worker the least job that is neither settled nor claimed, if it lies below every

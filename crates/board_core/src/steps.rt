@@ -1,5 +1,5 @@
 //! The parts of the calls of a book, over its fields.
-ghost use Rattle.std.specs.Prelude.{◌≡◌, ◌+◌, ◌*◌, ◌^◌, ◌<◌, ◌≤◌, ◌++◌, vec_len, vec_capacity, OnOk};
+ghost use Rattle.std.specs.Prelude.{◌≡◌, ◌<◌, ◌++◌, IfOk};
 ghost use Rattle.std.specs.VecDeque.{deque_len, deque_capacity};
 ghost use Rattle.std.specs.Arc.{arc_value};
 ghost use Rattle.board_core.specs.Kept.{waiters_in};
@@ -44,7 +44,8 @@ pub fn take_below<J>(
     waiting: &mut VecDeque<Waiting<J>>,
     fault: Option<(u32, Verdict)>,
 ) -> Option<Task<J>>
-    ensures { TakesBelow waiting.old.items fault result waiting.new.items }
+    ensures taken { TakesBelow waiting.old.items fault result waiting.new.items }
+    ensures capacity { deque_capacity waiting.new ≡ deque_capacity waiting.old }
 {
     let least = waiting.front()?.number;
     if is_stopped(fault, least) {
@@ -64,50 +65,28 @@ pub fn idle<J>(end: Option<End>, fault: Option<(u32, Verdict)>) -> Claimed<J>
     }
 }
 
-/// Makes room for one more job, its claim and its answer.
-pub fn make_room<J>(
-    jobs: &mut Vec<Posted<J>>,
-    waiting: &mut VecDeque<Waiting<J>>,
-    verdicts: &mut Vec<Option<Verdict>>,
-    history: &mut Vec<Event>,
-) -> Result<(), NoMemory>
-    requires few { vec_len jobs.old < 2 ^ 32 }
-    requires used { vec_len history.old ≤ 3 * vec_len jobs.old + 1 }
-
-    // The lists stay, whatever the result.
-    ensures jobs { jobs.new.items ≡ jobs.old.items }
-    ensures waiting { waiting.new.items ≡ waiting.old.items }
-    ensures verdicts { verdicts.new.items ≡ verdicts.old.items }
-    ensures history { history.new.items ≡ history.old.items }
-    ensures kept { vec_capacity history.old ≤ vec_capacity history.new }
-
-    // On success each has room.
-    ensures jobs_room { OnOk result (vec_len jobs.new < vec_capacity jobs.new) }
-    ensures waiting_room { OnOk result (deque_len waiting.new < deque_capacity waiting.new) }
-    ensures verdicts_room { OnOk result (vec_len verdicts.new < vec_capacity verdicts.new) }
-    ensures history_room { OnOk result (3 * (vec_len jobs.old + 1) + 1 ≤ vec_capacity history.new) }
+/// One share more of the job.
+pub fn share_of<J: Drop>(job: &Arc<J>) -> Result<Arc<J>, NoMemory>
+    ensures { IfOk result (λ share. arc_value share ≡ arc_value job.now) }
 {
-    let places = 3 * (jobs.len() + 1) + 1;
-    jobs.reserve(1)?;
-    waiting.reserve(1)?;
-    verdicts.reserve(1)?;
-    history.reserve(places - history.len())?;
-    Ok(())
+    Ok(job.clone()?)
 }
 
-/// Lets a job wait; a settled one is let go.
-pub fn let_wait<J: Drop>(
+/// Lets a job wait; a settled one comes back.
+pub fn let_wait<J>(
     waiting: &mut VecDeque<Waiting<J>>,
     number: u32,
     job: Arc<J>,
     settled: bool,
-)
+) -> Option<Arc<J>>
     requires { deque_len waiting.old < deque_capacity waiting.old }
-    ensures { waiters_in waiting.new.items ≡
+    ensures items { waiters_in waiting.new.items ≡
         waiters_in waiting.old.items ++ newcomers number (arc_value job) settled }
+    ensures capacity { deque_capacity waiting.new ≡ deque_capacity waiting.old }
 {
     if settled {
-        return;
+        return Some(job);
     }
     waiting.push_back_reserved(Waiting { number, job });
+    None
 }

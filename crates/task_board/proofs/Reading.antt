@@ -1,5 +1,5 @@
 -- What the reader's calls tell.
-use Rattle.std.proofs.Common.{◌≡◌, ℕ, ◌+◌, Bool, true, false, List, [], ◌∷◌, ◌++◌, length, sym, refl, ap, ◌∙◌, subst}
+use Rattle.std.proofs.Common.{◌≡◌, ℕ, ◌+◌, Bool, true, false, List, [], ◌∷◌, ◌++◌, length, sym, refl, ap, ◌∙◌, subst, arith, length-append}
 use Rattle.std.specs.Prelude.{None, Result, Ok, Err, IfOk, IfErr}
 use Rattle.std.specs.List.{list_any}
 use Rattle.std.proofs.lemmas.List.{map-append}
@@ -57,6 +57,15 @@ module _ {J : Type 0} where
 
   mine_events : (v x : View Event (J × Bool)) (e : Event) → x.mine ≡ v.mine ++ tagged e ∷ [] → events_in x.mine ≡ events_in v.mine ++ e ∷ []
   mine_events v x e is = ap events_in is ∙ map-append (λ (y : ℕ × Event). y.1) v.mine (tagged e ∷ [])
+
+  -- the reader knows one job more after a put, and the same after one that was refused
+  pub put_more : (v x : View Event (J × Bool)) (job : J) (settled : Bool) (reply : Result ℕ (PutRefused J)) → IfOk reply (λ n. PutTold v job settled n x) → (n : ℕ) → reply ≡ Ok n → length x.known ≡ length v.known + 1
+  put_more v x job settled reply ok n is = let told = subst (λ q. IfOk q (λ n. PutTold v job settled n x)) is ok in
+      let e = ap length told.known in let l = length-append v.known ((job, settled) ∷ []) in omega (arith, e, l)
+
+  pub put_known : (v x : View Event (J × Bool)) (job : J) (reply : Result ℕ (PutRefused J)) → IfErr reply (λ why. PutRefusedTold v job why x) → ((n : ℕ) → ¬ (reply ≡ Ok n)) → length x.known ≡ length v.known
+  put_known v x job (Ok n) refused none = absurd (none n refl)
+  put_known v x job (Err why) refused none = ap length refused.known
 
   module _ (due : J → Verdict) (early : J → Bool) (v : View Event (J × Bool)) (t : ℕ) (b d : Shown J) (old : IsReaders false v) (legal : IsLegalLog due early (log_of b.events) b.jobs) (seen : StartsWith (log_of b.events) v.seen) (known : StartsWith b.jobs v.known)
       (mine : calls_by v.number (log_of b.events) ≡ v.mine) where

@@ -11,7 +11,7 @@ ghost use Rattle.task_board.specs.Passes.{Adds, ClaimTold, HasTask, IsIdle, IsNe
 
 use crate::judged::Judged;
 use crate::passes::{ReaderPass, SealedPass, WorkerPass};
-use board_core::{Book, Checker, Claimed, End, PutRefused, Task};
+use board_core::{Book, Checker, Claimed, End, Offer, PutRefused, Task};
 use dk_model::{Listed, NoMemory, Verdict};
 use std::alloc::Global;
 use std::marker::{Model, PhantomData};
@@ -21,6 +21,7 @@ use ticket_slot::Slot;
 /// A board that the reader and the workers share. Contracts see the identity that its passes carry.
 pub struct Board<C: Checker> {
     slot: Slot<Judged<C>>,
+    alloc: Global,
 }
 
 impl<C: Checker> Model for Board<C> {
@@ -71,8 +72,8 @@ where
                     });
                 }
                 Ok((
-                    Board { slot },
-                    ReaderPass { seat },
+                    Board { slot, alloc },
+                    ReaderPass { seat, count: 0 },
                     Listed::from_vec(passes),
                 ))
             }
@@ -100,14 +101,18 @@ where
         ensures refused { IfErr result (λ why.
             PutRefusedTold pass.old.seat.me.0 (arc_value job) why pass.new.seat.me.0) }
     {
-        let ReaderPass { seat } = pass;
+        // Longer lists are made before the turn, and what is over is let go after it.
+        let ReaderPass { seat, count } = pass;
+        let offer = Offer::new(self.alloc, job, settled, *count);
         let mut judged = self.slot.lock(rt, seat);
-        let reply = judged.book.put(job, settled);
+        let (reply, leftover) = judged.book.post(offer);
         let _history = judged.book.history();
         if let Ok(_) = &reply {
             self.slot.add(seat, &judged);
+            *count += 1;
         }
         self.slot.unlock(seat, judged);
+        drop(leftover);
         reply
     }
 
@@ -121,7 +126,7 @@ where
         ensures added { Adds pass.seat.me.0 (Event.Seal end) result.seat.me.0 }
         ensures known { result.seat.me.0.known ≡ pass.seat.me.0.known }
     {
-        let ReaderPass { mut seat } = pass;
+        let ReaderPass { mut seat, count: _ } = pass;
         let mut judged = self.slot.lock(rt, &mut seat);
         judged.book.seal(end);
         let _history = judged.book.history();
@@ -212,7 +217,7 @@ where
             } = pass;
             self.slot.join(&mut seat, own);
         }
-        let Board { slot } = self;
+        let Board { slot, alloc: _ } = self;
         let Judged { book, checker: _ } = slot.close(seat);
         book
     }

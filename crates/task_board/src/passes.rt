@@ -1,5 +1,5 @@
-//! The rights of the reader and of the workers to step at a board. They have no bytes but a worker's
-//! number; what they show stands in `seat.me.0` (`View` of ticket_slot).
+//! The rights of the reader and of the workers to step at a board. They have no bytes but the reader's
+//! count of jobs and a worker's number; what they show stands in `seat.me.0` (`View` of ticket_slot).
 ghost use Rattle.std.specs.Prelude.{◌≡◌, true, false, length};
 ghost use Rattle.std.specs.List.{list_any};
 ghost use Rattle.board_core.specs.Events.{is_seal};
@@ -15,6 +15,9 @@ use ticket_slot::Pass;
 #[derive(Drop)]
 pub struct ReaderPass<C: Checker> {
     pub seat: Pass<Judged<C>>,
+    /// How many jobs it has put.
+    pub count: u32,
+    ghost counted: { count ≡ length seat.me.0.known },
     ghost reader: { IsReader seat.me.0 },
     ghost free: { IsFree seat.me },
     ghost none_joined: { length seat.me.0.ended ≡ 0 },

@@ -117,7 +117,7 @@ fn make_room<H, L>(handles: &mut Vec<H>, late: &mut Vec<L>, count: usize) -> Res
 }
 
 /// Works with all passes here, one after the other.
-fn work_off<R: Wait, C: Checker, G: Gate>(
+pub fn work_off<R: Wait, C: Checker, G: Gate>(
     rt: &R,
     board: &Board<C>,
     mut passes: Vec<WorkerPass<C>>,

@@ -1,29 +1,49 @@
 //! How long a worker that found nothing to claim leaves the board alone.
+use std::sync::Wait;
+use std::sync::atomic::AtomicU64;
 use std::thread;
+use std::time::Duration;
 
-/// The longest rest, in yields.
-const LONGEST: u32 = 1024;
+/// After a rest of so many yields it sleeps.
+const MOST_YIELDS: u32 = 16;
+
+/// The first sleep and the longest, in microseconds.
+const FIRST_SLEEP: u64 = 50;
+
+const LONGEST_SLEEP: u64 = 1000;
 
 /// What a worker waits before it asks the board again (docs/board-lock.md).
 #[derive(Drop)]
 pub struct Patience {
     // How many times it yields at its next rest.
     yields: u32,
+    // How many microseconds it sleeps once it has yielded enough.
+    sleep: u64,
+    // What it sleeps on. No other thread has it, so nothing ends a sleep but its time.
+    own: AtomicU64,
 }
 
 impl Patience {
     /// The shortest rest: a single yield.
     pub fn new() -> Patience {
-        Patience { yields: 1 }
+        Patience {
+            yields: 1,
+            sleep: FIRST_SLEEP,
+            own: AtomicU64::new(0),
+        }
     }
 
-    /// Lets other threads run, and twice as long the next time, up to the longest rest.
-    pub fn rest(&mut self) {
+    /// Lets other threads run, and twice as long the next time, up to the longest sleep.
+    pub fn rest<R: Wait>(&mut self, rt: &R) {
+        if self.yields > MOST_YIELDS {
+            self.own
+                .park_timeout(rt, 0, Duration::from_micros(self.sleep));
+            self.sleep = self.sleep.saturating_mul(2).min(LONGEST_SLEEP);
+            return;
+        }
         for _ in 0..self.yields {
             thread::yield_now();
         }
-        if self.yields < LONGEST {
-            self.yields *= 2;
-        }
+        self.yields *= 2;
     }
 }

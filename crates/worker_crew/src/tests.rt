@@ -5,6 +5,7 @@ ghost use Rattle.task_board.specs.Passes.{IsIdle, IsNew};
 mod hands;
 mod told;
 
+use crate::crew::work_off;
 use crate::run_crew;
 use board_core::{End, Event};
 use dk_model::{Code, Listed, Verdict};
@@ -153,6 +154,21 @@ fn eight_threads_do_what_the_history_says(rt: HostRuntime) {
             "worker {worker}"
         );
     }
+}
+
+// Passes for which there was no thread, once the reader has sealed the board.
+#[test]
+fn works_off_passes_without_threads(rt: HostRuntime) {
+    let alloc = rt.alloc();
+    let checker = Told::new(false);
+    let fault = Verdict::Refused(Code::E21);
+    let (board, reader, passes) = Board::<Told>::new(alloc, 3).expect(&rt, "memory for a board");
+    let sealed = put_all(&rt, alloc, &board, reader, 9, fault);
+    let passes = work_off(&rt, &board, passes.into_vec(), &checker, &NoGate);
+    let book = board.close(sealed, Listed::from_vec(passes));
+    assert!(rt; book.history().len() == 31);
+    assert!(rt; counts(book.history()) == [10; 3]);
+    assert!(rt; book.fault() == Some((10, fault)));
 }
 
 /// Two jobs and a crew of two, each with a thread of its own.

@@ -31,7 +31,7 @@ where
     for _ in rt.forever() {
         match board.claim(rt, &mut pass) {
             Claimed::Over => return pass,
-            Claimed::Empty => patience.rest(),
+            Claimed::Empty => patience.rest(rt),
             Claimed::Task(task) => {
                 let verdict = gated(checker, gate, task.number, &*task.job);
                 board.answer(rt, &mut pass, task, verdict);

@@ -22,6 +22,7 @@ invariant_of-self g c = let ok = subst (λ b. Allowed (marks_of b.jobs) b.events
     record {
       keeps = rw (c.push_reserved.ensures.items, c.push_reserved.ensures.capacity, c.fault_after-self-inside.ensures) (answer_keeps c.self.invariant.keeps _ _ _ ok);
       own = c.self.invariant.own;
+      wide = rw c.push_reserved.ensures.capacity c.self.invariant.wide;
     }
 
 pub returns-clause-idle : goal.returns-clause-idle

@@ -7,18 +7,25 @@ use Rattle.board_core.proofs.Holding.{idle_holds, idles, claim_holds}
 use Rattle.board_core.proofs.book.Book.claim.Goals as goal
 
 pub returns-in_default : goal.returns-in_default
-returns-in_default g c = let t = c.in_default.ensures in let none = subst (λ b. HoldsNone c.args.worker b.events) (sym c.self.view_is) c.requires in record {
+returns-in_default g c = let t = c.in_default.ensures.taken in let none = subst (λ b. HoldsNone c.args.worker b.events) (sym c.self.view_is) c.requires in record {
   reply = rw (c.idle.ensures, ← c.self.view_is) (idles _ c.args.worker c.self.invariant.keeps t.1);
   holds = rw c.idle.ensures (idle_holds _ c.args.worker c.self.inside.end c.self.inside.fault c.self.inside.history.items none);
 }
 
+pub invariant_of-self : goal.invariant_of-self
+invariant_of-self g c = let t = c.in_default.ensures.taken in record {
+  keeps = rw t.0 c.self.invariant.keeps;
+  own = rw t.0 c.self.invariant.own;
+  wide = rw c.in_default.ensures.capacity c.self.invariant.wide;
+}
+
 pub invariant_of-self-2 : goal.invariant_of-self-2
-invariant_of-self-2 g c = let t = c.in-Some.ensures in let none = subst (λ b. HoldsNone c.args.worker b.events) (sym c.self.view_is) c.requires in
+invariant_of-self-2 g c = let t = c.in-Some.ensures.taken in let none = subst (λ b. HoldsNone c.args.worker b.events) (sym c.self.view_is) c.requires in
     let r = claim_holds (jobs_in c.self.inside.jobs.items) (waiters_in c.self.inside.waiting.items) c.self.invariant.keeps c.self.invariant.own c.args.worker c.in-Some.task.number (arc_value c.in-Some.task.job) (waiters_in c.take_below.new.waiting.items) t.0 t.1 none in
-    record { keeps = rw (c.push_reserved.ensures.items, c.push_reserved.ensures.capacity) r.3; own = r.4 }
+    record { keeps = rw (c.push_reserved.ensures.items, c.push_reserved.ensures.capacity) r.3; own = r.4; wide = rw (c.push_reserved.ensures.capacity, c.in-Some.ensures.capacity) c.self.invariant.wide }
 
 pub returns : goal.returns
-returns g c = let t = c.in-Some.ensures in let none = subst (λ b. HoldsNone c.args.worker b.events) (sym c.self.view_is) c.requires in
+returns g c = let t = c.in-Some.ensures.taken in let none = subst (λ b. HoldsNone c.args.worker b.events) (sym c.self.view_is) c.requires in
     let r = claim_holds (jobs_in c.self.inside.jobs.items) (waiters_in c.self.inside.waiting.items) c.self.invariant.keeps c.self.invariant.own c.args.worker c.in-Some.task.number (arc_value c.in-Some.task.job) (waiters_in c.take_below.new.waiting.items) t.0 t.1 none in
     record {
       reply = rw (c.push_reserved.ensures.items, ← c.self.view_is) (r.1, r.2, refl);

@@ -13,4 +13,5 @@ invariant_of-self g c = let ok = subst (λ b. Allowed (marks_of b.jobs) b.events
     record {
       keeps = rw (c.push_reserved.ensures.items, c.push_reserved.ensures.capacity) (seal_keeps c.self.invariant.keeps _ ok);
       own = c.self.invariant.own;
+      wide = rw c.push_reserved.ensures.capacity c.self.invariant.wide;
     }

@@ -49,7 +49,7 @@ loop-place-preserved g c = let i = c.loop-place.invariant in let e = c.push_rese
 
 pub invariant_of-result : goal.invariant_of-result
 invariant_of-result g c = let m = c.loop-place.invariant.me in let r = new_readers c.loop-place.seat.me.0 (c.loop-place.place + 1) (ap (λ m. m.0) m) in
-    record { reader = r.reader; free = (r.free, r.reader.1, ap (λ m. m.1) m); none_joined = r.none_joined; unsealed = r.seals; idle = r.idle }
+    record { counted = sym (ap (λ m. length m.0.known) m); reader = r.reader; free = (r.free, r.reader.1, ap (λ m. m.1) m); none_joined = r.none_joined; unsealed = r.seals; idle = r.idle }
 
 pub returns-after-loop-place : goal.returns-after-loop-place
 returns-after-loop-place g c = let i = c.loop-place.invariant in let items = c.from_vec.ensures in let same : c.loop-place.place ≡ c.args.workers = (let a = c.loop-place-test.false in let b = c.loop-place.auto.place-end in omega (arith, a, b)) in record {
