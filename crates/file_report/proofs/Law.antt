@@ -6,7 +6,7 @@ use Rattle.std.proofs.lemmas.Bool.{eqb-true}
 use Rattle.dk_model.specs.declared.code.Verdict.{Verdict}
 use Rattle.dk_model.specs.declared.code.Verdict.TheVariants as verdict
 use Rattle.dk_model.specs.declared.limits.Limits.{Limits}
-use Rattle.dk_lexer.specs.Tokens.{Ending, broken, tokens, whole}
+use Rattle.dk_lexer.specs.Tokens.{Ending, broken, tokens}
 use Rattle.dk_parser.specs.FileReading.{Tail, read}
 use Rattle.dk_parser.specs.FileReading as reading
 use Rattle.dk_parser.specs.Written.{WrittenCommand}

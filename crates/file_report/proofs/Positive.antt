@@ -1,17 +1,16 @@
 -- The lines of tokens and of commands count from 1.
-use Rattle.std.proofs.Common.{◌≡◌, ℕ, suc, zero, ◌+◌, ◌<◌, Bool, true, false, List, [], ◌∷◌, ◌++◌, length, drop, nat_le, ◌==◌, if◌then◌else◌, sym, subst, arith, Option, Some, None, unwrap_or}
+use Rattle.std.proofs.Common.{ℕ, suc, zero, ◌+◌, ◌<◌, Bool, true, false, List, [], ◌∷◌, ◌++◌, length, drop, nat_le, ◌==◌, if◌then◌else◌, sym, subst, arith, Option, Some, None, unwrap_or}
 use Rattle.std.specs.Prelude.{nat_lt, min}
 use Rattle.dk_model.specs.declared.code.Code.{Code}
 use Rattle.dk_model.specs.declared.code.Code.TheVariants.{E03, E04, E07}
 use Rattle.dk_model.specs.declared.limits.Limits.{Limits}
 use Rattle.dk_lexer.specs.declared.place.Place.{Place}
 use Rattle.dk_lexer.specs.declared.token.Token.{Token}
-use Rattle.dk_lexer.specs.declared.token.TokenKind.{TokenKind}
 use Rattle.dk_lexer.specs.Spelling.{Spelling, blank, token, run_and_dot, wrong, comment_open, unsettled, late, kind_of, spelled}
 use Rattle.dk_lexer.specs.Tokens.{Bound, Ending, Lexed, Setting, at_end, behind, begin_of, bound, broken, by_bound, command_after, dot_at, fault_at, gives, input_limit, late_bound, next_line as line_after, nothing_at, outcome, outcome_at, token_at, tokens, tokens_from, whole, within}
 use Rattle.dk_parser.specs.declared.terminal.Terminal.{Terminal}
 use Rattle.dk_parser.specs.declared.terminal.Terminal.TheVariants as terminal
-use Rattle.dk_parser.specs.Parsing.{Answer, CommandSoFar, Advance, Parsing, answered, command, commands_from, ends, goes, more, parsing_from, advanced, refused, refuses, started, turn, turn_by_fault, turn_by_step, turn_by_terminal, turn_refused}
+use Rattle.dk_parser.specs.Parsing.{Answer, CommandSoFar, Advance, Parsing, answered, commands_from, ends, goes, more, parsing_from, advanced, refuses, started, turn, turn_by_fault, turn_by_step, turn_by_terminal, turn_refused}
 use Rattle.dk_parser.specs.Terminals.{terminal_of}
 use Rattle.dk_parser.specs.Written.{WrittenCommand}
 use Rattle.file_report.specs.Memory.{IsNextLine, next_line, reading_at}

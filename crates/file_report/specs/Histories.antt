@@ -8,7 +8,6 @@ use Rattle.board_core.specs.declared.event.End.{End}
 use Rattle.board_core.specs.declared.event.Event.{Event}
 use Rattle.board_core.specs.Events.{end_of}
 use Rattle.board_core.specs.Machine.{IsFinished, IsLegal, marks_of}
-use Rattle.verdict_book.specs.Report.{FileReport}
 use Rattle.verdict_book.specs.declared.outcome.Outcome.{Outcome}
 use Rattle.verdict_book.specs.declared.outcome.Outcome.TheVariants.{Stopped}
 use Rattle.file_report.specs.Outcomes.{no_theory, report_of_bytes}

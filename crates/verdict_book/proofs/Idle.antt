@@ -1,5 +1,5 @@
 -- A worker that answers what it claimed leaves all workers idle that were.
-use Rattle.std.proofs.Common.{◌≡◌, ℕ, ◌&&◌, eqb, ne_eqb, List, [], ◌∷◌, ◌++◌, refl, sym, ap, subst}
+use Rattle.std.proofs.Common.{ℕ, ◌&&◌, eqb, ne_eqb, List, [], ◌∷◌, ◌++◌, refl, sym, ap, subst}
 use mathlib.Core.Logic.{dite}
 use native.Mathlib.Decide.{ℕ_discrete}
 use Rattle.dk_model.specs.declared.code.Verdict.{Verdict}

@@ -1,4 +1,4 @@
-use Rattle.std.proofs.Common.{arith, ◌≡◌, ◌-◌, length, sym, ap, subst, ◌∙◌, Some, None}
+use Rattle.std.proofs.Common.{arith, ◌-◌, length, sym, ap, subst, ◌∙◌, Some, None}
 use Rattle.board_core.specs.Machine.{marks_of}
 use Rattle.verdict_book.specs.Report.{FileReport}
 use Rattle.verdict_book.specs.Books.{end_outcome}

@@ -1,4 +1,4 @@
-use Rattle.std.proofs.Common.{◌++◌, sym, subst, Err}
+use Rattle.std.proofs.Common.{sym, subst, Err}
 use Rattle.dk_io.specs.Gathered.{Gathers}
 use Rattle.dk_io.specs.declared.shelf.Failed.{Failed}
 use Rattle.dk_io.proofs.Gather.{gathers_then, gathers_stop}

@@ -1,4 +1,4 @@
-use Rattle.std.proofs.Common.{arith, ◌≡◌, ◌∙◌, sym, ap, Some, None}
+use Rattle.std.proofs.Common.{arith, ◌∙◌, sym, ap, Some, None}
 use Rattle.board_core.specs.Machine.{marks_of}
 use Rattle.verdict_book.specs.Books.{names_of}
 use Rattle.verdict_book.specs.Report.{FileReport}
