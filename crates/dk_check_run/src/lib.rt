@@ -7,6 +7,7 @@ mod job;
 mod theory;
 mod top;
 
+pub use file_report::{fault_of_history, report_of_history};
 pub use top::run;
 
 #[cfg(test)]

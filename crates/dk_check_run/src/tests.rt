@@ -479,8 +479,7 @@ fn answers_each_failure(rt: HostRuntime) -> Result<(), Fail> {
             status,
             taken,
         } = row;
-        let [_, option, file] = *words;
-        assert!(rt; *piece > 0 && *sink_piece > 0, "at {option} {file}");
+        assert!(rt; *piece > 0 && *sink_piece > 0, "at {text}");
         let words = words_of(alloc, words)?;
         let mut shelf = shelf_of(alloc, text, *piece, &[*shelf_call])?;
         let mut failing = Vec::new(alloc);
@@ -490,12 +489,12 @@ fn answers_each_failure(rt: HostRuntime) -> Result<(), Fail> {
         assert_eq!(rt;
             sink.bytes(),
             taken.as_bytes(),
-            "at {option} {file}, calls {shelf_call} and {sink_call}, pieces of {piece} and {sink_piece}"
+            "at {text}, calls {shelf_call} and {sink_call}, pieces of {piece} and {sink_piece}"
         );
         assert_eq!(rt;
             got,
             *status,
-            "at {option} {file}, calls {shelf_call} and {sink_call}, pieces of {piece} and {sink_piece}"
+            "at {text}, calls {shelf_call} and {sink_call}, pieces of {piece} and {sink_piece}"
         );
     }
     Ok(())
