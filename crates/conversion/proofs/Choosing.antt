@@ -1,7 +1,7 @@
 -- The rounds of a selection.
 use Rattle.std.proofs.Common.{List, [], ◌∷◌, ◌++◌, take, drop, map, length, ℕ, zero, suc, ◌≡◌, ◌<◌, ◌≤◌, ◌+◌, Option, Some, None, Err, refl, ap, ◌∙◌, sym as flip, subst, arith, get_or}
 use Rattle.std.specs.Prelude.{slice_get}
-use Rattle.std.proofs.lemmas.List.{append-nil, take-take, length-map, drop_more}
+use Rattle.std.proofs.lemmas.List.{append-nil, take-take, drop_more}
 use Rattle.dk_model.specs.Trees.{Tree}
 use Rattle.dk_model.specs.Signatures.{PlainRule, PlainSignature}
 use Rattle.dk_model.specs.Units.{Units, bind}
@@ -22,7 +22,7 @@ use Rattle.conversion.specs.declared.matrix.Column.{Column}
 use Rattle.conversion.specs.declared.rules.SymbolRule.{SymbolRule}
 use Rattle.conversion.specs.Rules.{plain_rule_of}
 use Rattle.conversion.specs.Matrix.{column, row, IsListed, AreAmong}
-use Rattle.conversion.specs.Pausing.{plain, rows_left, columns_with, reselected}
+use Rattle.conversion.specs.Pausing.{plain, rows_left, reselected}
 use Rattle.conversion.specs.Selections.{GivesRow, GivesChoice}
 
 -- lists under a view

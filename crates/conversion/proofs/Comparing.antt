@@ -1,5 +1,5 @@
 -- The comparison by a stack of steps.
-use Rattle.std.proofs.Common.{List, [], ◌∷◌, ◌++◌, ◌≡◌, ◌-◌, ◌<◌, ◌≤◌, ℕ, zero, suc, Bool, true, false, Option, Some, None, Result, Ok, Err, refl, ap, subst, ◌∙◌, sym as flip, arith, length, if◌then◌else◌, append_assoc}
+use Rattle.std.proofs.Common.{List, [], ◌∷◌, ◌++◌, ◌≡◌, ◌-◌, ◌<◌, ◌≤◌, ℕ, zero, suc, Bool, true, false, Option, Some, None, Err, refl, ap, subst, ◌∙◌, sym as flip, arith, length, if◌then◌else◌, append_assoc}
 use Rattle.std.proofs.lemmas.Bool.Decides.{nat_tests}
 use Rattle.std.specs.Prelude.{eqb, ◌&&◌}
 use Rattle.dk_model.specs.Trees.{Tree, star, kind, symbol, variable, rule_variable, apply, bare, annotated, product}
@@ -19,7 +19,7 @@ use Rattle.conversion.proofs.Winding.{extends_more}
 use Rattle.conversion.specs.declared.compare.Step.{Step}
 use Rattle.conversion.specs.declared.compare.Step.TheVariants.{Pair, Conclude}
 use Rattle.conversion.specs.Given.{GivesTerm, GivesBool}
-use Rattle.conversion.specs.Pending.{pending, AreSteps, comparisons, pair_compared, rest_compared, parts_compared, AreOpen, IsUnderWay, TakesApart, GivesPair}
+use Rattle.conversion.specs.Pending.{pending, AreSteps, comparisons, pair_compared, rest_compared, parts_compared, AreOpen, IsUnderWay, GivesPair}
 
 -- a stack of steps
 

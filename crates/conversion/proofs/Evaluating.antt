@@ -1,6 +1,6 @@
 -- The turns of an evaluation with selections that wait.
-use Rattle.std.proofs.Common.{List, [], ◌∷◌, ◌++◌, ◌≡◌, ◌+◌, ◌-◌, ◌<◌, ◌≤◌, ℕ, zero, suc, Some, None, Ok, Err, Result, refl, ap, ◌∙◌, sym as flip, subst, arith, length, map}
-use Rattle.dk_model.specs.Trees.{Tree, symbol}
+use Rattle.std.proofs.Common.{List, [], ◌∷◌, ◌++◌, ◌≡◌, ◌-◌, ◌<◌, ℕ, Some, None, Ok, Err, refl, ◌∙◌, sym as flip, subst, arith, length, map}
+use Rattle.dk_model.specs.Trees.{Tree}
 use Rattle.dk_model.specs.Signatures.{PlainSignature}
 use Rattle.dk_model.specs.Units.{Units, bind}
 use Rattle.dk_model.specs.Evaluation.{whnf_of}
@@ -11,15 +11,13 @@ use Rattle.dk_model.proofs.Turns.{whnf_falls}
 use Rattle.shared_term.specs.declared.id.TermId.{TermId}
 use Rattle.shared_term.specs.Pools.{Node, term, Extends}
 use Rattle.conversion.specs.declared.matrix.Matrix.{Matrix}
-use Rattle.conversion.specs.declared.state.Value.{Value}
 use Rattle.conversion.specs.declared.evaluate.Pause.{Pause}
-use Rattle.conversion.specs.declared.turn.Turn.{Turn}
 use Rattle.conversion.specs.declared.turn.Turn.TheVariants.{Asks}
 use Rattle.conversion.specs.Machine.{behind, wound}
-use Rattle.conversion.specs.Matrix.{column, row}
+use Rattle.conversion.specs.Matrix.{row}
 use Rattle.conversion.specs.Given.{GivesTerm}
 use Rattle.conversion.specs.Reducers.{IsValue}
-use Rattle.conversion.specs.Pausing.{plain, columns_with, rows_with, continued, awaited, IsPause, ArePauses, Await}
+use Rattle.conversion.specs.Pausing.{plain, columns_with, rows_with, continued, awaited, ArePauses, Await}
 use Rattle.conversion.specs.Turning.{TurnsTo, rewritten_by}
 use Rattle.conversion.proofs.Winding.{extends_none}
 use Rattle.conversion.proofs.Serving.{value_made}

@@ -1,8 +1,7 @@
 -- Columns and captures as the pool grows.
-use Rattle.std.proofs.Common.{List, [], ◌∷◌, ◌≡◌, ◌+◌, ◌<◌, ◌≤◌, ℕ, zero, suc, Option, Some, None, refl, ap, ◌∙◌, sym as flip, subst, arith, length, take, drop, map, get_or}
+use Rattle.std.proofs.Common.{List, [], ◌∷◌, ◌≡◌, ◌<◌, ℕ, zero, suc, Option, Some, None, refl, ap, sym as flip, subst, arith, length, take, drop, map, get_or}
 use Rattle.std.specs.Prelude.{slice_get, slice_set, replicate}
-use Rattle.dk_model.specs.Trees.{Tree}
-use Rattle.dk_model.specs.Captures.{Captures, capture_at}
+use Rattle.dk_model.specs.Captures.{capture_at}
 use Rattle.shared_term.specs.declared.id.TermId.{TermId}
 use Rattle.shared_term.specs.Pools.{Node, term, Extends}
 use Rattle.shared_term.specs.Changes.{AreCaptures, captured_terms, capture_id}

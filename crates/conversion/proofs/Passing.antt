@@ -1,22 +1,19 @@
 -- The steps of a row over a pool that grows.
-use Rattle.std.proofs.Common.{List, [], ◌∷◌, ◌++◌, take, drop, map, length, ℕ, zero, suc, ◌≡◌, ◌+◌, ◌<◌, ◌≤◌, min, Option, Some, None, Bool, true, false, Ok, Err, Result, refl, ap, ◌∙◌, sym as flip, subst, arith, get_or}
-use Rattle.std.specs.Prelude.{slice_set, slice_get, replicate, not, IfOk, if◌then◌else◌}
-use Rattle.std.specs.declared.vec.Vec.{Vec}
-use Rattle.std.specs.declared.alloc.Global.{Global}
+use Rattle.std.proofs.Common.{List, [], ◌∷◌, map, length, ℕ, zero, suc, ◌≡◌, ◌+◌, ◌<◌, ◌≤◌, min, Option, Some, None, Bool, true, false, Ok, Err, Result, refl, ap, ◌∙◌, sym as flip, subst, arith, get_or}
+use Rattle.std.specs.Prelude.{slice_set, replicate, not, IfOk, if◌then◌else◌}
 use Rattle.std.proofs.lemmas.List.{map-set, length-map}
 use Rattle.dk_model.specs.Trees.{Tree}
 use Rattle.dk_model.specs.Substitution.{shift}
 use Rattle.dk_model.specs.Signatures.{rule_variable_pattern, guard_pattern}
 use Rattle.dk_model.specs.Units.{Units, bind}
 use Rattle.dk_model.specs.Matrix.{cell}
-use Rattle.dk_model.specs.Matrix.{Cell as PlainCell, Column as PlainColumn, Row as PlainRow}
+use Rattle.dk_model.specs.Matrix.{Column as PlainColumn, Row as PlainRow}
 use Rattle.dk_model.specs.Captures.{mentions_others, captured, Captures, capture_at, filled}
 use Rattle.dk_model.specs.Selection.{PartTrial, CellTrial, RowTrial, part_at, recorded, cell_captures, captures_of_row, guards_hold, row_taken}
 use Rattle.dk_model.specs.declared.memory.NoMemory.{NoMemory as WantsMemory}
 use Rattle.dk_model.specs.declared.stop.Stop.{Stop}
 use Rattle.dk_model.specs.declared.stop.Stop.TheVariants.{Ended, NoMemory}
 use Rattle.shared_term.specs.declared.id.TermId.{TermId}
-use Rattle.shared_term.specs.declared.stored.Stored.{Stored}
 use Rattle.shared_term.specs.Pools.{Node, term, Extends, Moves}
 use Rattle.shared_term.specs.Storage.{stored_term}
 use Rattle.shared_term.specs.Changes.{AreCaptures, captured_terms, capture_id}
@@ -25,7 +22,7 @@ use Rattle.conversion.specs.declared.matrix.Column.{Column}
 use Rattle.conversion.specs.declared.matrix.Row.{Row}
 use Rattle.conversion.specs.declared.row.Step.{Step}
 use Rattle.conversion.specs.Matrix.{plain_cell, column, row, AreColumns}
-use Rattle.conversion.specs.Given.{GivesTerm, GivesBool}
+use Rattle.conversion.specs.Given.{GivesBool}
 use Rattle.conversion.specs.Selections.{guard_of, step_cell, ActsAs, IsGuard, GivesRow, GivesRowCaptures, GivesCell, GivesPart, GivesCaptures}
 use Rattle.conversion.proofs.Winding.{extends_more}
 use Rattle.conversion.proofs.Growing.{columns_grown, captures_grown, capture_there, capture_missing, terms_set, terms_none}

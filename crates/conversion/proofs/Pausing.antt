@@ -1,22 +1,19 @@
 -- Selections that wait, and how they go on.
-use Rattle.std.proofs.Common.{List, [], ◌∷◌, ◌++◌, ◌≡◌, ◌+◌, ◌<◌, ◌≤◌, ℕ, zero, suc, Some, None, refl, ap, ◌∙◌, sym as flip, subst, arith, length, map}
+use Rattle.std.proofs.Common.{List, [], ◌∷◌, ◌++◌, ◌≡◌, ℕ, Some, None, refl, ap, ◌∙◌, sym as flip, subst, arith, length, map}
 use Rattle.dk_model.specs.Trees.{Tree, symbol}
 use Rattle.dk_model.specs.Signatures.{PlainSignature}
 use Rattle.dk_model.specs.Units.{Units, bind}
 use Rattle.dk_model.specs.Matrix.{opened_columns}
-use Rattle.dk_model.specs.Matrix.{Column as PlainColumn, Row as PlainRow}
 use Rattle.dk_model.specs.Evaluation.{whnf_of}
 use Rattle.dk_model.specs.Equations.{selection_of, after_selection}
-use Rattle.shared_term.specs.declared.id.TermId.{TermId}
-use Rattle.shared_term.specs.Pools.{Node, term, Extends}
+use Rattle.shared_term.specs.Pools.{Node, Extends}
 use Rattle.conversion.specs.declared.matrix.Matrix.{Matrix}
 use Rattle.conversion.specs.declared.gap.Gap.{Gap}
 use Rattle.conversion.specs.declared.evaluate.Pause.{Pause}
-use Rattle.conversion.specs.declared.evaluate.Next.{Next}
-use Rattle.conversion.specs.Machine.{AreWithin, behind, wound}
-use Rattle.conversion.specs.Matrix.{column, row}
-use Rattle.conversion.specs.Pausing.{plain, selected, columns_with, rows_with, IsMatrix, IsGap, continued, awaited, IsPause, ArePauses, Await}
-use Rattle.conversion.specs.Turning.{rewritten_by, next_due}
+use Rattle.conversion.specs.Machine.{behind, wound}
+use Rattle.conversion.specs.Matrix.{row}
+use Rattle.conversion.specs.Pausing.{plain, columns_with, rows_with, IsMatrix, IsGap, continued, awaited, IsPause, ArePauses, Await}
+use Rattle.conversion.specs.Turning.{rewritten_by}
 use Rattle.conversion.proofs.Winding.{behind_grown, within_grown}
 use Rattle.conversion.proofs.Growing.{columns_grown, columns_within}
 

@@ -1,13 +1,12 @@
 -- The clauses of a reducer from those of a pool.
-use Rattle.std.proofs.Common.{◌≡◌, ◌∙◌, ◌+◌, ◌-◌, ◌<◌, ◌≤◌, ℕ, zero, suc, List, [], Some, None, Bool, true, false, Result, Ok, Err, refl, ap, sym as flip, arith, length, if◌then◌else◌}
+use Rattle.std.proofs.Common.{◌≡◌, ◌∙◌, ◌+◌, ◌-◌, ◌<◌, ℕ, [], Some, None, Bool, true, false, Result, Ok, Err, refl, ap, arith, length}
 use Rattle.std.proofs.lemmas.Bool.Decides.{nat_tests}
-use Rattle.std.specs.Prelude.{eqb, nat_lt, ◌||◌, ◌&&◌, not}
+use Rattle.std.specs.Prelude.{nat_lt, ◌||◌, ◌&&◌, not}
 use Rattle.dk_model.specs.Trees.{Tree, star, kind, symbol, variable, rule_variable, apply, bare, annotated, product}
-use Rattle.dk_model.specs.Substitution.{shift, substitute, substituted_variable}
+use Rattle.dk_model.specs.Substitution.{substitute, substituted_variable}
 use Rattle.dk_model.specs.Captures.{mentions_others}
 use Rattle.dk_model.specs.Signatures.{PlainSignature}
 use Rattle.dk_model.specs.Units.{Units}
-use Rattle.dk_model.specs.declared.NodeOf.{NodeOf}
 use Rattle.dk_model.specs.declared.NodeOf.TheVariants.{Star, Kind, Sym, Var, Rvar, App, Abs, Prod}
 use Rattle.dk_model.specs.declared.stop.Stop.{Stop}
 use Rattle.dk_model.specs.declared.stop.Stop.TheVariants.{Ended, NoMemory}

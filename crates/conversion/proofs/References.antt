@@ -1,10 +1,8 @@
 -- A boxed application taken apart by references.
-use Rattle.std.proofs.Common.{List, [], ◌∷◌, ◌++◌, ◌≡◌, ◌+◌, ℕ, refl, ap, ◌∙◌, sym as flip, arith}
+use Rattle.std.proofs.Common.{List, [], ◌∷◌, ◌++◌, ◌≡◌, ◌+◌, refl, ap, arith}
 use Rattle.std.specs.Borrow.{Bor}
 use Rattle.dk_model.specs.Trees.{Tree, apply, tree}
 use Rattle.dk_model.specs.declared.term.Term.{Term}
-use Rattle.shared_term.specs.declared.id.TermId.{TermId}
-use Rattle.shared_term.specs.Pools.{Node, term, Extends}
 use Rattle.conversion.specs.Machine.{wound}
 use Rattle.conversion.specs.Spine.{behind_references, size, total_size}
 

@@ -1,36 +1,27 @@
 -- The turn of a matrix's symbol, by what its selection comes to.
-use Rattle.std.proofs.Common.{List, [], ◌∷◌, ◌++◌, ◌≡◌, ◌+◌, ◌-◌, ◌<◌, ◌≤◌, ℕ, zero, suc, Option, Some, None, Ok, Err, Result, refl, ap, ◌∙◌, sym as flip, subst, arith, length, take, drop, map}
+use Rattle.std.proofs.Common.{List, ◌≡◌, ◌-◌, ◌<◌, ◌≤◌, ℕ, zero, suc, Option, Some, None, Result, refl, ap, ◌∙◌, sym as flip, subst, arith, length, take, drop, map}
 use Rattle.std.specs.Prelude.{slice_get}
-use Rattle.std.specs.declared.vec.Vec.{Vec}
-use Rattle.std.specs.declared.alloc.Global.{Global}
 use Rattle.std.proofs.lemmas.List.{length-map, take-map}
 use Rattle.dk_model.specs.Trees.{Tree, symbol}
 use Rattle.dk_model.specs.Signatures.{PlainRule, PlainSignature}
 use Rattle.dk_model.specs.SymbolRules.{rules_of}
-use Rattle.dk_model.specs.Taking.{Takes}
 use Rattle.dk_model.specs.Units.{Units, bind}
-use Rattle.dk_model.specs.Selection.{Selected}
-use Rattle.dk_model.specs.Spines.{arguments, applied}
-use Rattle.dk_model.specs.Matrix.{Column, Row}
+use Rattle.dk_model.specs.Spines.{applied}
 use Rattle.dk_model.specs.Captures.{filled, Captures}
 use Rattle.dk_model.specs.Evaluation.{whnf_of}
 use Rattle.dk_model.specs.Equations.{selection_of, after_selection}
 use Rattle.dk_model.specs.declared.stop.Stop.{Stop}
-use Rattle.dk_model.specs.declared.stop.Stop.TheVariants.{Ended, NoMemory}
-use Rattle.dk_model.proofs.Turns.{whnf_falls}
 use Rattle.shared_term.specs.declared.id.TermId.{TermId}
 use Rattle.shared_term.specs.Pools.{Node, term, Extends, Moves}
 use Rattle.shared_term.specs.Changes.{captured_terms}
 use Rattle.conversion.specs.declared.matrix.Matrix.{Matrix}
 use Rattle.conversion.specs.declared.gap.Gap.{Gap}
-use Rattle.conversion.specs.declared.select.Choice.{Choice}
 use Rattle.conversion.specs.declared.turn.Turn.{Turn}
 use Rattle.conversion.specs.declared.state.Value.{Value}
 use Rattle.conversion.specs.Machine.{behind, AreWithin, wound, from_top}
-use Rattle.conversion.specs.Matrix.{column, row}
-use Rattle.conversion.specs.Pausing.{plain, selected, reselected, columns_with, rows_with, IsMatrix, IsGap}
+use Rattle.conversion.specs.Matrix.{row}
+use Rattle.conversion.specs.Pausing.{plain, selected, reselected, columns_with, rows_with}
 use Rattle.conversion.specs.Reducers.{right_at, IsLoaded, IsValue}
-use Rattle.conversion.specs.Selections.{GivesChoice}
 use Rattle.conversion.specs.Turning.{TurnsTo, rewritten_by, waiting_due}
 use Rattle.conversion.proofs.Winding.{behind_grown}
 use Rattle.conversion.proofs.Opening.{arguments_wound, put_before}

@@ -1,10 +1,9 @@
 -- What a reducer remembers stays right as its pool grows, and with one more entry.
-use Rattle.std.proofs.Common.{List, [], ◌∷◌, ◌≡◌, ◌-◌, ◌<◌, ◌≤◌, ◌⊎◌, inl, inr, ℕ, zero, suc, Option, Some, None, refl, ap, subst, ◌∙◌, sym as flip, arith, length, get_or}
+use Rattle.std.proofs.Common.{List, ◌≡◌, ◌-◌, ◌<◌, ◌⊎◌, inl, inr, ℕ, Some, ap, subst, ◌∙◌, sym as flip, arith, length, get_or}
 use Rattle.std.specs.Prelude.{Bool}
 use Rattle.dk_model.specs.Trees.{Tree, star}
 use Rattle.dk_model.specs.Signatures.{PlainSignature}
 use Rattle.dk_model.specs.Taking.{Takes}
-use Rattle.dk_model.specs.Units.{Units}
 use Rattle.dk_model.specs.Evaluation.{whnf_of, comparison_of, normal_of}
 use Rattle.dk_model.proofs.Counting.{whnf_takes, comparison_takes, normal_takes}
 use Rattle.shared_term.specs.declared.id.TermId.{TermId}
@@ -13,7 +12,7 @@ use Rattle.conversion.specs.declared.table.Table.{Table}
 use Rattle.conversion.specs.declared.state.Value.{Value}
 use Rattle.conversion.specs.declared.state.Answer.{Answer}
 use Rattle.conversion.specs.Tables.{Remembers, IsBlank}
-use Rattle.conversion.specs.Reducers.{right_at, IsLoaded, AreLoaded, IsValue, AreValues, IsNormal, AreNormals, IsAnswer, AreAnswers}
+use Rattle.conversion.specs.Reducers.{IsLoaded, AreLoaded, IsValue, AreValues, IsNormal, AreNormals, IsAnswer, AreAnswers}
 
 -- a larger pool
 

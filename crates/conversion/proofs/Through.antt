@@ -1,5 +1,5 @@
 -- The captures of a row, one cell after another, and its guards.
-use Rattle.std.proofs.Common.{List, [], ◌∷◌, ◌++◌, take, drop, length, ℕ, zero, suc, ◌≡◌, ◌+◌, min, Option, Some, None, Bool, true, false, refl, ap, ◌∙◌, sym as flip, arith, add-one}
+use Rattle.std.proofs.Common.{List, [], ◌∷◌, ◌++◌, take, drop, length, ℕ, zero, suc, ◌≡◌, ◌+◌, min, Some, None, Bool, true, false, refl, ap, ◌∙◌, sym as flip, arith, add-one}
 use Rattle.std.specs.Prelude.{slice_set, slice_get, if◌then◌else◌}
 use Rattle.dk_model.specs.Trees.{Tree}
 use Rattle.dk_model.specs.Signatures.{rule_variable_pattern, wildcard_pattern, guard_pattern, symbol_pattern, variable_pattern, abstraction_pattern}

@@ -1,33 +1,26 @@
 -- The turns of the weak head form.
-use Rattle.std.proofs.Common.{List, [], ◌∷◌, ◌++◌, ◌≡◌, ◌+◌, ◌-◌, ◌<◌, ◌≤◌, ℕ, zero, suc, Bool, true, false, Option, Some, None, Ok, Result, refl, ap, ◌∙◌, sym as flip, subst, arith, length, take, drop, map, max}
+use Rattle.std.proofs.Common.{List, [], ◌∷◌, ◌++◌, ◌≡◌, ◌-◌, ◌<◌, ◌≤◌, ℕ, zero, suc, Bool, true, false, Some, None, Result, refl, ap, ◌∙◌, sym as flip, subst, arith, length, take, map, max}
 use Rattle.std.specs.Prelude.{nat_lt, slice_get, if◌then◌else◌}
-use Rattle.std.specs.declared.vec.Vec.{Vec}
-use Rattle.std.specs.declared.alloc.Global.{Global}
 use Rattle.std.proofs.lemmas.Bool.{ltb-false}
 use Rattle.std.proofs.lemmas.List.{length-map, take-map}
 use Rattle.dk_model.specs.Trees.{Tree, symbol, apply, bare}
 use Rattle.dk_model.specs.Substitution.{substitute}
 use Rattle.dk_model.specs.Signatures.{PlainRule, PlainSignature}
 use Rattle.dk_model.specs.SymbolRules.{rules_of}
-use Rattle.dk_model.specs.Taking.{Takes}
 use Rattle.dk_model.specs.Units.{Units, bind}
-use Rattle.dk_model.specs.Selection.{Selected}
-use Rattle.dk_model.specs.Spines.{arguments, contraction, head_symbol, body_of, applied}
-use Rattle.dk_model.specs.Matrix.{rows_for, width, Column, Row}
-use Rattle.dk_model.specs.Captures.{filled, Captures}
+use Rattle.dk_model.specs.Spines.{arguments, contraction, head_symbol, body_of}
+use Rattle.dk_model.specs.Matrix.{rows_for, width}
 use Rattle.dk_model.specs.Evaluation.{whnf_of, columns, rows}
 use Rattle.dk_model.specs.Equations.{selection_of, after_selection}
 use Rattle.dk_model.specs.declared.stop.Stop.{Stop}
 use Rattle.dk_model.proofs.Turns.{whnf_contracts, whnf_stands, whnf_selects}
 use Rattle.shared_term.specs.declared.id.TermId.{TermId}
 use Rattle.shared_term.specs.Pools.{Node, term, Extends, Moves}
-use Rattle.shared_term.specs.Changes.{captured_terms}
 use Rattle.conversion.specs.declared.matrix.Matrix.{Matrix}
-use Rattle.conversion.specs.declared.gap.Gap.{Gap}
 use Rattle.conversion.specs.declared.turn.Turn.{Turn}
 use Rattle.conversion.specs.Machine.{behind, AreWithin, wound, from_top, unbound, is_application, is_stuck}
 use Rattle.conversion.specs.Matrix.{column, row, argument_column, AreColumns, AreAmong}
-use Rattle.conversion.specs.Pausing.{plain, selected, reselected, columns_with, rows_with, IsMatrix, IsGap}
+use Rattle.conversion.specs.Pausing.{plain, IsMatrix}
 use Rattle.conversion.specs.Turning.{TurnsTo, rule_due, rewritten_by, HasColumnsOf, HasRowsOf}
 use Rattle.conversion.proofs.Winding.{wound_tree, behind_pushed, behind_grown, within_popped}
 use Rattle.conversion.proofs.Opening.{arguments_wound, length_from_top, map_from_top, plain_arguments, arguments_within}

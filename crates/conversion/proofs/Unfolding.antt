@@ -1,5 +1,5 @@
 -- A symbol with a body: its first row takes any arguments, and takes no unit. So the rules behind it are never reached.
-use Rattle.std.proofs.Common.{List, [], ◌∷◌, ◌++◌, ◌≡◌, ◌+◌, ◌-◌, ◌<◌, ℕ, zero, suc, Bool, true, false, nat_lt, Option, Some, None, refl, ap, ◌∙◌, sym as flip, arith, length, take, drop, map, if◌then◌else◌}
+use Rattle.std.proofs.Common.{List, [], ◌∷◌, ◌++◌, ◌≡◌, ◌+◌, ◌-◌, ◌<◌, ℕ, zero, suc, Bool, true, false, nat_lt, Option, Some, None, refl, ap, ◌∙◌, arith, drop, if◌then◌else◌}
 use Rattle.std.proofs.lemmas.Bool.Decides.{nat_tests}
 use Rattle.std.specs.Prelude.{slice_get, replicate}
 use Rattle.dk_model.specs.Trees.{Tree, star, kind, symbol, variable, rule_variable, apply, bare, annotated, product}
@@ -7,10 +7,10 @@ use Rattle.dk_model.specs.Signatures.{PlainRule, PlainSignature}
 use Rattle.dk_model.specs.Units.{Units, bind}
 use Rattle.dk_model.specs.Spines.{arguments, applied}
 use Rattle.dk_model.specs.SymbolRules.{rules_of}
-use Rattle.dk_model.specs.Matrix.{Cell, blank, Column, Row, rigid_at, rows_for}
+use Rattle.dk_model.specs.Matrix.{blank, Column, Row, rigid_at, rows_for}
 use Rattle.dk_model.specs.Captures.{filled, Captures}
 use Rattle.dk_model.specs.Selection.{Selected, captures_of_row, guards_hold, row_taken, select_from}
-use Rattle.dk_model.specs.Evaluation.{whnf_of, comparison_of, normal_of, columns, rows, rewritten}
+use Rattle.dk_model.specs.Evaluation.{whnf_of, comparison_of, normal_of, columns, rewritten}
 use Rattle.dk_model.specs.Equations.{selection_of, after_selection}
 use Rattle.dk_model.proofs.Turns.{selection_is}
 use Rattle.conversion.specs.Machine.{wound}

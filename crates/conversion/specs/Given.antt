@@ -1,7 +1,6 @@
 -- What an evaluation gives, by the cases of its result. Want of memory says nothing.
 use Rattle.std.specs.Prelude.{ℕ, ◌≡◌, ◌<◌, Some, None, Bool, Result, Ok, Err, List, length}
 use Rattle.dk_model.specs.Trees.{Tree}
-use Rattle.dk_model.specs.Signatures.{PlainSignature}
 use Rattle.dk_model.specs.Units.{Units}
 use Rattle.dk_model.specs.declared.stop.Stop.{Stop}
 use Rattle.dk_model.specs.declared.stop.Stop.TheVariants.{Ended, NoMemory}

@@ -1,5 +1,5 @@
 -- How the selecting code holds its matrix, as the plain data of a selection (docs/evaluation.md).
-use Rattle.std.specs.Prelude.{ℕ, ◌≡◌, ◌<◌, ◌+◌, ◌-◌, Bool, true, ◌&&◌, Some, List, [], ◌∷◌, ◌++◌, map, take, drop, replicate, eqb, length, slice_get}
+use Rattle.std.specs.Prelude.{ℕ, ◌≡◌, ◌<◌, ◌+◌, Bool, true, ◌&&◌, Some, List, [], ◌∷◌, ◌++◌, map, take, drop, replicate, eqb, length, slice_get}
 use Rattle.std.specs.declared.vec.Vec.{Vec}
 use Rattle.std.specs.declared.alloc.Global.{Global}
 use Rattle.dk_model.specs.Trees.{Tree, symbol, variable}

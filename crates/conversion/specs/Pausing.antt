@@ -1,5 +1,5 @@
 -- Selections over terms of a pool, and those that wait for the value of a column.
-use Rattle.std.specs.Prelude.{ℕ, ◌≡◌, ◌<◌, Option, Some, None, List, [], ◌∷◌, ◌++◌, map, drop, length}
+use Rattle.std.specs.Prelude.{ℕ, ◌≡◌, ◌<◌, Option, List, [], ◌∷◌, ◌++◌, map, drop, length}
 use Rattle.std.specs.declared.vec.Vec.{Vec}
 use Rattle.std.specs.declared.alloc.Global.{Global}
 use Rattle.dk_model.specs.Trees.{Tree, symbol}

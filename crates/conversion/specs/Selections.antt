@@ -1,21 +1,20 @@
 -- What the steps of a selection give, by the cases of a result. Want of memory says nothing.
-use Rattle.std.specs.Prelude.{ℕ, ◌≡◌, ◌<◌, Option, Some, None, Bool, true, false, Result, Ok, Err, List, [], ◌∷◌, length}
+use Rattle.std.specs.Prelude.{ℕ, ◌≡◌, ◌<◌, Option, Some, None, Bool, true, false, Result, Ok, Err, List, length}
 use Rattle.std.specs.declared.vec.Vec.{Vec}
 use Rattle.std.specs.declared.alloc.Global.{Global}
 use Rattle.dk_model.specs.Trees.{Tree}
 use Rattle.dk_model.specs.Substitution.{shift}
-use Rattle.dk_model.specs.Signatures.{rule_variable_pattern, guard_pattern, PlainRule, PlainSignature}
+use Rattle.dk_model.specs.Signatures.{rule_variable_pattern, guard_pattern, PlainSignature}
 use Rattle.dk_model.specs.SymbolRules.{rules_of}
 use Rattle.dk_model.specs.Units.{Units, bind}
 use Rattle.dk_model.specs.Selection.{PartTrial, Selected, CellTrial, RowTrial, cell_captures}
 use Rattle.dk_model.specs.Captures.{filled, Captures}
 use Rattle.dk_model.specs.Matrix.{blank, cell}
-use Rattle.dk_model.specs.Matrix.{Cell as PlainCell, Column as PlainColumn, Row as PlainRow}
+use Rattle.dk_model.specs.Matrix.{Cell as PlainCell, Column as PlainColumn}
 use Rattle.dk_model.specs.Evaluation.{whnf_of}
 use Rattle.dk_model.specs.declared.stop.Stop.{Stop}
 use Rattle.dk_model.specs.declared.stop.Stop.TheVariants.{Ended, NoMemory}
 use Rattle.shared_term.specs.declared.id.TermId.{TermId}
-use Rattle.shared_term.specs.declared.stored.Stored.{Stored}
 use Rattle.shared_term.specs.Pools.{Node, term}
 use Rattle.shared_term.specs.Storage.{stored_term}
 use Rattle.shared_term.specs.Changes.{AreCaptures, captured_terms}

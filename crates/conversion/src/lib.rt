@@ -22,6 +22,3 @@ mod table;
 mod turn;
 
 pub use state::PoolReducer;
-
-#[cfg(test)]
-mod tests;

@@ -1,5 +1,5 @@
 -- The parts go onto the stack whatever is under way.
-use Rattle.std.proofs.Common.{◌≡◌, ◌∙◌, ◌<◌, Some, None, ap, sym as flip, arith, rules, [], ◌∷◌}
+use Rattle.std.proofs.Common.{◌≡◌, ◌∙◌, Some, None, ap, arith, [], ◌∷◌}
 use Rattle.dk_model.specs.Trees.{Tree}
 use Rattle.dk_model.specs.Spines.{pairs_of}
 use Rattle.shared_term.specs.Pools.{term, terms}

@@ -1,4 +1,4 @@
-use Rattle.std.proofs.Common.{◌≡◌, ◌<◌, ℕ, length, Bool}
+use Rattle.std.proofs.Common.{◌<◌, ℕ, length, Bool}
 use Rattle.dk_model.specs.Signatures.{PlainSignature}
 use Rattle.dk_model.specs.Units.{Units}
 use Rattle.shared_term.specs.Pools.{term}

@@ -1,4 +1,3 @@
-use Rattle.std.proofs.Common.{◌≡◌, ◌∙◌, ◌++◌, ◌∷◌, [], List, map, ap, sym as flip}
 use Rattle.conversion.proofs.Opening.{argument_taken}
 use Rattle.conversion.proofs.gap.argument_columns.Goals as goal
 

@@ -1,13 +1,12 @@
 -- The value is put in with its parts.
-use Rattle.std.proofs.Common.{◌≡◌, ◌∙◌, ◌++◌, ◌∷◌, ◌+◌, [], List, length, map, drop, ap, subst, sym as flip, arith}
+use Rattle.std.proofs.Common.{◌≡◌, ◌∙◌, ◌++◌, ◌∷◌, [], List, length, map, drop, ap, subst, sym as flip, arith}
 use Rattle.std.proofs.lemmas.List.{length-map}
 use Rattle.dk_model.specs.Trees.{Tree}
-use Rattle.dk_model.specs.Signatures.{PlainRule}
 use Rattle.dk_model.specs.Matrix.{refined_rows, opened_columns}
 use Rattle.shared_term.specs.Pools.{term, terms}
 use Rattle.conversion.specs.declared.matrix.Column.{Column}
 use Rattle.conversion.specs.declared.matrix.Row.{Row}
-use Rattle.conversion.specs.Matrix.{column, row, AreColumns, AreAmong, ShowsHead}
+use Rattle.conversion.specs.Matrix.{column, row, AreColumns, AreAmong}
 use Rattle.conversion.proofs.Opening.{shown, shown_arguments, columns_joined_3}
 use Rattle.conversion.proofs.Choosing.{among_dropped}
 use Rattle.conversion.proofs.gap.closed.Goals as goal

@@ -1,12 +1,9 @@
-use Rattle.std.proofs.Common.{◌≡◌, ◌∙◌, ◌++◌, ◌∷◌, [], ◌<◌, ◌≤◌, List, Vec, Global, length, map, drop, ◌+◌, true, false, ap, subst, sym as flip, arith}
-use Rattle.dk_model.specs.Trees.{Tree}
-use Rattle.dk_model.specs.Signatures.{PlainRule}
+use Rattle.std.proofs.Common.{◌≡◌, ◌∙◌, ◌++◌, ◌<◌, ◌≤◌, List, Vec, Global, length, map, drop, ◌+◌, true, false, ap, subst, sym as flip, arith}
 use Rattle.dk_model.specs.Matrix.{cell_at, refined_rows}
-use Rattle.dk_model.specs.Matrix.{Cell as PlainCell}
 use Rattle.conversion.specs.declared.matrix.Cell.{Cell}
 use Rattle.conversion.specs.declared.matrix.Row.{Row}
 use Rattle.conversion.specs.Rules.{plain_rule_of}
-use Rattle.conversion.specs.Matrix.{plain_cell, row, is_kept, AreAmong, IsListed}
+use Rattle.conversion.specs.Matrix.{plain_cell, row, is_kept, AreAmong}
 use Rattle.conversion.proofs.Refining.{dropped_here, kept_here}
 use Rattle.conversion.proofs.Choosing.{all_refined, among_pushed, among_item}
 use Rattle.conversion.proofs.matrix.refined_rows.Goals.{then-is_kept+in_ok-refined+in_ok-push, else-is_kept}

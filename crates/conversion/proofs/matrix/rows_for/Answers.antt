@@ -1,11 +1,9 @@
 use Rattle.std.proofs.Common.{◌≡◌, ◌∙◌, ◌+◌, ◌++◌, ◌∷◌, [], List, Vec, Global, ap, subst, sym as flip, map, drop, arith}
-use Rattle.dk_model.specs.Signatures.{PlainRule}
 use Rattle.dk_model.specs.Matrix.{rows_for}
 use Rattle.signature_log.specs.Rows.{row_rules}
 use Rattle.conversion.specs.declared.matrix.Row.{Row}
-use Rattle.conversion.specs.declared.rules.SymbolRule.{SymbolRule}
 use Rattle.conversion.specs.Rules.{plain_rule_of}
-use Rattle.conversion.specs.Matrix.{row, AreAmong, IsListed}
+use Rattle.conversion.specs.Matrix.{row, AreAmong}
 use Rattle.conversion.proofs.Refining.{row_added, row_passed}
 use Rattle.conversion.proofs.Choosing.{among_pushed, listed_here}
 use Rattle.conversion.proofs.matrix.rows_for.Goals.{then-patterns-count+in_ok-row+in_ok-push, else-patterns-count}

@@ -1,6 +1,5 @@
 -- The parts wait for their normal forms whatever else waits.
-use Rattle.std.proofs.Common.{◌≡◌, ◌<◌, Some, None, ap, arith, rules}
-use Rattle.dk_model.specs.Trees.{bare, annotated, product}
+use Rattle.std.proofs.Common.{ap, arith}
 use Rattle.shared_term.specs.Pools.{term}
 use Rattle.conversion.proofs.Waiting.{apart_argument, apart_body, apart_annotation, apart_domain, apart_head, is_leaf}
 use Rattle.conversion.proofs.normal.take_apart.Goals as goal

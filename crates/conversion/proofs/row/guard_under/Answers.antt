@@ -1,11 +1,4 @@
 -- The guard is loaded, filled and shifted.
-use Rattle.std.proofs.Common.{◌≡◌, ◌∙◌, ap, subst, List, Option}
-use Rattle.dk_model.specs.Trees.{Tree}
-use Rattle.dk_model.specs.Substitution.{shift}
-use Rattle.dk_model.specs.Captures.{filled}
-use Rattle.shared_term.specs.Pools.{term}
-use Rattle.shared_term.specs.Changes.{captured_terms}
-use Rattle.shared_term.specs.Storage.{stored_term}
 use Rattle.conversion.proofs.Passing.{guard_made}
 use Rattle.conversion.proofs.row.guard_under.Goals as goal
 

@@ -1,14 +1,12 @@
-use Rattle.std.proofs.Common.{◌≡◌, ◌∙◌, ◌<◌, ◌≤◌, ◌+◌, ◌-◌, ◌++◌, ◌∷◌, [], List, Vec, Global, map, drop, length, ℕ, true, false, None, Some, Ok, Err, ap, subst, refl, sym as flip, arith, rules, sym, true≢false}
-use Rattle.std.specs.Prelude.{replicate, get_or}
-use Rattle.dk_model.specs.Trees.{Tree, symbol}
-use Rattle.dk_model.specs.Signatures.{PlainRule, PlainSignature}
+use Rattle.std.proofs.Common.{◌≡◌, ◌∙◌, ◌<◌, ◌≤◌, ◌+◌, ◌-◌, ◌++◌, ◌∷◌, [], List, Vec, Global, map, length, ℕ, true, false, None, Some, Ok, Err, ap, subst, refl, sym as flip, arith, rules, sym, true≢false}
+use Rattle.std.specs.Prelude.{get_or}
+use Rattle.dk_model.specs.Trees.{Tree}
+use Rattle.dk_model.specs.Signatures.{PlainSignature}
 use Rattle.dk_model.specs.SymbolRules.{rules_of}
-use Rattle.dk_model.specs.Units.{Units}
 use Rattle.dk_model.specs.Matrix.{rigid_at}
 use Rattle.dk_model.specs.Evaluation.{whnf_of, normal_of, comparison_of}
-use Rattle.shared_term.specs.Pools.{Node, term, Extends}
-use Rattle.shared_term.specs.Changes.{AreCaptures, captured_terms}
-use Rattle.shared_term.specs.declared.id.TermId.{TermId}
+use Rattle.shared_term.specs.Pools.{term}
+use Rattle.shared_term.specs.Changes.{captured_terms}
 use Rattle.signature_log.specs.Versions.{entries_of}
 use Rattle.conversion.specs.declared.evaluate.Pause.{Pause}
 use Rattle.conversion.specs.declared.matrix.Cell.{Cell}
@@ -16,14 +14,13 @@ use Rattle.conversion.specs.declared.matrix.Column.{Column}
 use Rattle.conversion.specs.declared.matrix.Row.{Row}
 use Rattle.conversion.specs.Machine.{behind, wound}
 use Rattle.conversion.specs.Rules.{plain_rule_of}
-use Rattle.conversion.specs.Matrix.{plain_cell, column, row, AreColumns, AreAmong, IsListed}
-use Rattle.conversion.specs.Pausing.{plain, IsPause, ArePauses, Await, IsGap}
-use Rattle.conversion.specs.Reducers.{Serves, IsValue}
+use Rattle.conversion.specs.Matrix.{plain_cell, column, row, AreColumns, AreAmong}
+use Rattle.conversion.specs.Pausing.{plain, ArePauses, Await}
+use Rattle.conversion.specs.Reducers.{IsValue}
 use Rattle.conversion.specs.Selections.{step_cell}
-use Rattle.conversion.specs.Turning.{next_due}
 use Rattle.conversion.proofs.Winding.{extends_more, extends_none}
 use Rattle.conversion.proofs.Serving.{value_made, values_put, loaded_grown, values_grown, normals_grown, answers_grown, answers_put, answer_made, normals_put, normal_made}
-use Rattle.conversion.proofs.Growing.{columns_set, columns_within, columns_taken, columns_dropped, column_within, captures_within, captures_grown, none_captured}
+use Rattle.conversion.proofs.Growing.{columns_set, columns_within, columns_taken, columns_dropped, column_within, captures_within, captures_grown}
 use Rattle.conversion.proofs.Choosing.{row_fails, row_takes, row_ends, no_column, row_asks, no_choice, got_either, past_end, among_item}
 use Rattle.conversion.proofs.Passing.{row_goes, row_misses, row_stops, row_ended, guard_goes, guard_misses, guard_stops, guards_ended, cell_misses, cell_caught, cell_given, recorded_new, recorded_before, set_past, guard_compared, captures_begun, guards_begun, row_misses_all, row_ends_all, guards_miss_all, guards_end_all, row_takes_all}
 use Rattle.conversion.proofs.Pausing.{await_grown, pauses_grown, pauses_pushed, pauses_popped, popped_pause}
@@ -31,7 +28,7 @@ use Rattle.conversion.proofs.Evaluating.{await_on, asks_on, awaited_is, awaited_
 use Rattle.conversion.proofs.Selecting.{turns_same, choice_goes, choice_stands, choice_asks}
 use Rattle.conversion.specs.declared.compare.Step.{Step}
 use Rattle.conversion.specs.declared.compare.Step.TheVariants.{Pair, Conclude}
-use Rattle.conversion.specs.Pending.{IsUnderWay, rest_compared, pending}
+use Rattle.conversion.specs.Pending.{rest_compared, pending}
 use Rattle.conversion.proofs.Comparing.{steps_popped, pair_within, concluded_within, way_open, way_goes, way_stops, way_skips, way_concludes, concluded_gives, concluded_units, pair_alike, pair_known, known_too_few, comparison_costs, pair_first_ends, pair_second_ends, pair_parts, pair_stopped}
 use Rattle.conversion.specs.Waiting.{AreFrames, AreWaiting, value_due, IsFrame, IsWaiting, continued, TakesValueApart}
 use Rattle.conversion.proofs.Waiting.{frames_popped, frame_popped, waits_popped, way_popped, way_due, part_stops, argument_next, annotation_next, domain_next, built_next, part_due, ended, normal_costs, way_found, way_concluding, weak_ends, part_stopped}

@@ -1,5 +1,4 @@
-use Rattle.std.proofs.Common.{◌≡◌, ◌≤◌, ◌<◌, ◌+◌, ◌*◌, length, map, drop, vec_len, Some}
-use Rattle.dk_model.specs.SymbolRules.{rules_of}
+use Rattle.std.proofs.Common.{◌≡◌, ◌≤◌, ◌<◌, ◌+◌, ◌*◌, length, map, drop, vec_len}
 use Rattle.dk_model.specs.Selection.{captures_of_row, guards_hold}
 use Rattle.dk_model.specs.Evaluation.{whnf_of, comparison_of, normal_of}
 use Rattle.dk_model.specs.Equations.{selection_of}
@@ -7,7 +6,7 @@ use Rattle.shared_term.specs.Pools.{term, Extends}
 use Rattle.shared_term.specs.Changes.{AreCaptures, captured_terms}
 use Rattle.signature_log.specs.Versions.{entries_of}
 use Rattle.conversion.specs.Machine.{AreWithin}
-use Rattle.conversion.specs.Matrix.{plain_cell, column, row, AreColumns, AreAmong}
+use Rattle.conversion.specs.Matrix.{plain_cell, column, row, AreColumns}
 use Rattle.conversion.specs.Pausing.{plain, selected, ArePauses, Await}
 use Rattle.conversion.specs.Reducers.{Serves}
 use Rattle.conversion.specs.Turning.{next_due, next_rank, IsNext}

@@ -1,6 +1,5 @@
 -- A value that is remembered is put in; it takes what it took.
-use Rattle.std.proofs.Common.{◌≡◌, ◌∙◌, ◌<◌, ◌≤◌, ◌-◌, refl, subst, sym as flip, ℕ, List, length, arith}
-use Rattle.dk_model.specs.Signatures.{PlainRule}
+use Rattle.std.proofs.Common.{◌<◌, refl, subst, sym as flip, ℕ, arith}
 use Rattle.dk_model.specs.SymbolRules.{rules_of}
 use Rattle.signature_log.specs.Versions.{entries_of}
 use Rattle.conversion.specs.Matrix.{AreAmong}

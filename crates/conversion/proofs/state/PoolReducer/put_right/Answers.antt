@@ -1,5 +1,5 @@
 -- The right side under the captures, before the arguments that are left over.
-use Rattle.std.proofs.Common.{◌≡◌, ◌∙◌, ◌-◌, ap, List, length, take, arith}
+use Rattle.std.proofs.Common.{◌≡◌, ◌∙◌, ◌-◌, ap, length, take, arith}
 use Rattle.signature_log.specs.Versions.{entries_of}
 use Rattle.conversion.specs.Rules.{plain_rule_of}
 use Rattle.conversion.proofs.Growing.{captures_grown}

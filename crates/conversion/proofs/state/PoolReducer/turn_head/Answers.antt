@@ -1,5 +1,5 @@
 -- The turn of a symbol, by that of its rules.
-use Rattle.std.proofs.Common.{◌≡◌, ◌<◌, ◌-◌, List, Ok, subst, arith}
+use Rattle.std.proofs.Common.{◌<◌, ◌-◌, List, Ok, subst, arith}
 use Rattle.dk_model.specs.Signatures.{PlainSignature}
 use Rattle.shared_term.specs.declared.id.TermId.{TermId}
 use Rattle.signature_log.specs.Versions.{entries_of}
