@@ -22,3 +22,6 @@ mod table;
 mod turn;
 
 pub use state::PoolReducer;
+
+#[cfg(test)]
+mod tests;
