@@ -469,33 +469,15 @@ const FAILURES: [Failure; 15] = [
 fn answers_each_failure(rt: HostRuntime) -> Result<(), Fail> {
     let alloc = rt.alloc();
     for row in &FAILURES {
-        let Failure {
-            text,
-            words,
-            piece,
-            shelf_call,
-            sink_piece,
-            sink_call,
-            status,
-            taken,
-        } = row;
-        assert!(rt; *piece > 0 && *sink_piece > 0, "at {text}");
-        let words = words_of(alloc, words)?;
-        let mut shelf = shelf_of(alloc, text, *piece, &[*shelf_call])?;
+        assert!(rt; row.piece > 0 && row.sink_piece > 0);
+        let words = words_of(alloc, &row.words)?;
+        let mut shelf = shelf_of(alloc, row.text, row.piece, &[row.shelf_call])?;
         let mut failing = Vec::new(alloc);
-        failing.push(*sink_call)?;
-        let mut sink = MemSink::new(alloc, 1000, *sink_piece, failing)?;
-        let got = run(alloc, words.as_slice(), &mut shelf, &mut sink);
-        assert_eq!(rt;
-            sink.bytes(),
-            taken.as_bytes(),
-            "at {text}, calls {shelf_call} and {sink_call}, pieces of {piece} and {sink_piece}"
-        );
-        assert_eq!(rt;
-            got,
-            *status,
-            "at {text}, calls {shelf_call} and {sink_call}, pieces of {piece} and {sink_piece}"
-        );
+        failing.push(row.sink_call)?;
+        let mut sink = MemSink::new(alloc, 1000, row.sink_piece, failing)?;
+        let status = run(alloc, words.as_slice(), &mut shelf, &mut sink);
+        assert_eq!(rt; sink.bytes(), row.taken.as_bytes());
+        assert_eq!(rt; status, row.status);
     }
     Ok(())
 }
