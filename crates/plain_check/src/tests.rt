@@ -90,7 +90,11 @@ fn outcome_of_shared_terms(
 fn outcome(alloc: Global, commands: &[Scoped], budget: u64) -> Result<(usize, Verdict), NoMemory> {
     let trees = outcome_of_trees(alloc, commands, budget)?;
     let shared = outcome_of_shared_terms(alloc, commands, budget)?;
-    Ok(if trees == shared { trees } else { (0, shared.1) })
+    Ok(if trees == shared {
+        trees
+    } else {
+        (0, shared.1)
+    })
 }
 
 fn after_two(alloc: Global, command: Scoped, budget: u64) -> Result<(usize, Verdict), NoMemory> {
