@@ -37,6 +37,11 @@ def deep_values(turns, step):
             + b'thm t : eq (f (' + successors(turns, b'z') + b') z) (' + late + b') := refl (' + late + b').\n')
 
 
+def levels_of(levels, head, arguments, argument):
+    """So many levels of brackets, each the head of so many arguments."""
+    return b'(' * levels + head + ((b' ' + argument) * arguments + b')') * levels
+
+
 FILES = {
     'brackets_1000': lambda: b'x : ' + b'(' * 1000 + b'Type' + b')' * 1000 + b'.\n',
     'brackets_1001': lambda: b'x : ' + b'(' * 1001 + b'Type' + b')' * 1001 + b'.\n',
@@ -63,9 +68,16 @@ FILES = {
                                  + b')' * 1000 + b' --> ' + b'(' * 1000 + b'x' + b')' * 1000 + b'.\n'),
     'rule_levels_1001': lambda: b'a : Type.\ndef f : a -> a.\n[x] f ' + b'(' * 1001 + b'x' + b')' * 1001 + b' --> x.\n',
     'values_45000_deep': lambda: deep_values(50, 900),
+    'arguments_of_10_levels': lambda: b'a : Type. z : a.\nx : ' + levels_of(10, b'z', 1000, b'z') + b'.\n',
+    'arguments_of_1000_levels': lambda: b'a : Type. z : a.\nx : ' + levels_of(1000, b'z', 1000, b'z') + b'.\n',
+    'typed_arguments_of_100_levels': lambda: (b'a : Type. z : a. def t : Type. f : t.\n[] t --> a -> t.\nP : t -> Type.\nx : P '
+                                              + levels_of(100, b'f', 1000, b'z') + b'.\n'),
+    'left_arguments_of_900_levels': lambda: (b'a : Type. z : a. def f : a -> a.\n[] ' + levels_of(900, b'f', 1000, b'z')
+                                             + b' --> z.\n'),
     'patterns_1001': lambda: b'a : Type.\nx : a.\ndef f : a -> a.\n[] f' + b' x' * 1001 + b' --> x.\n',
 }
-LARGE = {'made:' + name for name in ('command_at_limit', 'command_past_limit', 'commands_at_limit', 'commands_past_limit')}
+LARGE = {'made:' + name for name in ('command_at_limit', 'command_past_limit', 'commands_at_limit', 'commands_past_limit',
+                                     'arguments_of_1000_levels', 'left_arguments_of_900_levels')}
 
 
 def write(name, path):

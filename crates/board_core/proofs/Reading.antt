@@ -7,7 +7,7 @@ use Rattle.board_core.specs.declared.event.Event.{Event}
 use Rattle.board_core.specs.declared.book.Posted.{Posted}
 use Rattle.board_core.specs.Events.{IsFirstFault, answered_verdict, verdict_at, is_settled}
 use Rattle.board_core.specs.Machine.{marks_of}
-use Rattle.board_core.specs.Kept.{IsFaultOf, posted, jobs_in}
+use Rattle.board_core.specs.Kept.{IsFaultOf, jobs_in}
 use Rattle.board_core.specs.Shown.{blanks}
 
 pub fault_first : (es : List Event) (f : Option (ℕ × Verdict)) → IsFaultOf es f → IfSome f (λ f. IsFirstFault es f.0 f.1)

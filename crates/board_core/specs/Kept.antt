@@ -56,7 +56,7 @@ pub record Keeps (room : ℕ) (marks : List Bool) (waiting : List ℕ) (verdicts
   pub lawful : IsLawful marks es
 
 abbrev pub posted : {J : Type 0} → Posted J → J × Bool
-posted p = (arc_value p.job, p.settled)
+posted p = (p.job.job, p.settled)
 
 abbrev pub waiter : {J : Type 0} → Waiting J → ℕ × J
 waiter w = (w.number, arc_value w.job)

@@ -13,8 +13,9 @@ mod replay;
 mod tests;
 
 use crate::event::{End, Event};
+use crate::past::Past;
 use crate::room::{Leftover, Lists, Offer, make_place};
-use crate::steps::{fault_after, idle, let_wait, share_of, take_below};
+use crate::steps::{fault_after, idle, let_wait, take_below};
 use crate::task::{Claimed, PutRefused};
 use dk_model::{NoMemory, Verdict};
 use std::alloc::Global;
@@ -22,10 +23,10 @@ use std::collections::VecDeque;
 use std::marker::Model;
 use std::sync::Arc;
 
-/// A job as it was put.
+/// What is kept of a job as it was put: whether it was settled, and for contracts alone its value.
 #[derive(Drop)]
 pub struct Posted<J> {
-    pub job: Arc<J>,
+    pub job: Past<J>,
     pub settled: bool,
 }
 
@@ -36,7 +37,8 @@ pub struct Waiting<J> {
     pub job: Arc<J>,
 }
 
-/// The jobs, numbered from 1, each settled or not, and the history of all that happened to them.
+/// The jobs, numbered from 1, each settled or not, and the history of all that happened to them. A
+/// job is held until it is claimed; of the others there are their marks, verdicts and events.
 #[derive(Drop)]
 pub struct Book<J> {
     jobs: Vec<Posted<J>>,
@@ -190,13 +192,6 @@ impl<J: Drop> Book<J> {
                 },
             );
         }
-        let Ok(share) = share_of(&job) else {
-            let leftover = Leftover {
-                lists: room.into_lists(),
-                job: None,
-            };
-            return (Err(PutRefused::NoMemory { job }), leftover);
-        };
         let Book {
             jobs,
             waiting,
@@ -214,10 +209,8 @@ impl<J: Drop> Book<J> {
             );
         };
         let number = jobs.len() as u32 + 1;
-        jobs.push_reserved(Posted {
-            job: share,
-            settled,
-        });
+        let past = Past::of(&*job);
+        jobs.push_reserved(Posted { job: past, settled });
         let job = let_wait(waiting, number, job, settled);
         verdicts.push_reserved(None);
         history.push_reserved(Event::Put(number));

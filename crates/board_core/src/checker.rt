@@ -11,14 +11,20 @@ pub trait Checker {
 
     type Job;
 
+    /// What a worker keeps from one check to the next. No verdict depends on it.
+    type Kit;
+
     // The verdict that a job has, whoever checks it and when.
     ghost due: { Self.Job → Verdict };
 
     // Whether the reader may check the job itself before it puts it.
     ghost early: { Self.Job → Bool };
 
+    /// What a worker begins with.
+    fn kit(&self) -> Self::Kit;
+
     /// The verdict of the job, or `Memory` where a growth was refused.
-    fn check(&self, job: &Self::Job) -> Verdict
+    fn check(&self, kit: &mut Self::Kit, job: &Self::Job) -> Verdict
         ensures { (result ≡ due job.now) ⊎ (result ≡ Memory) };
 }
 

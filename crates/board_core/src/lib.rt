@@ -10,6 +10,7 @@ mod book;
 mod checker;
 mod event;
 mod laws;
+mod past;
 mod room;
 mod steps;
 mod task;
@@ -22,5 +23,6 @@ pub use laws::{
     lawful_prefix, one_task_each, settled_unclaimed, verdict_answered, verdict_due,
     verdict_from_answer,
 };
+pub use past::Past;
 pub use room::{Leftover, Lists, Offer, Room};
 pub use task::{Claimed, PutRefused, Task};

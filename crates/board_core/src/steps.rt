@@ -1,14 +1,14 @@
 //! The parts of the calls of a book, over its fields.
-ghost use Rattle.std.specs.Prelude.{◌≡◌, ◌<◌, ◌++◌, IfOk};
+ghost use Rattle.std.specs.Prelude.{◌≡◌, ◌<◌, ◌++◌};
 ghost use Rattle.std.specs.VecDeque.{deque_len, deque_capacity};
 ghost use Rattle.std.specs.Arc.{arc_value};
 ghost use Rattle.board_core.specs.Kept.{waiters_in};
 ghost use Rattle.board_core.specs.Parts.{fault_with, idle_reply, newcomers, TakesBelow, reaches};
 
-use crate::book::{Posted, Waiting};
+use crate::book::Waiting;
 use crate::event::{End, Event};
 use crate::task::{Claimed, Task};
-use dk_model::{NoMemory, Verdict};
+use dk_model::Verdict;
 use std::collections::VecDeque;
 use std::sync::Arc;
 
@@ -63,13 +63,6 @@ pub fn idle<J>(end: Option<End>, fault: Option<(u32, Verdict)>) -> Claimed<J>
         (None, None) => Claimed::Empty,
         _ => Claimed::Over,
     }
-}
-
-/// One share more of the job.
-pub fn share_of<J: Drop>(job: &Arc<J>) -> Result<Arc<J>, NoMemory>
-    ensures { IfOk result (λ share. arc_value share ≡ arc_value job.now) }
-{
-    Ok(job.clone()?)
 }
 
 /// Lets a job wait; a settled one comes back.

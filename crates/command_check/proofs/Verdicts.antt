@@ -19,7 +19,8 @@ use Rattle.shared_term.specs.Storage.{stored_term}
 use Rattle.shared_term.specs.declared.stored.Stored.{Stored}
 use Rattle.typing_model.specs.Derivations.{HasDerivation}
 use Rattle.dk_model.specs.WellFormed.{IsSignature}
-use Rattle.typing_model.specs.Laws.{AcceptedHasDerivation}
+use Rattle.typing_model.specs.Conditions.{HasNoAnnotations, IsNumbered}
+use Rattle.typing_model.specs.Laws.{AcceptedHasDerivation, DeclarationHasDerivation}
 use Rattle.command_check.specs.Given.{fault_verdict, FailsShapes, HasBodyType}
 
 pub shapes_typed : (S : PlainSignature) (due : Result (List PlainRule) Code) (rs : List PlainRule) (n : ℕ) (o : Result Unit TypeFault) (m : ℕ) → due ≡ Ok rs
@@ -48,6 +49,10 @@ pub derived : (S : PlainSignature) (c : PlainCommand) (budget : ℕ) → ((T : P
     → IsSignature S → HasDerivation S c
 derived S c budget law e formed = law S formed c budget e
 
+pub numbered_derived : (S : PlainSignature) (c : PlainCommand) (budget : ℕ) → ((T : PlainSignature) → IsNumbered T → HasNoAnnotations T → AcceptedHasDerivation T)
+    → verdict_of S c budget ≡ Accepted → IsNumbered S → HasNoAnnotations S → HasDerivation S c
+numbered_derived S c budget law e numbered plain = law S numbered plain c budget e
+
 abbrev untyped_fits : Tree → ℕ → Judged (Unit {0})
 untyped_fits T m = answer tt m
 
@@ -66,9 +71,9 @@ module _ (S : PlainSignature) (s : SymSort) (b : Tree) (budget : ℕ) where
   pub body_due : (v : Verdict) → IsVerdictOrMemory (verdict (body_type S b budget)) v → IsVerdictOrMemory (verdict_of S (declare s None (Some b)) budget) v
   body_due v h = subst (λ (d : Verdict). IsVerdictOrMemory d v) (flip (same_verdict (body_type S b budget))) h
 
-  pub untyped_derives : ((T : PlainSignature) → IsSignature T → AcceptedHasDerivation T) → (c : PlainCommand) → c ≡ declare s None (Some b) → (o : Result Stored Verdict)
-      → IfOk o (λ t. HasBodyType S b budget (stored_term t)) → IfOk o (λ t. IsSignature S → HasDerivation S c)
-  untyped_derives law c e (Ok t) h = λ formed. subst (HasDerivation S) (flip e) (derived S (declare s None (Some b)) budget law (body_verdict (stored_term t) h) formed)
+  pub untyped_derives : ((T : PlainSignature) → IsNumbered T → DeclarationHasDerivation T) → (c : PlainCommand) → c ≡ declare s None (Some b) → (o : Result Stored Verdict)
+      → IfOk o (λ t. HasBodyType S b budget (stored_term t)) → IfOk o (λ t. IsNumbered S → HasDerivation S c)
+  untyped_derives law c e (Ok t) h = λ numbered. subst (HasDerivation S) (flip e) (law S numbered s None (Some b) budget (body_verdict (stored_term t) h))
   untyped_derives law c e (Err v) h = tt
 
   pub untyped_due : (c : PlainCommand) → c ≡ declare s None (Some b) → (o : Result Stored Verdict)

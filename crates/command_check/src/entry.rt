@@ -1,7 +1,5 @@
 //! The entry that an accepted command adds.
 ghost use Rattle.std.specs.Prelude.{◌≡◌, IfErr, IfOk};
-ghost use Rattle.dk_model.specs.Trees.{tree};
-ghost use Rattle.dk_model.specs.Erasure.{erased};
 ghost use Rattle.dk_model.specs.Signatures.{maybe_by, maybe_tree};
 ghost use Rattle.dk_model.specs.Scoping.{plain_command};
 ghost use Rattle.dk_model.specs.Verdicts.{entry_of, entry_type_of, kept_body};
@@ -27,13 +25,6 @@ pub fn is_untyped(command: &Scoped) -> bool
     }
 }
 
-/// A term without annotations, as an entry keeps it.
-fn store_erased(alloc: Global, term: &Term) -> Result<Stored, NoMemory>
-    ensures { IfOk result (λ t. stored_term t ≡ erased (tree term.now)) }
-{
-    Stored::from_term(alloc, &term.erased(alloc)?)
-}
-
 /// The declared type without annotations, or the inferred one.
 fn entry_type(
     alloc: Global,
@@ -44,7 +35,7 @@ fn entry_type(
         ≡ entry_type_of (maybe_tree declared.now) (maybe_by stored_term inferred)) }
 {
     match declared {
-        Some(typ) => store_erased(alloc, typ),
+        Some(typ) => Stored::from_erased(alloc, typ),
         None => match inferred {
             Some(typ) => Ok(typ),
             None => Stored::from_term(alloc, &Term::Kind),
@@ -58,7 +49,7 @@ fn entry_body(alloc: Global, sort: SymSort, body: &Option<Term>) -> Result<Optio
 {
     match sort {
         SymSort::Definable => match body {
-            Some(body) => Ok(Some(store_erased(alloc, body)?)),
+            Some(body) => Ok(Some(Stored::from_erased(alloc, body)?)),
             None => Ok(None),
         },
         SymSort::Static => Ok(None),

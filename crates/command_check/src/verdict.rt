@@ -11,6 +11,7 @@ ghost use Rattle.signature_log.specs.Versions.{entries_of, stored_entry};
 ghost use Rattle.signature_log.specs.Reducers.{Keeps};
 ghost use Rattle.infer_check.specs.Given.{GivesFit};
 ghost use Rattle.dk_model.specs.WellFormed.{IsSignature};
+ghost use Rattle.typing_model.specs.Conditions.{HasNoAnnotations, IsNumbered};
 ghost use Rattle.typing_model.specs.Derivations.{HasDerivation};
 ghost use Rattle.command_check.specs.Given.{command_shapes, fault_verdict, HasBodyType};
 
@@ -94,13 +95,17 @@ fn judge<R: Reducer>(
 /// The verdict on a command over the version of the commands before it (docs/typing.md).
 ///
 /// The check may take `budget` units; `Ended` says that it needs more. `Memory` says nothing of the command. What is
-/// accepted has a derivation, where the version is a well-formed signature, as that of accepted commands is.
+/// accepted has a derivation, where the version is a well-formed signature, as that of accepted commands is, or where it
+/// numbers the rule variables of its rules as shapes do and has no annotations.
 #[tactic(auto, using(crate::proofs::Verdicts::fit_verdict, crate::proofs::Verdicts::fault_due, crate::proofs::Verdicts::fault_refuses, crate::proofs::Verdicts::derived))]
 pub fn check_command<R: Reducer>(reducer: &mut R, v: &Version, c: &Scoped, budget: u64) -> Verdict
     requires { R.serves (entries_of v.now) reducer.old }
     ensures due { IsVerdictOrMemory
         (verdict_of (entries_of v.now) (plain_command c.now) budget) result }
-    ensures derivation { result ≡ Verdict.Accepted → IsSignature (entries_of v.now) → HasDerivation (entries_of v.now) (plain_command c.now) }
+    ensures derivation { result ≡ Verdict.Accepted → IsSignature (entries_of v.now)
+        → HasDerivation (entries_of v.now) (plain_command c.now) }
+    ensures numbered { result ≡ Verdict.Accepted → IsNumbered (entries_of v.now)
+        → HasNoAnnotations (entries_of v.now) → HasDerivation (entries_of v.now) (plain_command c.now) }
     ensures keeps { Keeps R.owns R.denotes reducer.old reducer.new }
     ensures serves { R.serves (entries_of v.now) reducer.new }
 {
@@ -152,7 +157,7 @@ pub fn infer_type<R: Reducer>(
         ≡ Some (stored_term t)) }
     ensures accepted { IfOk result (λ _. verdict_of (entries_of v.now) (plain_command c.now) budget
         ≡ Verdict.Accepted) }
-    ensures derivation { IfOk result (λ _. IsSignature (entries_of v.now)
+    ensures derivation { IfOk result (λ _. IsNumbered (entries_of v.now)
         → HasDerivation (entries_of v.now) (plain_command c.now)) }
     ensures err { IfErr result (IsVerdictOrMemory
         (verdict_of (entries_of v.now) (plain_command c.now) budget)) }

@@ -7,37 +7,42 @@ use Rattle.std.specs.Str.Parse.{digits_value, without_leading_plus}
 use Rattle.clap.specs.ValueTests.{accepts}
 use Rattle.clap.specs.Kinds.{Kinds}
 use Rattle.clap.specs.Words.{Row, Text, fault_of, first_of, one_of, subcommand_of}
-use Rattle.command_line.specs.Words.{budgets, program}
+use Rattle.clap.specs.declared.builder.value_parser.ValueParser.{ValueParser}
+use Rattle.command_line.specs.Words.{budgets, program, worker_counts}
 
--- check the file of this name, each command with this budget, with `ok` lines unless quiet
+-- check the file of this name with so many workers, each command with this budget, with `ok` lines unless quiet
 pub record Request : Type 0 where
   pub file : List ℕ
+  pub workers : ℕ
   pub budget : ℕ
   pub quiet : Bool
 
--- the budget that a text writes, in decimal digits
-abbrev pub budget_of : Text → Option ℕ
-budget_of text =
-    if accepts false budgets text then Some (digits_value 10 (without_leading_plus text)) else None
+-- the number that a text writes in decimal digits, where it is one of these
+abbrev pub number_of : ValueParser → Text → Option ℕ
+number_of numbers text =
+    if accepts false numbers text then Some (digits_value 10 (without_leading_plus text)) else None
 
 abbrev pub is_true : Text → Bool
 is_true text = bytes_eq text (codes "true")
 
--- what clap found for FILE, `--budget` and `--quiet`, their defaults included
+-- what clap found for FILE, `--workers`, `--budget` and `--quiet`, their defaults included
 abbrev pub file_in : List Row → Option Text
 file_in rows = first_of (codes "file") rows
 
+abbrev pub workers_in : List Row → Option ℕ
+workers_in rows = option_and_then (number_of worker_counts) (one_of (codes "workers") rows)
+
 abbrev pub budget_in : List Row → Option ℕ
-budget_in rows = option_and_then budget_of (one_of (codes "budget") rows)
+budget_in rows = option_and_then (number_of budgets) (one_of (codes "budget") rows)
 
 abbrev pub quiet_in : List Row → Bool
 quiet_in rows = option_map_or is_true (one_of (codes "quiet") rows) false
 
--- the three together
+-- the four together
 abbrev pub request_in : List Row → Option Request
-request_in rows = option_and_then (λ file. option_map (λ budget.
-    record { file = file; budget = budget; quiet = quiet_in rows })
-    (budget_in rows)) (file_in rows)
+request_in rows = option_and_then (λ file. option_and_then (λ workers. option_map (λ budget.
+    record { file = file; workers = workers; budget = budget; quiet = quiet_in rows })
+    (budget_in rows)) (workers_in rows)) (file_in rows)
 
 -- the request, where no fault stands against it
 abbrev pub unless_fault : Kinds → Option Request → Option Request

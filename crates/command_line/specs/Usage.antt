@@ -3,4 +3,4 @@ use Rattle.std.specs.Prelude.{ℕ, List, [], ◌∷◌, ◌++◌, codes}
 
 -- one line
 unfoldable pub usage_text : List ℕ
-usage_text = codes "usage: dk_check check [--budget B] [--quiet] FILE" ++ 10 ∷ []
+usage_text = codes "usage: dk_check check [--workers N] [--budget B] [--quiet] FILE" ++ 10 ∷ []

@@ -7,7 +7,7 @@ use Rattle.command_line.specs.Requests.{Request}
 
 -- the request that the program holds
 abbrev pub plain_request : given.Request → Request
-plain_request r = record { file = r.file.now; budget = r.budget; quiet = r.quiet }
+plain_request r = record { file = r.file.now; workers = r.workers; budget = r.budget; quiet = r.quiet }
 
 -- clap finds no fault in the words, the first of which is the program's name
 abbrev pub IsTaken : List Text → Type 0

@@ -9,6 +9,18 @@ use Rattle.clap.specs.declared.builder.value_parser.ValueParser.TheVariants as v
 abbrev pub budgets : ValueParser
 budgets = vp.Unsigned 1 4611686018427387904
 
+-- how many workers there may be
+abbrev pub worker_counts : ValueParser
+worker_counts = vp.Unsigned 1 64
+
+-- `--workers N`
+abbrev pub workers : Rule
+workers = record (new_rule (codes "workers")) {
+  long = Some (codes "workers");
+  parser = Some worker_counts;
+  defaults = codes "4" ∷ [];
+}
+
 -- `--budget B`
 abbrev pub budget : Rule
 budget = record (new_rule (codes "budget")) {
@@ -28,9 +40,9 @@ quiet = record (new_rule (codes "quiet")) {
 abbrev pub file : Rule
 file = record (new_rule (codes "file")) { required = true }
 
--- `check [--budget B] [--quiet] FILE`
+-- `check [--workers N] [--budget B] [--quiet] FILE`
 abbrev pub check : App
-check = with_rule (with_rule (with_rule (new_app (codes "check")) budget) quiet) file
+check = with_rule (with_rule (with_rule (with_rule (new_app (codes "check")) workers) budget) quiet) file
 
 -- the program, which needs a subcommand; `help` isn't one
 abbrev pub needing : App → App

@@ -2,7 +2,7 @@
 ghost use Rattle.std.specs.Prelude.{◌≡◌, IfOk, map, false};
 ghost use Rattle.std.specs.String.{string_bytes};
 ghost use Rattle.clap.specs.Words.{FailsBy, HasMatchesOf, app_of, fault_of, rule_of};
-ghost use Rattle.command_line.specs.Words.{budget, program};
+ghost use Rattle.command_line.specs.Words.{budget, program, workers};
 
 use clap::builder::ValueParser;
 use clap::{Arg, ArgAction, ArgMatches, Command, Error};
@@ -10,6 +10,19 @@ use std::alloc::{AllocError, Global};
 
 /// The largest budget; the least is 1 (docs/command-line.md).
 pub const LARGEST_BUDGET: u64 = 4_611_686_018_427_387_904;
+
+/// The most workers; the least is 1.
+pub const MOST_WORKERS: u64 = 64;
+
+fn workers_argument<'a>(alloc: Global) -> Arg<'a>
+    ensures rule { rule_of result ≡ workers }
+    ensures local { result.global ≡ false }
+{
+    Arg::new(alloc, "workers")
+        .long("workers")
+        .default_value("4")
+        .value_parser(ValueParser::unsigned(1, MOST_WORKERS))
+}
 
 fn budget_argument<'a>(alloc: Global) -> Arg<'a>
     ensures rule { rule_of result ≡ budget }
@@ -24,12 +37,14 @@ fn budget_argument<'a>(alloc: Global) -> Arg<'a>
 fn program<'a>(alloc: Global) -> Result<Command<'a>, AllocError>
     ensures { IfOk result (λ c. app_of c ≡ program) }
 {
+    let workers = workers_argument(alloc);
     let budget = budget_argument(alloc);
     let quiet = Arg::new(alloc, "quiet")
         .long("quiet")
         .action(ArgAction::SetTrue);
     let file = Arg::new(alloc, "file").required(true);
     let check = Command::new(alloc, "check")
+        .arg(workers)?
         .arg(budget)?
         .arg(quiet)?
         .arg(file)?;

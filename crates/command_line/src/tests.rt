@@ -14,30 +14,78 @@ fn words_of(alloc: Global, line: &str) -> Result<Vec<String>, AllocError> {
 #[test]
 fn reads_what_the_words_ask(rt: HostRuntime) -> Result<(), Fail> {
     let alloc = rt.alloc();
-    for (line, file, budget, quiet) in [
-        ("dk_check check f.dk", "f.dk", 1_000_000_000, false),
-        ("dk_check check --quiet f.dk", "f.dk", 1_000_000_000, true),
-        ("dk_check check f.dk --quiet", "f.dk", 1_000_000_000, true),
-        ("dk_check check --budget 5 f.dk", "f.dk", 5, false),
-        ("dk_check check --budget=5 f.dk", "f.dk", 5, false),
-        ("dk_check check f.dk --budget 5 --quiet", "f.dk", 5, true),
-        ("dk_check check --budget 1 f.dk", "f.dk", 1, false),
-        ("dk_check check --budget +5 f.dk", "f.dk", 5, false),
-        ("dk_check check --budget 007 f.dk", "f.dk", 7, false),
+    for (line, file, workers, budget, quiet) in [
+        ("dk_check check f.dk", "f.dk", 4, 1_000_000_000, false),
+        (
+            "dk_check check --quiet f.dk",
+            "f.dk",
+            4,
+            1_000_000_000,
+            true,
+        ),
+        (
+            "dk_check check f.dk --quiet",
+            "f.dk",
+            4,
+            1_000_000_000,
+            true,
+        ),
+        ("dk_check check --budget 5 f.dk", "f.dk", 4, 5, false),
+        ("dk_check check --budget=5 f.dk", "f.dk", 4, 5, false),
+        ("dk_check check f.dk --budget 5 --quiet", "f.dk", 4, 5, true),
+        ("dk_check check --budget 1 f.dk", "f.dk", 4, 1, false),
+        ("dk_check check --budget +5 f.dk", "f.dk", 4, 5, false),
+        ("dk_check check --budget 007 f.dk", "f.dk", 4, 7, false),
         (
             "dk_check check --budget 4611686018427387904 f.dk",
             "f.dk",
+            4,
             4_611_686_018_427_387_904,
             false,
         ),
-        ("dk_check check -- --quiet", "--quiet", 1_000_000_000, false),
-        ("dk_check check -", "-", 1_000_000_000, false),
-        ("dk_check check check", "check", 1_000_000_000, false),
-        ("--help check f.dk", "f.dk", 1_000_000_000, false),
+        (
+            "dk_check check -- --quiet",
+            "--quiet",
+            4,
+            1_000_000_000,
+            false,
+        ),
+        ("dk_check check -", "-", 4, 1_000_000_000, false),
+        ("dk_check check check", "check", 4, 1_000_000_000, false),
+        ("--help check f.dk", "f.dk", 4, 1_000_000_000, false),
+        (
+            "dk_check check --workers 1 f.dk",
+            "f.dk",
+            1,
+            1_000_000_000,
+            false,
+        ),
+        (
+            "dk_check check --workers=64 f.dk",
+            "f.dk",
+            64,
+            1_000_000_000,
+            false,
+        ),
+        (
+            "dk_check check f.dk --workers +08",
+            "f.dk",
+            8,
+            1_000_000_000,
+            false,
+        ),
+        (
+            "dk_check check --budget 5 --workers 2 --quiet f.dk",
+            "f.dk",
+            2,
+            5,
+            true,
+        ),
     ] {
         let words = words_of(alloc, line)?;
         let request = read_request(alloc, &words)?.ok_or("a request")?;
         assert_eq!(rt; request.file, file, "at {line}");
+        assert_eq!(rt; request.workers, workers, "at {line}");
         assert_eq!(rt; request.budget, budget, "at {line}");
         assert_eq!(rt; request.quiet, quiet, "at {line}");
     }
@@ -66,7 +114,12 @@ fn refuses_other_words(rt: HostRuntime) -> Result<(), Fail> {
         "dk_check check --quiet=true f.dk",
         "dk_check check -q f.dk",
         "dk_check check --workers 0 f.dk",
-        "dk_check check --workers 4 f.dk",
+        "dk_check check --workers 65 f.dk",
+        "dk_check check --workers -1 f.dk",
+        "dk_check check --workers 2.5 f.dk",
+        "dk_check check --workers f.dk",
+        "dk_check check --workers 2 --workers 2 f.dk",
+        "dk_check --workers 2 check f.dk",
         "dk_check make 5",
         "dk_check --help",
         "dk_check help",
@@ -84,6 +137,6 @@ fn refuses_other_words(rt: HostRuntime) -> Result<(), Fail> {
 
 #[test]
 fn says_how_it_is_used(rt: HostRuntime) {
-    let line: &[u8] = b"usage: dk_check check [--budget B] [--quiet] FILE\n";
+    let line: &[u8] = b"usage: dk_check check [--workers N] [--budget B] [--quiet] FILE\n";
     assert!(rt; usage_text() == line);
 }

@@ -5,5 +5,5 @@ ghost use Rattle.command_line.specs.Usage.{usage_text};
 pub fn usage_text() -> &'static [u8]
     ensures { result.now ≡ usage_text }
 {
-    b"usage: dk_check check [--budget B] [--quiet] FILE\n"
+    b"usage: dk_check check [--workers N] [--budget B] [--quiet] FILE\n"
 }

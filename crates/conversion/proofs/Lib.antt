@@ -9,6 +9,7 @@ mod Trying
 mod Refining
 mod Unfolding
 mod Turning
+mod Resting
 mod Selecting
 mod Pausing
 mod Passing

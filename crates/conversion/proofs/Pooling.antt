@@ -18,7 +18,6 @@ use Rattle.conversion.specs.declared.state.PoolReducer.{PoolReducer}
 use Rattle.conversion.specs.Given.{GivesTerm, GivesBool}
 use Rattle.conversion.specs.Owned.{owned, denoted}
 use Rattle.conversion.specs.Reducers.{Serves}
-use Rattle.conversion.proofs.Serving.{loaded_grown, values_grown, normals_grown, answers_grown}
 
 pub pool_keeps : (old new : PoolReducer) → Extends old.pool new.pool → Keeps owned denoted old new
 pool_keeps old new e = record { own = λ t l. omega (arith, e.longer, l); same = λ t l. e.keeps t.0 l }
@@ -70,16 +69,6 @@ parts_owned r i (Prod a b) l h = (omega (arith, l, h.0), omega (arith, l, h.1))
 
 pub pool_shows : (r : PoolReducer) (t : TermId) (n : Node) → t.0 < length r.pool → term r.pool t ≡ node_term (terms r.pool) n → IsWithin t.0 n → Shows owned denoted r (term r.pool t) n
 pool_shows r t n l e h = (e ∙ pool_built r n, parts_owned r t.0 n l h)
-
--- a larger pool beside the same tables
-pub serves_grown : (S : PlainSignature) (old new : PoolReducer) → Extends old.pool new.pool → new.loaded ≡ old.loaded → new.values ≡ old.values → new.normals ≡ old.normals → new.answers ≡ old.answers
-    → Serves S old → Serves S new
-serves_grown S old new e a b c d h = record {
-  loaded = rw a (loaded_grown S old.pool new.pool old.loaded e h.loaded);
-  values = rw b (values_grown S old.pool new.pool old.values e h.values);
-  normals = rw c (normals_grown S old.pool new.pool old.normals e h.normals);
-  answers = rw d (answers_grown S old.pool new.pool old.answers e h.answers);
-}
 
 -- what takes the place of a variable that doesn't occur is of no account
 

@@ -11,8 +11,10 @@ use Rattle.shared_term.specs.Pools.{Node, term, terms, Extends}
 use Rattle.conversion.specs.declared.table.Table.{Table}
 use Rattle.conversion.specs.declared.state.Value.{Value}
 use Rattle.conversion.specs.declared.state.Answer.{Answer}
+use Rattle.conversion.specs.declared.state.Head.{Head}
+use Rattle.conversion.specs.declared.state.Head.TheVariants.{Stands, Unfolds}
 use Rattle.conversion.specs.Tables.{Remembers, IsBlank}
-use Rattle.conversion.specs.Reducers.{IsLoaded, AreLoaded, IsValue, AreValues, IsNormal, AreNormals, IsAnswer, AreAnswers}
+use Rattle.conversion.specs.Reducers.{unfolding_rule, IsLoaded, AreLoaded, IsHead, AreHeads, IsValue, AreValues, IsNormal, AreNormals, IsAnswer, AreAnswers}
 
 -- a larger pool
 
@@ -23,6 +25,13 @@ loaded_grown S old new t e h = record {
     is = l.is ∙ ap (λ (u : Tree). Some u) (flip (e.keeps d.0 l.there));
   };
 }
+
+head_grown : (S : PlainSignature) (old new : List Node) (k : ℕ) (h : Head) → Extends old new → IsHead S old k h → IsHead S new k h
+head_grown S old new k Stands e q = q
+head_grown S old new k (Unfolds b) e q = (omega (arith, e.longer, q.0), q.1 ∙ ap (λ (t : Tree). Some (unfolding_rule k t)) (flip (e.keeps b.0 q.0)))
+
+pub heads_grown : (S : PlainSignature) (old new : List Node) (t : Table Head) → Extends old new → AreHeads S old t → AreHeads S new t
+heads_grown S old new t e h = record { each = λ k j d r. head_grown S old new k d e (h.each k j d r) }
 
 value_grown : (S : PlainSignature) (old new : List Node) (i : ℕ) (v : Value) → Extends old new → IsValue S old i v → IsValue S new i v
 value_grown S old new i v e h =
@@ -77,6 +86,15 @@ loaded_put S ns old new k i d h l put = record {
   ];
 }
 
+pub heads_put : (S : PlainSignature) (ns : List Node) (old new : Table Head) (k j : ℕ) (d : Head) → AreHeads S ns old → IsHead S ns k d
+    → ((a b : ℕ) (v : Head) → Remembers new a b v → ((a ≡ k) × (b ≡ j) × (v ≡ d)) ⊎ Remembers old a b v) → AreHeads S ns new
+heads_put S ns old new k j d h l put = record {
+  each = λ a b v r. elim (put a b v r) [
+    | inl e ↦ subst (λ (x : Head). IsHead S ns a x) (flip e.2) (subst (λ (x : ℕ). IsHead S ns x d) (flip e.0) l)
+    | inr p ↦ h.each a b v p
+  ];
+}
+
 pub values_put : (S : PlainSignature) (ns : List Node) (old new : Table Value) (k j : ℕ) (i : Value) → AreValues S ns old → IsValue S ns k i
     → ((a b : ℕ) (v : Value) → Remembers new a b v → ((a ≡ k) × (b ≡ j) × (v ≡ i)) ⊎ Remembers old a b v) → AreValues S ns new
 values_put S ns old new k j i h l put = record {
@@ -108,6 +126,9 @@ answers_put S ns old new k j i h l put = record {
 
 pub loaded_blank : (S : PlainSignature) (ns : List Node) (t : Table TermId) → IsBlank t → AreLoaded S ns t
 loaded_blank S ns t h = record { each = λ k i d r. absurd (h k i d r) }
+
+pub heads_blank : (S : PlainSignature) (ns : List Node) (t : Table Head) → IsBlank t → AreHeads S ns t
+heads_blank S ns t h = record { each = λ k j d r. absurd (h k j d r) }
 
 pub values_blank : (S : PlainSignature) (ns : List Node) (t : Table Value) → IsBlank t → AreValues S ns t
 values_blank S ns t h = record { each = λ k j i r. absurd (h k j i r) }

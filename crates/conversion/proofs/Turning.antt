@@ -25,7 +25,8 @@ use Rattle.conversion.specs.Turning.{TurnsTo, rule_due, rewritten_by, HasColumns
 use Rattle.conversion.proofs.Winding.{wound_tree, behind_pushed, behind_grown, within_popped}
 use Rattle.conversion.proofs.Opening.{arguments_wound, length_from_top, map_from_top, plain_arguments, arguments_within}
 use Rattle.conversion.proofs.Growing.{columns_taken}
-use Rattle.conversion.proofs.Unfolding.{unfolding_rule, rule_unfolds, rule_stands}
+use Rattle.conversion.specs.Reducers.{unfolding_rule}
+use Rattle.conversion.proofs.Unfolding.{rule_unfolds, rule_stands}
 
 -- a head and its arguments
 
@@ -69,7 +70,7 @@ module _ (S : PlainSignature) where
   contracts zero t t' l e = absurd (omega arith)
   contracts (suc n) t t' l e = whnf_contracts S n t t' e ∙ ap (λ m. whnf_of S m t') (omega arith)
 
-  stands : (n : ℕ) (t : Tree) → 0 < n → contraction t ≡ None → head_symbol t ≡ None → whnf_of S n t ≡ Some (t, n - 1)
+  pub stands : (n : ℕ) (t : Tree) → 0 < n → contraction t ≡ None → head_symbol t ≡ None → whnf_of S n t ≡ Some (t, n - 1)
   stands zero t l e q = absurd (omega arith)
   stands (suc n) t l e q = whnf_stands S n t e q ∙ ap (λ (m : ℕ). Some (t, m)) (omega arith)
 
@@ -79,14 +80,14 @@ module _ (S : PlainSignature) where
   selects (suc n) k t l e q =
       whnf_selects S n t k e q ∙ ap (λ m. bind (selection_of S m (columns S k t) (rows S k t)) (after_selection S t)) (omega arith)
 
-  symbol_selects : (n k : ℕ) (xs : List Tree) → 0 < n → whnf_of S n (wound (symbol k) xs) ≡ rule_due S k xs (n - 1)
+  pub symbol_selects : (n k : ℕ) (xs : List Tree) → 0 < n → whnf_of S n (wound (symbol k) xs) ≡ rule_due S k xs (n - 1)
   symbol_selects n k xs l = selects n k (wound (symbol k) xs) l (contraction_wound (symbol k) xs refl refl) (head_wound (symbol k) xs)
 
   tree_contracts : (n : ℕ) (b : Tree) (xs : List Tree) (a : Tree) → 0 < n → whnf_of S n (wound (bare b) (xs ++ (a ∷ []))) ≡ whnf_of S (n - 1) (wound (substitute 0 a b) xs)
   tree_contracts n b xs a l =
       ap (whnf_of S n) (wound_tree (bare b) xs a) ∙ contracts n (wound (apply (bare b) a) xs) (wound (substitute 0 a b) xs) l (contraction_bare b xs a)
 
-  tree_stuck : (n : ℕ) (t : Tree) (xs : List Tree) → 0 < n → is_stuck t ≡ true → whnf_of S n (wound t xs) ≡ Some (wound t xs, n - 1)
+  pub tree_stuck : (n : ℕ) (t : Tree) (xs : List Tree) → 0 < n → is_stuck t ≡ true → whnf_of S n (wound t xs) ≡ Some (wound t xs, n - 1)
   tree_stuck n t xs l e = stands n (wound t xs) l (contraction_wound t xs (stuck_alone t e) (stuck_body t e)) (head_wound t xs ∙ stuck_head t e)
 
 -- one turn of a term of a pool

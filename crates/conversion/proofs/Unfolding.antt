@@ -14,11 +14,8 @@ use Rattle.dk_model.specs.Evaluation.{whnf_of, comparison_of, normal_of, columns
 use Rattle.dk_model.specs.Equations.{selection_of, after_selection}
 use Rattle.dk_model.proofs.Turns.{selection_is}
 use Rattle.conversion.specs.Machine.{wound}
+use Rattle.conversion.specs.Reducers.{unfolding_rule}
 use Rattle.conversion.specs.Turning.{rule_due}
-
--- a body as a rule
-abbrev pub unfolding_rule : ℕ → Tree → PlainRule
-unfolding_rule k b = record { head = k; vars = 0; pats = []; notes = []; right = b }
 
 -- no captures
 

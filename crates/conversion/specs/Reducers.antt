@@ -1,7 +1,7 @@
 -- That what a reducer remembers is so, over one signature.
-use Rattle.std.specs.Prelude.{◌≡◌, ℕ, ◌<◌, Option, Some, None, List, length, get_or, slice_get}
+use Rattle.std.specs.Prelude.{◌≡◌, ℕ, ◌<◌, Option, Some, None, List, [], length, get_or, slice_get}
 use Rattle.dk_model.specs.Trees.{Tree, star}
-use Rattle.dk_model.specs.Signatures.{PlainSignature}
+use Rattle.dk_model.specs.Signatures.{PlainRule, PlainSignature}
 use Rattle.dk_model.specs.SymbolRules.{rules_of}
 use Rattle.dk_model.specs.Taking.{Takes}
 use Rattle.dk_model.specs.Evaluation.{whnf_of, comparison_of, normal_of}
@@ -10,6 +10,8 @@ use Rattle.shared_term.specs.Pools.{Node, term, terms}
 use Rattle.conversion.specs.declared.table.Table.{Table}
 use Rattle.conversion.specs.declared.state.Value.{Value}
 use Rattle.conversion.specs.declared.state.Answer.{Answer}
+use Rattle.conversion.specs.declared.state.Head.{Head}
+use Rattle.conversion.specs.declared.state.Head.TheVariants.{Stands, Unfolds}
 use Rattle.conversion.specs.declared.state.PoolReducer.{PoolReducer}
 use Rattle.conversion.specs.Tables.{Remembers}
 
@@ -24,6 +26,18 @@ pub record IsLoaded (S : PlainSignature) (ns : List Node) (k i : ℕ) (id : Term
 
 pub record AreLoaded (S : PlainSignature) (ns : List Node) (t : Table TermId) : Type 0 where
   pub each : (k i : ℕ) (id : TermId) → Remembers t k i id → IsLoaded S ns k i id
+
+-- a body as a rule of its symbol
+abbrev pub unfolding_rule : ℕ → Tree → PlainRule
+unfolding_rule k b = record { head = k; vars = 0; pats = []; notes = []; right = b }
+
+-- a symbol without rules, or with a body in a pool
+abbrev pub IsHead : PlainSignature → List Node → ℕ → Head → Type 0
+IsHead S ns k Stands = slice_get (rules_of S k) 0 ≡ None
+IsHead S ns k (Unfolds b) = (b.0 < length ns) × (slice_get (rules_of S k) 0 ≡ Some (unfolding_rule k (term ns b)))
+
+pub record AreHeads (S : PlainSignature) (ns : List Node) (t : Table Head) : Type 0 where
+  pub each : (k j : ℕ) (h : Head) → Remembers t k j h → IsHead S ns k h
 
 -- the weak head form of the term at a place, and the units that it takes
 pub record IsValue (S : PlainSignature) (ns : List Node) (i : ℕ) (v : Value) : Type 0 where
@@ -55,6 +69,7 @@ pub record AreAnswers (S : PlainSignature) (ns : List Node) (t : Table Answer) :
 -- what the reducer remembers is so over this signature
 pub record Serves (S : PlainSignature) (r : PoolReducer) : Type 0 where
   pub loaded : AreLoaded S r.pool r.loaded
+  pub heads : AreHeads S r.pool r.heads
   pub values : AreValues S r.pool r.values
   pub normals : AreNormals S r.pool r.normals
   pub answers : AreAnswers S r.pool r.answers

@@ -13,7 +13,7 @@ use signature_log::Version;
 
 impl PoolReducer {
     /// The right side of the rule at a place among those of a symbol.
-    #[tactic(auto, using(crate::proofs::Winding::extends_none, crate::proofs::Serving::loaded_grown, crate::proofs::Serving::values_grown, crate::proofs::Serving::normals_grown, crate::proofs::Serving::answers_grown))]
+    #[tactic(auto, using(crate::proofs::Winding::extends_none, crate::proofs::Serving::loaded_grown, crate::proofs::Serving::heads_grown, crate::proofs::Serving::values_grown, crate::proofs::Serving::normals_grown, crate::proofs::Serving::answers_grown))]
     pub(crate) fn brought(
         &mut self,
         version: &Version,

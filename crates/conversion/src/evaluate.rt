@@ -45,7 +45,7 @@ impl PoolReducer {
     /// the head symbol, or the end. `Ended` comes only where they don't suffice, and leaves none. A form that was found
     /// before takes what it took then.
     #[cycle(evaluation)]
-    #[tactic(auto, using(crate::proofs::Winding::extends_none, crate::proofs::Winding::extends_more, crate::proofs::Serving::loaded_grown, crate::proofs::Serving::values_grown, crate::proofs::Serving::normals_grown, crate::proofs::Serving::answers_grown))]
+    #[tactic(auto, using(crate::proofs::Winding::extends_none, crate::proofs::Winding::extends_more, crate::proofs::Serving::loaded_grown, crate::proofs::Serving::heads_grown, crate::proofs::Serving::values_grown, crate::proofs::Serving::normals_grown, crate::proofs::Serving::answers_grown))]
     pub(crate) fn evaluate(
         &mut self,
         version: &Version,
@@ -59,8 +59,7 @@ impl PoolReducer {
         ensures serves { Serves (entries_of version.now) self.new }
         ensures spent { left.new ≤ left.old }
     {
-        let key = whole.number();
-        if let Some(found) = self.values.find(key, 0) {
+        if let Some(found) = self.known(version, whole) {
             if *left < found.units {
                 *left = 0;
                 return Err(Stop::Ended);
@@ -71,13 +70,13 @@ impl PoolReducer {
         let before = *left;
         let id = self.evaluated(version, whole, left)?;
         let units = before - *left;
-        self.values.put(key, 0, Value { id, units });
+        self.values.put(whole.number(), 0, Value { id, units });
         Ok(id)
     }
 
     /// The same, of a term whose form isn't remembered.
     #[cycle(evaluation)]
-    #[tactic(auto, using(crate::proofs::Winding::extends_none, crate::proofs::Winding::extends_more, crate::proofs::Serving::loaded_grown, crate::proofs::Serving::values_grown, crate::proofs::Serving::normals_grown, crate::proofs::Serving::answers_grown, crate::proofs::Winding::within_grown, crate::proofs::Pausing::pauses_grown, crate::proofs::Pausing::pauses_pushed, crate::proofs::Pausing::pauses_popped, crate::proofs::Pausing::popped_pause, crate::proofs::Pausing::awaits_none))]
+    #[tactic(auto, using(crate::proofs::Winding::extends_none, crate::proofs::Winding::extends_more, crate::proofs::Serving::loaded_grown, crate::proofs::Serving::heads_grown, crate::proofs::Serving::values_grown, crate::proofs::Serving::normals_grown, crate::proofs::Serving::answers_grown, crate::proofs::Winding::within_grown, crate::proofs::Pausing::pauses_grown, crate::proofs::Pausing::pauses_pushed, crate::proofs::Pausing::pauses_popped, crate::proofs::Pausing::popped_pause, crate::proofs::Pausing::awaits_none))]
     fn evaluated(
         &mut self,
         version: &Version,
@@ -123,7 +122,7 @@ impl PoolReducer {
 
     /// A turn of a term, or the selection of a symbol, whose turn took its unit already.
     #[cycle(evaluation)]
-    #[tactic(auto, using(crate::proofs::Winding::extends_none, crate::proofs::Winding::extends_more, crate::proofs::Serving::loaded_grown, crate::proofs::Serving::values_grown, crate::proofs::Serving::normals_grown, crate::proofs::Serving::answers_grown))]
+    #[tactic(auto, using(crate::proofs::Winding::extends_none, crate::proofs::Winding::extends_more, crate::proofs::Serving::loaded_grown, crate::proofs::Serving::heads_grown, crate::proofs::Serving::values_grown, crate::proofs::Serving::normals_grown, crate::proofs::Serving::answers_grown))]
     fn turn<'v>(
         &mut self,
         version: &'v Version,

@@ -9,6 +9,7 @@ mod capture;
 mod compare;
 mod evaluate;
 mod gap;
+mod known;
 mod loading;
 mod machine;
 mod matrix;

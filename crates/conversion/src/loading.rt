@@ -23,6 +23,11 @@ pub(crate) fn loaded(alloc: Global, pool: &mut Pool, it: &Term) -> Result<TermId
         Term::Var(k) => pool.intern(NodeOf::Var(*k)),
         Term::Rvar(k) => pool.intern(NodeOf::Rvar(*k)),
         Term::App(f, a) => {
+            if !is_application(f) {
+                let function = loaded(alloc, pool, f)?;
+                let argument = loaded(alloc, pool, a)?;
+                return pool.intern(NodeOf::App(function, argument));
+            }
             let (head, arguments) = spine(alloc, f, a)?;
             let mut arguments = arguments;
             let mut whole = loaded(alloc, pool, head)?;
@@ -46,6 +51,14 @@ pub(crate) fn loaded(alloc: Global, pool: &mut Pool, it: &Term) -> Result<TermId
             let codomain = loaded(alloc, pool, b)?;
             pool.intern(NodeOf::Prod(domain, codomain))
         }
+    }
+}
+
+/// A function that is none is loaded without a list of arguments.
+fn is_application(it: &Term) -> bool {
+    match it {
+        Term::App(..) => true,
+        _ => false,
     }
 }
 

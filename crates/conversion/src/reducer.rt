@@ -53,7 +53,7 @@ impl Reducer for PoolReducer {
         Ok(self.pool.get(*t))
     }
 
-    #[tactic(auto, using(crate::proofs::Pooling::pool_keeps, crate::proofs::Pooling::pool_built, crate::proofs::Pooling::parts_within, crate::proofs::Serving::loaded_grown, crate::proofs::Serving::values_grown, crate::proofs::Serving::normals_grown, crate::proofs::Serving::answers_grown))]
+    #[tactic(auto, using(crate::proofs::Pooling::pool_keeps, crate::proofs::Pooling::pool_built, crate::proofs::Pooling::parts_within, crate::proofs::Serving::loaded_grown, crate::proofs::Serving::heads_grown, crate::proofs::Serving::values_grown, crate::proofs::Serving::normals_grown, crate::proofs::Serving::answers_grown))]
     fn build(&mut self, node: NodeOf<TermId>) -> Result<TermId, NoMemory>
         requires own { OwnsParts owned self.old node }
         ensures makes { IfOk result (Makes owned denoted self.new (built denoted self.old node)) }
@@ -68,13 +68,16 @@ impl Reducer for PoolReducer {
         Ok(*t)
     }
 
-    #[tactic(auto, using(crate::proofs::Pooling::pool_keeps, crate::proofs::Serving::loaded_grown, crate::proofs::Serving::values_grown, crate::proofs::Serving::normals_grown, crate::proofs::Serving::answers_grown))]
+    #[tactic(auto, using(crate::proofs::Pooling::pool_keeps, crate::proofs::Serving::loaded_grown, crate::proofs::Serving::heads_grown, crate::proofs::Serving::values_grown, crate::proofs::Serving::normals_grown, crate::proofs::Serving::answers_grown))]
     fn put_in(&mut self, body: &TermId, by: &TermId) -> Result<TermId, NoMemory> {
         self.pool.substitute(*body, 0, *by)
     }
 
-    #[tactic(auto, using(crate::proofs::Pooling::pool_keeps, crate::proofs::Serving::loaded_grown, crate::proofs::Serving::values_grown, crate::proofs::Serving::normals_grown, crate::proofs::Serving::answers_grown, crate::proofs::Pooling::unmentioned, crate::proofs::Winding::extends_more))]
+    #[tactic(auto, using(crate::proofs::Pooling::pool_keeps, crate::proofs::Serving::loaded_grown, crate::proofs::Serving::heads_grown, crate::proofs::Serving::values_grown, crate::proofs::Serving::normals_grown, crate::proofs::Serving::answers_grown, crate::proofs::Pooling::unmentioned, crate::proofs::Winding::extends_more))]
     fn put_erased_in(&mut self, body: &TermId, by: &TermId) -> Result<TermId, NoMemory> {
+        if self.pool.is_erased(*by) {
+            return self.pool.substitute(*body, 0, *by);
+        }
         if self.pool.mentions_others(*body, 1, &[])? {
             let by = self.pool.erased(*by)?;
             self.pool.substitute(*body, 0, by)
@@ -83,17 +86,17 @@ impl Reducer for PoolReducer {
         }
     }
 
-    #[tactic(auto, using(crate::proofs::Pooling::pool_keeps, crate::proofs::Serving::loaded_grown, crate::proofs::Serving::values_grown, crate::proofs::Serving::normals_grown, crate::proofs::Serving::answers_grown))]
+    #[tactic(auto, using(crate::proofs::Pooling::pool_keeps, crate::proofs::Serving::loaded_grown, crate::proofs::Serving::heads_grown, crate::proofs::Serving::values_grown, crate::proofs::Serving::normals_grown, crate::proofs::Serving::answers_grown))]
     fn shift(&mut self, t: &TermId, by: u64) -> Result<TermId, NoMemory> {
         self.pool.shift(*t, 0, by)
     }
 
-    #[tactic(auto, using(crate::proofs::Pooling::pool_keeps, crate::proofs::Serving::loaded_grown, crate::proofs::Serving::values_grown, crate::proofs::Serving::normals_grown, crate::proofs::Serving::answers_grown))]
+    #[tactic(auto, using(crate::proofs::Pooling::pool_keeps, crate::proofs::Serving::loaded_grown, crate::proofs::Serving::heads_grown, crate::proofs::Serving::values_grown, crate::proofs::Serving::normals_grown, crate::proofs::Serving::answers_grown))]
     fn erase(&mut self, t: &TermId) -> Result<TermId, NoMemory> {
         self.pool.erased(*t)
     }
 
-    #[tactic(auto, using(crate::proofs::Pooling::pool_keeps, crate::proofs::Serving::loaded_grown, crate::proofs::Serving::values_grown, crate::proofs::Serving::normals_grown, crate::proofs::Serving::answers_grown))]
+    #[tactic(auto, using(crate::proofs::Pooling::pool_keeps, crate::proofs::Serving::loaded_grown, crate::proofs::Serving::heads_grown, crate::proofs::Serving::values_grown, crate::proofs::Serving::normals_grown, crate::proofs::Serving::answers_grown))]
     fn mentions_others(
         &mut self,
         t: &TermId,
@@ -103,17 +106,17 @@ impl Reducer for PoolReducer {
         self.pool.mentions_others(*t, depth, variables)
     }
 
-    #[tactic(auto, using(crate::proofs::Pooling::pool_keeps, crate::proofs::Serving::loaded_grown, crate::proofs::Serving::values_grown, crate::proofs::Serving::normals_grown, crate::proofs::Serving::answers_grown))]
+    #[tactic(auto, using(crate::proofs::Pooling::pool_keeps, crate::proofs::Serving::loaded_grown, crate::proofs::Serving::heads_grown, crate::proofs::Serving::values_grown, crate::proofs::Serving::normals_grown, crate::proofs::Serving::answers_grown))]
     fn rename(&mut self, t: &TermId, depth: u64, variables: &[u32]) -> Result<TermId, NoMemory> {
         self.pool.renamed(*t, depth, variables)
     }
 
-    #[tactic(auto, using(crate::proofs::Pooling::pool_keeps, crate::proofs::Serving::loaded_grown, crate::proofs::Serving::values_grown, crate::proofs::Serving::normals_grown, crate::proofs::Serving::answers_grown))]
+    #[tactic(auto, using(crate::proofs::Pooling::pool_keeps, crate::proofs::Serving::loaded_grown, crate::proofs::Serving::heads_grown, crate::proofs::Serving::values_grown, crate::proofs::Serving::normals_grown, crate::proofs::Serving::answers_grown))]
     fn bring(&mut self, t: &Stored) -> Result<TermId, NoMemory> {
         self.pool.load(t)
     }
 
-    #[tactic(auto, using(crate::proofs::Pooling::pool_keeps, crate::proofs::Serving::loaded_grown, crate::proofs::Serving::values_grown, crate::proofs::Serving::normals_grown, crate::proofs::Serving::answers_grown))]
+    #[tactic(auto, using(crate::proofs::Pooling::pool_keeps, crate::proofs::Serving::loaded_grown, crate::proofs::Serving::heads_grown, crate::proofs::Serving::values_grown, crate::proofs::Serving::normals_grown, crate::proofs::Serving::answers_grown))]
     fn load(&mut self, t: &Term) -> Result<TermId, NoMemory> {
         loaded(self.alloc, &mut self.pool, t)
     }

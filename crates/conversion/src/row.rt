@@ -13,6 +13,7 @@ use crate::PoolReducer;
 use crate::capture::{capture_at, captured, mentions_others};
 use crate::matrix::{Cell, Column, Row};
 use crate::rules::SymbolRule;
+use crate::state::deeper;
 use dk_model::{NoMemory, Pat, Stop};
 use shared_term::{Pool, Stored, TermId};
 use signature_log::Version;
@@ -32,7 +33,7 @@ pub(crate) enum Step<'v> {
 impl PoolReducer {
     /// Whether a row that asks for no head is taken, with its captures.
     #[cycle(evaluation)]
-    #[tactic(auto, using(crate::proofs::Winding::extends_none, crate::proofs::Winding::extends_more, crate::proofs::Serving::loaded_grown, crate::proofs::Serving::values_grown, crate::proofs::Serving::normals_grown, crate::proofs::Serving::answers_grown, crate::proofs::Growing::columns_within, crate::proofs::Growing::captures_within, crate::proofs::Growing::none_captured_here))]
+    #[tactic(auto, using(crate::proofs::Winding::extends_none, crate::proofs::Winding::extends_more, crate::proofs::Serving::loaded_grown, crate::proofs::Serving::heads_grown, crate::proofs::Serving::values_grown, crate::proofs::Serving::normals_grown, crate::proofs::Serving::answers_grown, crate::proofs::Growing::columns_within, crate::proofs::Growing::captures_within, crate::proofs::Growing::none_captured_here))]
     pub(crate) fn row_taken(
         &mut self,
         version: &Version,
@@ -71,7 +72,7 @@ impl PoolReducer {
 
     /// The captures of a row from left to right; false where it fails.
     #[cycle(evaluation)]
-    #[tactic(auto, using(crate::proofs::Winding::extends_none, crate::proofs::Winding::extends_more, crate::proofs::Serving::loaded_grown, crate::proofs::Serving::values_grown, crate::proofs::Serving::normals_grown, crate::proofs::Serving::answers_grown, crate::proofs::Growing::columns_within, crate::proofs::Growing::captures_within, crate::proofs::Growing::columns_set, crate::proofs::Growing::column_at))]
+    #[tactic(auto, using(crate::proofs::Winding::extends_none, crate::proofs::Winding::extends_more, crate::proofs::Serving::loaded_grown, crate::proofs::Serving::heads_grown, crate::proofs::Serving::values_grown, crate::proofs::Serving::normals_grown, crate::proofs::Serving::answers_grown, crate::proofs::Growing::columns_within, crate::proofs::Growing::captures_within, crate::proofs::Growing::columns_set, crate::proofs::Growing::column_at))]
     fn captures_of_row(
         &mut self,
         version: &Version,
@@ -103,7 +104,7 @@ impl PoolReducer {
 
     /// What a cell captures in its column; false where its row fails.
     #[cycle(evaluation)]
-    #[tactic(auto, using(crate::proofs::Winding::extends_none, crate::proofs::Winding::extends_more, crate::proofs::Serving::loaded_grown, crate::proofs::Serving::values_grown, crate::proofs::Serving::normals_grown, crate::proofs::Serving::answers_grown, crate::proofs::Growing::columns_within, crate::proofs::Growing::captures_within))]
+    #[tactic(auto, using(crate::proofs::Winding::extends_none, crate::proofs::Winding::extends_more, crate::proofs::Serving::loaded_grown, crate::proofs::Serving::heads_grown, crate::proofs::Serving::values_grown, crate::proofs::Serving::normals_grown, crate::proofs::Serving::answers_grown, crate::proofs::Growing::columns_within, crate::proofs::Growing::captures_within))]
     fn cell_captures(
         &mut self,
         version: &Version,
@@ -138,7 +139,7 @@ impl PoolReducer {
 
     /// The part of a column, normalised where it mentions others than the listed variables; false where it still does.
     #[cycle(evaluation)]
-    #[tactic(auto, using(crate::proofs::Winding::extends_none, crate::proofs::Winding::extends_more, crate::proofs::Serving::loaded_grown, crate::proofs::Serving::values_grown, crate::proofs::Serving::normals_grown, crate::proofs::Serving::answers_grown))]
+    #[tactic(auto, using(crate::proofs::Winding::extends_none, crate::proofs::Winding::extends_more, crate::proofs::Serving::loaded_grown, crate::proofs::Serving::heads_grown, crate::proofs::Serving::values_grown, crate::proofs::Serving::normals_grown, crate::proofs::Serving::answers_grown))]
     fn part_at(
         &mut self,
         version: &Version,
@@ -158,14 +159,18 @@ impl PoolReducer {
         if !mentions_others(&mut self.pool, column.term, column.depth, listed)? {
             return Ok(true);
         }
-        column.term = self.normalise(version, column.term, left)?;
+        let nested = self.nested;
+        self.nested = deeper(nested)?;
+        let normal = self.normalise(version, column.term, left);
+        self.nested = nested;
+        column.term = normal?;
         let others = mentions_others(&mut self.pool, column.term, column.depth, listed)?;
         Ok(!others)
     }
 
     /// Records a part for a rule variable, or compares it with what the variable has already.
     #[cycle(evaluation)]
-    #[tactic(auto, using(crate::proofs::Winding::extends_none, crate::proofs::Winding::extends_more, crate::proofs::Serving::loaded_grown, crate::proofs::Serving::values_grown, crate::proofs::Serving::normals_grown, crate::proofs::Serving::answers_grown, crate::proofs::Growing::columns_within, crate::proofs::Growing::captures_within, crate::proofs::Growing::captures_set, crate::proofs::Growing::capture_within))]
+    #[tactic(auto, using(crate::proofs::Winding::extends_none, crate::proofs::Winding::extends_more, crate::proofs::Serving::loaded_grown, crate::proofs::Serving::heads_grown, crate::proofs::Serving::values_grown, crate::proofs::Serving::normals_grown, crate::proofs::Serving::answers_grown, crate::proofs::Growing::columns_within, crate::proofs::Growing::captures_within, crate::proofs::Growing::captures_set, crate::proofs::Growing::capture_within))]
     fn record(
         &mut self,
         version: &Version,
@@ -191,13 +196,19 @@ impl PoolReducer {
                 }
                 Ok(true)
             }
-            Some(earlier) => self.compare(version, earlier, part, left),
+            Some(earlier) => {
+                let nested = self.nested;
+                self.nested = deeper(nested)?;
+                let alike = self.compare(version, earlier, part, left);
+                self.nested = nested;
+                alike
+            }
         }
     }
 
     /// Whether the guards of a row hold, in order.
     #[cycle(evaluation)]
-    #[tactic(auto, using(crate::proofs::Winding::extends_none, crate::proofs::Winding::extends_more, crate::proofs::Serving::loaded_grown, crate::proofs::Serving::values_grown, crate::proofs::Serving::normals_grown, crate::proofs::Serving::answers_grown, crate::proofs::Growing::columns_within, crate::proofs::Growing::captures_within, crate::proofs::Growing::column_at))]
+    #[tactic(auto, using(crate::proofs::Winding::extends_none, crate::proofs::Winding::extends_more, crate::proofs::Serving::loaded_grown, crate::proofs::Serving::heads_grown, crate::proofs::Serving::values_grown, crate::proofs::Serving::normals_grown, crate::proofs::Serving::answers_grown, crate::proofs::Growing::columns_within, crate::proofs::Growing::captures_within, crate::proofs::Growing::column_at))]
     fn guards_hold(
         &mut self,
         version: &Version,
@@ -227,7 +238,7 @@ impl PoolReducer {
 
     /// Whether the guard of a cell holds, where it has one.
     #[cycle(evaluation)]
-    #[tactic(auto, using(crate::proofs::Winding::extends_none, crate::proofs::Winding::extends_more, crate::proofs::Serving::loaded_grown, crate::proofs::Serving::values_grown, crate::proofs::Serving::normals_grown, crate::proofs::Serving::answers_grown, crate::proofs::Growing::columns_within, crate::proofs::Growing::captures_within))]
+    #[tactic(auto, using(crate::proofs::Winding::extends_none, crate::proofs::Winding::extends_more, crate::proofs::Serving::loaded_grown, crate::proofs::Serving::heads_grown, crate::proofs::Serving::values_grown, crate::proofs::Serving::normals_grown, crate::proofs::Serving::answers_grown, crate::proofs::Growing::columns_within, crate::proofs::Growing::captures_within))]
     fn guard_holds(
         &mut self,
         version: &Version,
@@ -248,7 +259,11 @@ impl PoolReducer {
         match step_of(cell) {
             Step::Guards(guard) => {
                 let guard = guard_under(&mut self.pool, guard, captures, column.depth)?;
-                self.compare(version, column.term, guard, left)
+                let nested = self.nested;
+                self.nested = deeper(nested)?;
+                let alike = self.compare(version, column.term, guard, left);
+                self.nested = nested;
+                alike
             }
             Step::Passes => Ok(true),
             Step::Captures(_, _) => Ok(true),

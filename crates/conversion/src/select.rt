@@ -31,7 +31,7 @@ pub(crate) enum Choice<'v> {
 impl PoolReducer {
     /// The first row that takes the columns, unless a row before it asks for the head of one.
     #[cycle(evaluation)]
-    #[tactic(auto, using(crate::proofs::Winding::extends_none, crate::proofs::Winding::extends_more, crate::proofs::Serving::loaded_grown, crate::proofs::Serving::values_grown, crate::proofs::Serving::normals_grown, crate::proofs::Serving::answers_grown, crate::proofs::Growing::columns_within, crate::proofs::Growing::captures_within))]
+    #[tactic(auto, using(crate::proofs::Winding::extends_none, crate::proofs::Winding::extends_more, crate::proofs::Serving::loaded_grown, crate::proofs::Serving::heads_grown, crate::proofs::Serving::values_grown, crate::proofs::Serving::normals_grown, crate::proofs::Serving::answers_grown, crate::proofs::Growing::columns_within, crate::proofs::Growing::captures_within))]
     pub(crate) fn select<'v>(
         &mut self,
         version: &Version,

@@ -20,6 +20,15 @@ pub(crate) struct Answer {
     pub(crate) units: u64,
 }
 
+/// What the rules of a symbol do with it before any arguments.
+#[derive(Clone, Copy)]
+pub(crate) enum Head {
+    /// It has none.
+    Stands,
+    /// Its body takes its place.
+    Unfolds(TermId),
+}
+
 /// Evaluation over the terms of a pool, with what it found over one version remembered.
 #[derive(Drop)]
 pub struct PoolReducer {
@@ -27,12 +36,16 @@ pub struct PoolReducer {
     pub(crate) pool: Pool,
     /// The right sides of rules, by the symbol and the rule's place among those of the symbol.
     pub(crate) loaded: Table<TermId>,
+    /// What symbols without declared rules do, each by its symbol.
+    pub(crate) heads: Table<Head>,
     /// The weak head forms of terms, each by its term.
     pub(crate) values: Table<Value>,
     /// The normal forms of terms, each by its term.
     pub(crate) normals: Table<Value>,
     /// The answers of comparisons, each by its two terms.
     pub(crate) answers: Table<Answer>,
+    /// How many comparisons and normal forms that rules ask for are inside each other.
+    pub(crate) nested: u32,
 }
 
 /// How many forms and answers of each kind are remembered at most.
@@ -40,6 +53,13 @@ const SLOTS: usize = 4096;
 
 /// How many right sides stay at hand.
 const RIGHT_SIDES: usize = 1024;
+
+/// Of how many symbols it is remembered what they do.
+const HEADS: usize = 1024;
+
+/// How many comparisons and normal forms that rules ask for may be inside each other: these alone nest on the program's
+/// stack (docs/DECISIONS.md). One more is want of memory.
+const MOST_NESTED: u32 = 100_000;
 
 /// A pool of more nodes than this is dropped, not cleared.
 const MOST_KEPT: usize = 1 << 16;
@@ -50,7 +70,7 @@ impl PoolReducer {
     ghost use Rattle.conversion.specs.Reducers.{Serves};
 
     /// An empty pool. It serves whichever version is used first.
-    #[tactic(auto, using(crate::proofs::Serving::loaded_blank, crate::proofs::Serving::values_blank, crate::proofs::Serving::normals_blank, crate::proofs::Serving::answers_blank))]
+    #[tactic(auto, using(crate::proofs::Serving::loaded_blank, crate::proofs::Serving::heads_blank, crate::proofs::Serving::values_blank, crate::proofs::Serving::normals_blank, crate::proofs::Serving::answers_blank))]
     pub fn new(alloc: Global) -> Result<PoolReducer, NoMemory>
         ensures empty { IfOk result (λ r. r.pool ≡ []) }
         ensures serves { IfOk result (λ r. (S : PlainSignature) → Serves S r) }
@@ -61,6 +81,7 @@ impl PoolReducer {
         };
         let pool = Pool::new(alloc)?;
         let loaded = Table::new(alloc, RIGHT_SIDES, TermId::first())?;
+        let heads = Table::new(alloc, HEADS, Head::Stands)?;
         let values = Table::new(alloc, SLOTS, nothing)?;
         let normals = Table::new(alloc, SLOTS, nothing)?;
         let answers = Table::new(
@@ -75,15 +96,17 @@ impl PoolReducer {
             alloc,
             pool,
             loaded,
+            heads,
             values,
             normals,
             answers,
+            nested: 0,
         })
     }
 
     /// Forgets every term and all that was worked out, so that another version may be used. The memory is kept, but for
     /// that of a very large pool.
-    #[tactic(auto, using(crate::proofs::Serving::loaded_blank, crate::proofs::Serving::values_blank, crate::proofs::Serving::normals_blank, crate::proofs::Serving::answers_blank))]
+    #[tactic(auto, using(crate::proofs::Serving::loaded_blank, crate::proofs::Serving::heads_blank, crate::proofs::Serving::values_blank, crate::proofs::Serving::normals_blank, crate::proofs::Serving::answers_blank))]
     pub fn clear(&mut self)
         ensures empty { self.new.pool ≡ [] }
         ensures serves { (S : PlainSignature) → Serves S self.new }
@@ -95,8 +118,18 @@ impl PoolReducer {
         }
         self.pool.clear();
         self.loaded.clear();
+        self.heads.clear();
         self.values.clear();
         self.normals.clear();
         self.answers.clear();
+    }
+}
+
+/// One evaluation more inside others, where the stack has room for it.
+pub(crate) fn deeper(nested: u32) -> Result<u32, NoMemory> {
+    if nested < MOST_NESTED {
+        Ok(nested + 1)
+    } else {
+        Err(NoMemory)
     }
 }

@@ -235,6 +235,15 @@ fn a_remembered_form_takes_the_same_units(rt: HostRuntime) -> Result<(), Fail> {
     Ok(())
 }
 
+/// `plus 2 2` with 3 units is `s (plus 1 2)`; with 2 units it ends. None is left.
+#[test]
+fn a_sum_takes_three_units(rt: HostRuntime) -> Result<(), Fail> {
+    let alloc = rt.alloc();
+    assert!(rt; takes(alloc, 0, 3, true)?);
+    assert!(rt; takes(alloc, 0, 2, false)?);
+    Ok(())
+}
+
 /// What `plus 2 2` and a numeral are with so many units, worked out and then remembered; None where the two differ or a
 /// unit is left.
 fn compared(

@@ -20,6 +20,7 @@ use crate::machine::first_columns;
 use crate::matrix::{Matrix, rows_for, width};
 use crate::rules::SymbolRule;
 use crate::select::Choice;
+use crate::state::Head;
 use dk_model::{NoMemory, NodeOf, Stop};
 use shared_term::TermId;
 use signature_log::{Row, Rows, Version};
@@ -41,7 +42,7 @@ pub(crate) enum Turn<'v> {
 
 impl PoolReducer {
     /// The turn of a head before the arguments of a stack. It takes a unit.
-    #[tactic(auto, using(crate::proofs::Winding::extends_none, crate::proofs::Winding::extends_more, crate::proofs::Serving::loaded_grown, crate::proofs::Serving::values_grown, crate::proofs::Serving::normals_grown, crate::proofs::Serving::answers_grown, crate::proofs::Winding::within_grown, crate::proofs::Winding::within_popped, crate::proofs::Winding::popped_within, crate::proofs::Turning::turn_out, crate::proofs::Turning::turn_contracts, crate::proofs::Turning::turn_bare, crate::proofs::Turning::turn_stuck))]
+    #[tactic(auto, using(crate::proofs::Winding::extends_none, crate::proofs::Winding::extends_more, crate::proofs::Serving::loaded_grown, crate::proofs::Serving::heads_grown, crate::proofs::Serving::values_grown, crate::proofs::Serving::normals_grown, crate::proofs::Serving::answers_grown, crate::proofs::Winding::within_grown, crate::proofs::Winding::within_popped, crate::proofs::Winding::popped_within, crate::proofs::Turning::turn_out, crate::proofs::Turning::turn_contracts, crate::proofs::Turning::turn_bare, crate::proofs::Turning::turn_stuck))]
     pub(crate) fn turn_head<'v>(
         &mut self,
         version: &'v Version,
@@ -88,8 +89,32 @@ impl PoolReducer {
     }
 
     /// The turn of a symbol, whose unit is taken: its body, whatever rules stand behind it, or the matrix of its rules.
-    #[tactic(auto, using(crate::proofs::Winding::extends_none, crate::proofs::Winding::extends_more, crate::proofs::Serving::loaded_grown, crate::proofs::Serving::values_grown, crate::proofs::Serving::normals_grown, crate::proofs::Serving::answers_grown, crate::proofs::Turning::symbol_stands))]
+    #[tactic(auto, using(crate::proofs::Winding::extends_none, crate::proofs::Winding::extends_more, crate::proofs::Serving::loaded_grown, crate::proofs::Serving::heads_grown, crate::proofs::Serving::values_grown, crate::proofs::Serving::normals_grown, crate::proofs::Serving::answers_grown, crate::proofs::Turning::symbol_stands))]
     fn turn_symbol<'v>(
+        &mut self,
+        version: &'v Version,
+        symbol: u32,
+        head: TermId,
+        stack: &[TermId],
+    ) -> Result<Turn<'v>, NoMemory>
+        requires head { head.0 < length self.old.pool }
+        requires symbol { term self.old.pool head ≡ symbol_term symbol }
+        requires stack { AreWithin (length self.old.pool) stack.now }
+        requires serves { Serves (entries_of version.now) self.old }
+        ensures gives { IfOk result (TurnsSymbol version.now self.old symbol stack.now self.new) }
+        ensures keeps { Extends self.old.pool self.new.pool }
+        ensures serves { Serves (entries_of version.now) self.new }
+    {
+        match self.heads.find(symbol, 0) {
+            Some(Head::Stands) => Ok(Turn::Stands(head)),
+            Some(Head::Unfolds(body)) => Ok(Turn::Goes(body)),
+            None => self.turn_by_rules(version, symbol, head, stack),
+        }
+    }
+
+    /// The same by the rules of the version. What they do before any arguments is remembered.
+    #[tactic(auto, using(crate::proofs::Winding::extends_none, crate::proofs::Winding::extends_more, crate::proofs::Serving::loaded_grown, crate::proofs::Serving::heads_grown, crate::proofs::Serving::values_grown, crate::proofs::Serving::normals_grown, crate::proofs::Serving::answers_grown, crate::proofs::Turning::symbol_stands))]
+    fn turn_by_rules<'v>(
         &mut self,
         version: &'v Version,
         symbol: u32,
@@ -106,15 +131,22 @@ impl PoolReducer {
     {
         let rules = version.rules_of(symbol);
         match rules.at(0) {
-            None => Ok(Turn::Stands(head)),
-            Some(Row::Body(_)) => Ok(Turn::Goes(self.brought(version, symbol, 0)?)),
+            None => {
+                self.heads.put(symbol, 0, Head::Stands);
+                Ok(Turn::Stands(head))
+            }
+            Some(Row::Body(_)) => {
+                let body = self.brought(version, symbol, 0)?;
+                self.heads.put(symbol, 0, Head::Unfolds(body));
+                Ok(Turn::Goes(body))
+            }
             Some(Row::Rule(_)) => Ok(Turn::Selects(matrix_of(self.alloc, &rules, symbol, stack)?)),
         }
     }
 
     /// The turn of a matrix's symbol over the arguments of a stack, by a selection that goes on with the matrix.
     #[cycle(evaluation)]
-    #[tactic(auto, using(crate::proofs::Winding::extends_none, crate::proofs::Winding::extends_more, crate::proofs::Serving::loaded_grown, crate::proofs::Serving::values_grown, crate::proofs::Serving::normals_grown, crate::proofs::Serving::answers_grown, crate::proofs::Winding::within_grown, crate::proofs::Growing::captures_within, crate::proofs::Pausing::matrix_grown))]
+    #[tactic(auto, using(crate::proofs::Winding::extends_none, crate::proofs::Winding::extends_more, crate::proofs::Serving::loaded_grown, crate::proofs::Serving::heads_grown, crate::proofs::Serving::values_grown, crate::proofs::Serving::normals_grown, crate::proofs::Serving::answers_grown, crate::proofs::Winding::within_grown, crate::proofs::Growing::captures_within, crate::proofs::Pausing::matrix_grown))]
     pub(crate) fn turn_matrix<'v>(
         &mut self,
         version: &'v Version,
@@ -148,7 +180,7 @@ impl PoolReducer {
     }
 
     /// The right side of a rule that was taken, in the place of the arguments of its patterns.
-    #[tactic(auto, using(crate::proofs::Winding::extends_none, crate::proofs::Winding::extends_more, crate::proofs::Serving::loaded_grown, crate::proofs::Serving::values_grown, crate::proofs::Serving::normals_grown, crate::proofs::Serving::answers_grown, crate::proofs::Winding::within_grown, crate::proofs::Growing::captures_within, crate::proofs::Growing::within_taken))]
+    #[tactic(auto, using(crate::proofs::Winding::extends_none, crate::proofs::Winding::extends_more, crate::proofs::Serving::loaded_grown, crate::proofs::Serving::heads_grown, crate::proofs::Serving::values_grown, crate::proofs::Serving::normals_grown, crate::proofs::Serving::answers_grown, crate::proofs::Winding::within_grown, crate::proofs::Growing::captures_within, crate::proofs::Growing::within_taken))]
     fn put_right(
         &mut self,
         version: &Version,
@@ -194,9 +226,7 @@ impl PoolReducer {
         ensures spent { left.new ≤ left.old }
         ensures turned { IfOk result (λ turn. left.new + turn_rank turn ≤ left.old) }
     {
-        let _version = version;
-        let key = term.number();
-        match self.values.find(key, 0) {
+        match self.known(version, term) {
             Some(found) => {
                 if *left < found.units {
                     *left = 0;

@@ -6,19 +6,23 @@ ghost use Rattle.dk_check_run.specs.Run.{shelf_state, sink_state};
 ghost use Rattle.dk_check_run.specs.Clauses.{Runs};
 ghost use Rattle.dk_check_cli.specs.Calls.{status_without_words};
 
+use dk_check_run::{NoGate, run};
 use dk_io::{Shelf, Sink};
 use std::alloc::Global;
 use std::io::ErrorKind;
+use std::sync::Wait;
+use std::thread::Threads;
 
-// Where memory ends before the words are there.
-const NO_MEMORY: u8 = 4;
+/// Where memory ends before the words are there.
+pub const NO_MEMORY: u8 = 4;
 
 // Where a word isn't UTF-8.
 const BAD_WORDS: u8 = 2;
 
 /// Asks `run` for these words and answers its status. Where the words couldn't be had, the kind of the error decides, and
 /// nothing is read or written.
-pub fn answer_call<H: Shelf, K: Sink>(
+pub fn answer_call<R: Threads + Wait + Sync, H: Shelf, K: Sink>(
+    rt: &R,
     alloc: Global,
     words: &Result<Vec<String>, ErrorKind>,
     shelf: &mut H,
@@ -33,7 +37,7 @@ pub fn answer_call<H: Shelf, K: Sink>(
     ensures statuses { result < 7 }
 {
     match words {
-        Ok(words) => dk_check_run::run(alloc, words.as_slice(), shelf, sink),
+        Ok(words) => run(rt, alloc, words.as_slice(), shelf, sink, &NoGate),
         Err(ErrorKind::OutOfMemory) => NO_MEMORY,
         Err(_) => BAD_WORDS,
     }

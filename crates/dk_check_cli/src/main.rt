@@ -6,34 +6,30 @@ ghost use Rattle.std.specs.Process.{exit_status};
 
 mod call;
 
-use crate::call::answer_call;
+use crate::call::{NO_MEMORY, answer_call};
+use dk_check_run::STACK;
 use dk_io::{OsShelf, OsSink};
 use std::env::Env;
 use std::fs::Files;
 use std::io::{ErrorKind, Print};
 use std::process::ExitCode;
-use std::thread::{self, Builder};
+use std::sync::Wait;
+use std::thread::{self, Builder, Threads};
 use std::{env, io};
 
 #[cfg(test)]
 mod tests;
 
-// Sizes of a stack in bytes, of which the first is taken that the system grants. Copying and comparing a term nest as deep as
-// the term, and evaluation makes terms as deep as memory lasts. A page of a stack takes memory only once it is used.
-const STACKS: [usize; 6] = [1 << 36, 1 << 34, 1 << 32, 1 << 30, 1 << 28, 1 << 26];
-
-// The status comes from a thread with a large stack. Where none can be made the work is done here.
+// The status comes from a thread with that stack. Where it can't be had, memory has ended before the call.
 fn main(rt: HostRuntime) -> ExitCode {
     let status = thread::scope(thread::scope_env(), &rt, |scope| {
-        for size in STACKS {
-            if let Ok(handle) = Builder::new()
-                .stack_size(size)
-                .spawn_scoped(scope, || status_of_call(&rt))
-            {
-                return handle.join(&rt);
-            }
+        match Builder::new()
+            .stack_size(STACK)
+            .spawn_scoped(scope, || status_of_call(&rt))
+        {
+            Ok(handle) => handle.join(&rt),
+            Err(_) => NO_MEMORY,
         }
-        status_of_call(&rt)
     });
     exit_with(status)
 }
@@ -56,11 +52,11 @@ fn words_of_call<R: Env + AllocGlobal>(rt: &R) -> Result<Vec<String>, ErrorKind>
 }
 
 // Answers this call, with the files of the system and standard output (docs/report.md).
-fn status_of_call<R: Env + Files + Print + AllocGlobal>(rt: &R) -> u8
+fn status_of_call<R: Env + Files + Print + AllocGlobal + Threads + Wait + Sync>(rt: &R) -> u8
     ensures statuses { result < 7 }
 {
     let words = words_of_call(rt);
     let mut shelf = OsShelf::new(rt);
     let mut sink = OsSink::new(io::writer(rt));
-    answer_call(rt.alloc(), &words, &mut shelf, &mut sink)
+    answer_call(rt, rt.alloc(), &words, &mut shelf, &mut sink)
 }

@@ -36,13 +36,13 @@ fn answers_the_words_it_is_given(rt: HostRuntime) -> Result<(), Fail> {
         (
             ["dk_check", "print", "f.dk"],
             2,
-            "usage: dk_check check [--budget B] [--quiet] FILE\n",
+            "usage: dk_check check [--workers N] [--budget B] [--quiet] FILE\n",
         ),
     ] {
         let given = Ok(words_of(alloc, &words)?);
         let mut shelf = shelf_of(alloc)?;
         let mut sink = MemSink::new(alloc, 100, 4096, Vec::new(alloc))?;
-        let got = answer_call(alloc, &given, &mut shelf, &mut sink);
+        let got = answer_call(&rt, alloc, &given, &mut shelf, &mut sink);
         assert_eq!(rt;
             sink.bytes(),
             report.as_bytes(),
@@ -61,7 +61,7 @@ fn answers_where_the_words_are_missing(rt: HostRuntime) -> Result<(), Fail> {
     for (kind, status) in [(ErrorKind::InvalidData, 2), (ErrorKind::OutOfMemory, 4)] {
         let mut shelf = shelf_of(alloc)?;
         let mut sink = MemSink::new(alloc, 100, 4096, Vec::new(alloc))?;
-        let got = answer_call(alloc, &Err(kind), &mut shelf, &mut sink);
+        let got = answer_call(&rt, alloc, &Err(kind), &mut shelf, &mut sink);
         assert_eq!(rt; sink.bytes(), b"".as_slice(), "{kind}");
         assert_eq!(rt; got, status, "{kind}");
     }

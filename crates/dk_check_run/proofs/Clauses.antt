@@ -1,9 +1,10 @@
 -- What the program did, clause by clause.
-use Rattle.std.proofs.Common.{◌≡◌, ◌≢◌, ◌⊎◌, ◌<◌, ◌+◌, inl, inr, ℕ, List, [], length, refl, sym, ap, subst, ◌∙◌, arith}
+use Rattle.std.proofs.Common.{◌≡◌, ◌≢◌, ◌⊎◌, ◌<◌, ◌+◌, ◌++◌, inl, inr, ℕ, List, [], length, refl, sym, ap, subst, ◌∙◌, arith}
 use Rattle.std.specs.Prelude.{Bool, true, false, Option, Some, None}
 use Rattle.dk_io.specs.Bytes.{Books, Opens, added, book_of}
 use Rattle.dk_io.specs.Causes.{Rose}
 use Rattle.dk_model.specs.Limits.{standard}
+use Rattle.dk_model.specs.declared.code.Verdict.{Verdict}
 use Rattle.dk_model.specs.declared.code.Verdict.TheVariants as verdict
 use Rattle.command_line.specs.Requests.{Request}
 use Rattle.command_line.specs.Usage.{usage_text}
@@ -11,8 +12,8 @@ use Rattle.verdict_book.specs.Report.{FileReport, report_of, status_of}
 use Rattle.verdict_book.specs.declared.outcome.Outcome.{Outcome}
 use Rattle.verdict_book.specs.declared.outcome.Outcome.TheVariants.{Accepted, Stopped, Unread}
 use Rattle.dk_check_run.specs.Answers.{Answers, SameCounts, asks_nothing, memory_ended, not_opened, checked}
-use Rattle.dk_check_run.specs.Counts.{EndsOn, MayRiseAtUnread, RoseAtUnread}
-use Rattle.dk_check_run.specs.Run.{AsksFor, HasHeld, HasShelfFault, IsDecided, IsDue, ReportsFile, ShelfState, SinkState, Writes, WritesDue, memory_at_once, of_a_failed_opening, of_a_failed_read, of_memory, of_no_memory, of_the_file, report_for, text_of, unopened}
+use Rattle.dk_check_run.specs.Counts.{CountsAt, EndsOn}
+use Rattle.dk_check_run.specs.Run.{AsksFor, HasHeld, HasShelfFault, IsDecided, IsDue, ReportsFile, ShelfState, SinkState, Writes, WritesDue, memory_at_once, of_a_failed_opening, of_a_failed_read, of_memory, of_no_memory, of_the_file, of_the_given, report_for, report_given, text_of, unopened}
 
 same_request : {request : Option Request} {q r : Request} → request ≡ Some q → request ≡ Some r → q ≡ r
 same_request {request = request} {q = q} {r = r} a b = some_same q r (sym a ∙ b)
@@ -35,22 +36,13 @@ not_of e not f = not (e ∙ f)
 
 -- ---- what was due
 
-held_of : (o : Outcome) → status_of o ≢ 3 → (before now : ℕ) → RoseAtUnread before now o → now ≡ before
-held_of (Accepted n) e before now rose = rose
-held_of (Unread n) e before now rose = absurd (e refl)
-held_of (Stopped n line v) e before now rose = rose
+-- a book was opened, and nothing of the shelf failed from then on
+held_over : (old opened new : ShelfState) → SameCounts old opened → HasHeld opened new → HasHeld old new
+held_over old opened new same held = record { faults = held.faults ∙ same.faults; missed = λ name. held.missed name ∙ same.missed name }
 
-missed_of : (o : Outcome) → status_of o ≢ 3 → (before now : List ℕ → ℕ) → MayRiseAtUnread before now o → (name : List ℕ) → now name ≡ before name
-missed_of (Accepted n) e before now rose = rose
-missed_of (Unread n) e before now rose = absurd (e refl)
-missed_of (Stopped n line v) e before now rose = rose
-
--- a book was opened and read, and the outcome isn't that a read failed
-held_over : (o : Outcome) (old opened new : ShelfState) → status_of o ≢ 3 → SameCounts old opened → RoseAtUnread opened.faults new.faults o → MayRiseAtUnread opened.missed new.missed o → HasHeld old new
-held_over o old opened new not3 same faults missed = record {
-  faults = held_of o not3 opened.faults new.faults faults ∙ same.faults;
-  missed = λ name. missed_of o not3 opened.missed new.missed missed name ∙ same.missed name;
-}
+-- or a read failed
+rose_over : (old opened new : ShelfState) → SameCounts old opened → Rose opened.faults new.faults → Rose old.faults new.faults
+rose_over old opened new same rose = subst (λ count. Rose count new.faults) same.faults rose
 
 pub at_once : (quiet : Bool) → report_of [] (Stopped 0 0 verdict.Memory) 0 quiet ≡ memory_at_once
 at_once true = refl
@@ -61,39 +53,46 @@ pub at_once_by : (budget : ℕ) (quiet : Bool) → report_of [] (Stopped 0 0 ver
 at_once_by budget true = refl
 at_once_by budget false = refl
 
-module _ (q : Request) (book : Option (List ℕ)) (bytes : List ℕ) (old opened new : ShelfState) (names : List (List ℕ)) where
+module _ (q : Request) (book : Option (List ℕ)) (bytes : List ℕ) (old opened new : ShelfState) (names : List (List ℕ)) (has : book ≡ Some bytes) (same : SameCounts old opened) where
   -- the outcome is the file's own
-  own_due : (o : Outcome) → status_of o ≢ 3 → book ≡ Some bytes → SameCounts old opened → RoseAtUnread opened.faults new.faults o → MayRiseAtUnread opened.missed new.missed o
-      → report_for q bytes ≡ (let r : FileReport = record { names = names; outcome = o } in r) → IsDue q book old new (status_of o) (report_of names o q.budget q.quiet)
-  own_due o not3 has same faults missed is =
-      subst (λ (r : FileReport). IsDue q book old new (status_of r.outcome) (text_of q r)) is (of_the_file bytes has (held_over o old opened new not3 same faults missed))
+  own_due : (o : Outcome) → HasHeld opened new → report_for q bytes ≡ (let r : FileReport = record { names = names; outcome = o } in r) → IsDue q book old new (status_of o) (report_of names o q.budget q.quiet)
+  own_due o held is =
+      subst (λ (r : FileReport). IsDue q book old new (status_of r.outcome) (text_of q r)) is (of_the_file bytes has (held_over old opened new same held))
+
+  -- a command of the bytes that were given before a read failed isn't accepted
+  given_due : (number line : ℕ) (v : Verdict) (given rest : List ℕ) → bytes ≡ given ++ rest → new.left ≡ Some rest → Rose opened.faults new.faults
+      → report_given q given ≡ (let r : FileReport = record { names = names; outcome = Stopped number line v } in r)
+      → IsDue q book old new (status_of (Stopped number line v)) (report_of names (Stopped number line v) q.budget q.quiet)
+  given_due number line v given rest bytes_are left rose is =
+      subst (λ (r : FileReport). IsDue q book old new (status_of (Stopped number line v)) (text_of q r)) is
+      (of_the_given given rest (has ∙ ap Some bytes_are) left (rose_over old opened new same rose) number line v (ap (λ (r : FileReport). r.outcome) is))
 
   -- memory ended before the first command
-  nothing_due : (o : Outcome) → SameCounts old opened → RoseAtUnread opened.faults new.faults o → MayRiseAtUnread opened.missed new.missed o → names ≡ [] → o ≡ Stopped 0 0 verdict.Memory
-      → IsDue q book old new (status_of o) (report_of names o q.budget q.quiet)
-  nothing_due o same faults missed none is =
-      let not3 : status_of o ≢ 3 = λ e. let f : status_of o ≡ 4 = ap status_of is in absurd (omega (arith, e, f)) in
+  nothing_due : (o : Outcome) → names ≡ [] → o ≡ Stopped 0 0 verdict.Memory → IsDue q book old new (status_of o) (report_of names o q.budget q.quiet)
+  nothing_due o none is =
       let text : report_of names o q.budget q.quiet ≡ memory_at_once = ap (λ ns. report_of ns o q.budget q.quiet) none ∙ ap (λ p. report_of [] p q.budget q.quiet) is ∙ at_once q.quiet in
       subst (λ n. IsDue q book old new n (report_of names o q.budget q.quiet)) (sym (ap status_of is))
-      (subst (λ t. IsDue q book old new 4 t) (sym text) (of_no_memory (held_over o old opened new not3 same faults missed)))
+      (subst (λ t. IsDue q book old new 4 t) (sym text) of_no_memory)
 
   -- how the open book ended
-  pub book_due : (o : Outcome) → book ≡ Some bytes → SameCounts old opened → RoseAtUnread opened.faults new.faults o → MayRiseAtUnread opened.missed new.missed o
-      → EndsOn standard q.budget bytes new.left names o → IsDue q book old new (status_of o) (report_of names o q.budget q.quiet)
-  book_due (Accepted n) has same faults missed ends = own_due (Accepted n) (λ e. absurd (omega (arith, e))) has same faults missed ends
-  book_due (Stopped n line verdict.Accepted) has same faults missed ends = own_due (Stopped n line verdict.Accepted) (λ e. absurd (omega (arith, e))) has same faults missed ends
-  book_due (Stopped n line (verdict.Refused code)) has same faults missed ends = own_due (Stopped n line (verdict.Refused code)) (λ e. absurd (omega (arith, e))) has same faults missed ends
-  book_due (Stopped n line verdict.Ended) has same faults missed ends = own_due (Stopped n line verdict.Ended) (λ e. absurd (omega (arith, e))) has same faults missed ends
-  book_due (Stopped n line verdict.Memory) has same faults missed (inl m) =
-      nothing_due (Stopped n line verdict.Memory) same faults missed m.0 (ap (λ k. Stopped k line verdict.Memory) m.1 ∙ ap (λ l. Stopped 0 l verdict.Memory) m.2)
-  book_due (Stopped n line verdict.Memory) has same faults missed (inr m) =
+  pub book_due : (o : Outcome) → EndsOn standard q.budget bytes opened new names o → IsDue q book old new (status_of o) (report_of names o q.budget q.quiet)
+  book_due (Accepted n) ends = own_due (Accepted n) ends.1 ends.0
+  book_due (Stopped n line verdict.Accepted) (is, inl held) = own_due (Stopped n line verdict.Accepted) held is
+  book_due (Stopped n line verdict.Accepted) (is, inr g) = given_due n line verdict.Accepted g.0 g.1 g.2 g.3 g.4 g.5
+  book_due (Stopped n line (verdict.Refused code)) (is, inl held) = own_due (Stopped n line (verdict.Refused code)) held is
+  book_due (Stopped n line (verdict.Refused code)) (is, inr g) = given_due n line (verdict.Refused code) g.0 g.1 g.2 g.3 g.4 g.5
+  book_due (Stopped n line verdict.Ended) (is, inl held) = own_due (Stopped n line verdict.Ended) held is
+  book_due (Stopped n line verdict.Ended) (is, inr g) = given_due n line verdict.Ended g.0 g.1 g.2 g.3 g.4 g.5
+  book_due (Stopped n line verdict.Memory) (inl m, how) =
+      nothing_due (Stopped n line verdict.Memory) m.0 (ap (λ k. Stopped k line verdict.Memory) m.1 ∙ ap (λ l. Stopped 0 l verdict.Memory) m.2)
+  book_due (Stopped n line verdict.Memory) (inr m, how) =
       subst (λ text. IsDue q book old new 4 text)
       (ap (λ ns. report_of ns (Stopped (length names + 1) line verdict.Memory) q.budget q.quiet) (sym m.names_are)
       ∙ ap (λ k. report_of names (Stopped k line verdict.Memory) q.budget q.quiet) (sym m.number_is))
-      (of_memory bytes has (held_over (Stopped n line verdict.Memory) old opened new (λ e. absurd (omega (arith, e))) same faults missed) (length names) line m.memory)
-  book_due (Unread n) has same faults missed ends =
-      subst (λ (r : FileReport). IsDue q book old new 3 (text_of q r)) ends.4
-      (of_a_failed_read ends.0 ends.1 (has ∙ ap Some ends.2) ends.3 (subst (λ count. Rose count new.faults) same.faults faults) n (ap (λ (r : FileReport). r.outcome) ends.4))
+      (of_memory bytes has (length names) line m.memory)
+  book_due (Unread n) ends =
+      subst (λ (r : FileReport). IsDue q book old new 3 (text_of q r)) ends.5
+      (of_a_failed_read ends.0 ends.1 (has ∙ ap Some ends.2) ends.3 (rose_over old opened new same ends.4) n (ap (λ (r : FileReport). r.outcome) ends.5))
 
 -- nothing of the shelf was touched
 held_same : (old new : ShelfState) → new ≡ old → HasHeld old new
@@ -105,7 +104,7 @@ same_some x y e = cc
 pub due : (request : Option Request) (old new : ShelfState) (before after : SinkState) (result : ℕ) → Answers request old new before after result
     → (q : Request) (book : Option (List ℕ)) → AsksFor request old.books q book → WritesDue q book old new before after result
 due request old new before after result (asks_nothing none same writes) q book asks = no_request none asks.asked
-due request old new before after result (memory_ended same writes) q book asks = record { status = 4; text = memory_at_once; due = of_no_memory (held_same old new same); writes = writes }
+due request old new before after result (memory_ended same writes) q book asks = record { status = 4; text = memory_at_once; due = of_no_memory; writes = writes }
 due request old new before after result (not_opened r is left rose writes) q book asks =
     subst (λ (x : Request). WritesDue x book old new before after result) (same_request is asks.asked)
     (record { status = 3; text = unopened r.file; due = of_a_failed_opening left rose; writes = writes })
@@ -117,50 +116,41 @@ due request old new before after result (checked r opened is opens same c) q boo
     (record {
       status = status_of c.report.outcome;
       text = report_of c.report.names c.report.outcome r.budget r.quiet;
-      due = book_due r book t.0 old opened new c.report.names c.report.outcome (sym has ∙ t.1) same c.faults c.missed (c.ends t.0 t.2);
+      due = book_due r book t.0 old opened new c.report.names (sym has ∙ t.1) same c.report.outcome (c.ends t.0 t.2);
       writes = c.writes;
     })
 
--- ---- the headline
+-- ---- the file's own report
 
--- the row of the file's own report, where it isn't that a call failed or that memory ended
-settled : {q : Request} {book : Option (List ℕ)} {old new : ShelfState} {status : ℕ} {text : List ℕ} → IsDue q book old new status text → status ≢ 3 → status ≢ 4
-    → (bytes : List ℕ) → book ≡ Some bytes → (status ≡ status_of (report_for q bytes).outcome) × (text ≡ text_of q (report_for q bytes))
-settled {q} (of_the_file own has held) not3 not4 bytes is =
-    let same : own ≡ bytes = same_some own bytes (sym has ∙ is) in
-    (ap (λ bs. status_of (report_for q bs).outcome) same, ap (λ bs. text_of q (report_for q bs)) same)
-settled (of_a_failed_read given rest has left rose number unread) not3 not4 bytes is = absurd (not3 refl)
-settled (of_a_failed_opening left rose) not3 not4 bytes is = absurd (not3 refl)
-settled (of_memory own has held accepted line memory) not3 not4 bytes is = absurd (not4 refl)
-settled (of_no_memory held) not3 not4 bytes is = absurd (not4 refl)
+-- how the open book ended is the file's own report, where it isn't that it was left unread or that memory ended
+file_own : (q : Request) (bytes : List ℕ) (opened new : ShelfState) (names : List (List ℕ)) (o : Outcome) → EndsOn standard q.budget bytes opened new names o → status_of o ≢ 3 → status_of o ≢ 4
+    → report_for q bytes ≡ (let r : FileReport = record { names = names; outcome = o } in r)
+file_own q bytes opened new names (Accepted n) ends not3 not4 = ends.0
+file_own q bytes opened new names (Unread n) ends not3 not4 = absurd (not3 refl)
+file_own q bytes opened new names (Stopped n line verdict.Accepted) ends not3 not4 = ends.0
+file_own q bytes opened new names (Stopped n line (verdict.Refused code)) ends not3 not4 = ends.0
+file_own q bytes opened new names (Stopped n line verdict.Ended) ends not3 not4 = ends.0
+file_own q bytes opened new names (Stopped n line verdict.Memory) ends not3 not4 = absurd (not4 refl)
 
--- where the status isn't 3, 4 or 5, it is the file's own
-decided : (q : Request) (bytes : List ℕ) (old new : ShelfState) (before after : SinkState) (result : ℕ) → WritesDue q (Some bytes) old new before after result → result ≢ 3 → result ≢ 4 → result ≢ 5 → ReportsFile q bytes before.taken after.taken result
-decided q bytes old new before after result w not3 not4 not5 =
-    let status = is_status w.writes not5 in
-    let own = settled w.due (not_of status not3) (not_of status not4) bytes refl in
-    record { status = status ∙ own.0; text = w.writes.whole not5 ∙ ap (added before.taken) own.1 }
-
--- where nothing of the shelf failed, the status isn't 3
-held_due : {q : Request} {book : Option (List ℕ)} {old new : ShelfState} {status : ℕ} {text : List ℕ} → IsDue q book old new status text → ¬ (Rose (old.missed q.file) (new.missed q.file)) → ¬ (Rose old.faults new.faults)
-    → (bytes : List ℕ) → book ≡ Some bytes → status ≢ 4 → (status ≡ status_of (report_for q bytes).outcome) × (text ≡ text_of q (report_for q bytes))
-held_due {q} (of_the_file own has held) not_missed not_failed bytes is not4 =
-    let same : own ≡ bytes = same_some own bytes (sym has ∙ is) in
-    (ap (λ bs. status_of (report_for q bs).outcome) same, ap (λ bs. text_of q (report_for q bs)) same)
-held_due (of_a_failed_read given rest has left rose number unread) not_missed not_failed bytes is not4 = absurd (not_failed rose)
-held_due (of_a_failed_opening left rose) not_missed not_failed bytes is not4 = absurd (not_missed rose)
-held_due (of_memory own has held accepted line memory) not_missed not_failed bytes is not4 = absurd (not4 refl)
-held_due (of_no_memory held) not_missed not_failed bytes is not4 = absurd (not4 refl)
-
-pub headline : (request : Option Request) (old new : ShelfState) (before after : SinkState) (result : ℕ) → Answers request old new before after result
-    → (q : Request) (bytes : List ℕ) → AsksFor request old.books q (Some bytes) → ¬ (Rose (old.missed q.file) (new.missed q.file)) → ¬ (Rose old.faults new.faults) → ¬ (Rose before.faults after.faults) → result ≢ 4
-    → ReportsFile q bytes before.taken after.taken result
-headline request old new before after result answers q bytes asks not_missed not_failed not_cut not4 =
-    let w = due request old new before after result answers q (Some bytes) asks in
-    let not5 : result ≢ 5 = λ e. not_cut (w.writes.failed e) in
-    let status = is_status w.writes not5 in
-    let own = held_due w.due not_missed not_failed bytes refl (not_of status not4) in
-    record { status = status ∙ own.0; text = w.writes.whole not5 ∙ ap (added before.taken) own.1 }
+-- where the status isn't 3, 4 or 5, it is the file's own, and so is the text
+decided : (request : Option Request) (old new : ShelfState) (before after : SinkState) (result : ℕ) → Answers request old new before after result
+    → (q : Request) (bytes : List ℕ) → AsksFor request old.books q (Some bytes) → result ≢ 3 → result ≢ 4 → result ≢ 5 → ReportsFile q bytes before.taken after.taken result
+decided request old new before after result (asks_nothing none same writes) q bytes asks not3 not4 not5 = no_request none asks.asked
+decided request old new before after result (memory_ended same writes) q bytes asks not3 not4 not5 = absurd (not4 (is_status writes not5))
+decided request old new before after result (not_opened r is left rose writes) q bytes asks not3 not4 not5 = absurd (not3 (is_status writes not5))
+decided request old new before after result (checked r opened is opens same c) q bytes asks not3 not4 not5 =
+    let same_q : r ≡ q = same_request is asks.asked in
+    let has : book_of asks.shelf r.file ≡ Some bytes = ap (λ (x : Request). book_of asks.shelf x.file) same_q ∙ asks.has in
+    let t = subst (λ (o : Option Books). Opens o r.file opened.left) asks.told opens in
+    let bytes_are : t.0 ≡ bytes = same_some t.0 bytes (sym t.1 ∙ has) in
+    let status = is_status c.writes not5 in
+    let own = file_own r t.0 opened new c.report.names c.report.outcome (c.ends t.0 t.2) (not_of status not3) (not_of status not4) in
+    subst (λ (x : Request). ReportsFile x bytes before.taken after.taken result) same_q
+    (subst (λ (bs : List ℕ). ReportsFile r bs before.taken after.taken result) bytes_are
+    (record {
+      status = status ∙ ap (λ (x : FileReport). status_of x.outcome) (sym own);
+      text = c.writes.whole not5 ∙ ap (λ (x : FileReport). added before.taken (text_of r x)) (sym own);
+    }))
 
 decided_not : (n : ℕ) → IsDecided n → (n ≢ 2) × (n ≢ 3) × (n ≢ 4) × (n ≢ 5)
 decided_not n (inl e) = (λ f. absurd (omega (arith, e, f)), λ f. absurd (omega (arith, e, f)), λ f. absurd (omega (arith, e, f)), λ f. absurd (omega (arith, e, f)))
@@ -171,15 +161,27 @@ pub own : (request : Option Request) (old new : ShelfState) (before after : Sink
     → (q : Request) (bytes : List ℕ) → AsksFor request old.books q (Some bytes) → IsDecided result → ReportsFile q bytes before.taken after.taken result
 own request old new before after result answers q bytes asks is =
     let not = decided_not result is in
-    decided q bytes old new before after result (due request old new before after result answers q (Some bytes) asks) not.1 not.2 not.3
+    decided request old new before after result answers q bytes asks not.1 not.2 not.3
 
-pub shelf_held : (request : Option Request) (old new : ShelfState) (before after : SinkState) (result : ℕ) → Answers request old new before after result → IsDecided result → HasHeld old new
+-- ---- no fault of the shelf
+
+held_at_zero : (old new : ShelfState) (o : Outcome) → status_of o ≡ 0 → CountsAt old new o → HasHeld old new
+held_at_zero old new (Accepted n) e counts = counts
+held_at_zero old new (Unread n) e counts = absurd (omega (arith, e))
+held_at_zero old new (Stopped n line verdict.Accepted) e counts = counts
+held_at_zero old new (Stopped n line (verdict.Refused code)) e counts = absurd (omega (arith, e))
+held_at_zero old new (Stopped n line verdict.Ended) e counts = absurd (omega (arith, e))
+held_at_zero old new (Stopped n line verdict.Memory) e counts = absurd (omega (arith, e))
+
+zero_five : {n : ℕ} → n ≡ 0 → n ≢ 5
+zero_five a b = absurd (omega (arith, a, b))
+
+pub shelf_held : (request : Option Request) (old new : ShelfState) (before after : SinkState) (result : ℕ) → Answers request old new before after result → result ≡ 0 → HasHeld old new
 shelf_held request old new before after result (asks_nothing none same writes) is = held_same old new same
 shelf_held request old new before after result (memory_ended same writes) is = held_same old new same
-shelf_held request old new before after result (not_opened r e left rose writes) is = let not = decided_not result is in absurd (not.1 (is_status writes not.3))
+shelf_held request old new before after result (not_opened r e left rose writes) is = let f : result ≡ 3 = is_status writes (zero_five is) in absurd (omega (arith, is, f))
 shelf_held request old new before after result (checked r opened e opens same c) is =
-    let not = decided_not result is in
-    held_over c.report.outcome old opened new (not_of (is_status c.writes not.3) not.1) same c.faults c.missed
+    held_over old opened new same (held_at_zero opened new c.report.outcome (sym (is_status c.writes (zero_five is)) ∙ is) c.counts)
 
 -- ---- usage
 
@@ -218,13 +220,13 @@ untouched request old new before after result (checked r opened e opens same c) 
 three_five : {n : ℕ} → n ≡ 3 → n ≢ 5
 three_five a b = absurd (omega (arith, a, b))
 
-unread_of : (o : Outcome) → status_of o ≡ 3 → (before now : ℕ) → RoseAtUnread before now o → Rose before now
-unread_of (Accepted n) e before now rose = absurd (omega (arith, e))
-unread_of (Unread n) e before now rose = rose
-unread_of (Stopped n line verdict.Accepted) e before now rose = absurd (omega (arith, e))
-unread_of (Stopped n line (verdict.Refused code)) e before now rose = absurd (omega (arith, e))
-unread_of (Stopped n line verdict.Ended) e before now rose = absurd (omega (arith, e))
-unread_of (Stopped n line verdict.Memory) e before now rose = absurd (omega (arith, e))
+unread_of : (old new : ShelfState) (o : Outcome) → status_of o ≡ 3 → CountsAt old new o → Rose old.faults new.faults
+unread_of old new (Accepted n) e counts = absurd (omega (arith, e))
+unread_of old new (Unread n) e counts = counts
+unread_of old new (Stopped n line verdict.Accepted) e counts = absurd (omega (arith, e))
+unread_of old new (Stopped n line (verdict.Refused code)) e counts = absurd (omega (arith, e))
+unread_of old new (Stopped n line verdict.Ended) e counts = absurd (omega (arith, e))
+unread_of old new (Stopped n line verdict.Memory) e counts = absurd (omega (arith, e))
 
 pub shelf_failed : (request : Option Request) (old new : ShelfState) (before after : SinkState) (result : ℕ) → Answers request old new before after result
     → result ≡ 3 → (q : Request) × (request ≡ Some q) × HasShelfFault q old new before after
@@ -233,7 +235,7 @@ shelf_failed request old new before after result (memory_ended same writes) is =
 shelf_failed request old new before after result (not_opened q e left rose writes) is = (q, e, inl (left, rose, writes.whole (three_five is)))
 shelf_failed request old new before after result (checked q opened e opens same c) is =
     let three : status_of c.report.outcome ≡ 3 = sym (is_status c.writes (three_five is)) ∙ is in
-    (q, e, inr (subst (λ n. Rose n new.faults) same.faults (unread_of c.report.outcome three opened.faults new.faults c.faults)))
+    (q, e, inr (rose_over old opened new same (unread_of opened new c.report.outcome three c.counts)))
 
 -- ---- a fault of the sink
 
@@ -248,6 +250,21 @@ sink_held request old new before after result (asks_nothing none same writes) e 
 sink_held request old new before after result (memory_ended same writes) e = writes.held e
 sink_held request old new before after result (not_opened r is left rose writes) e = writes.held e
 sink_held request old new before after result (checked r opened is opens same c) e = c.writes.held e
+
+-- ---- the headline
+
+pub headline : (request : Option Request) (old new : ShelfState) (before after : SinkState) (result : ℕ) → Answers request old new before after result
+    → (q : Request) (bytes : List ℕ) → AsksFor request old.books q (Some bytes) → ¬ (Rose (old.missed q.file) (new.missed q.file)) → ¬ (Rose old.faults new.faults) → ¬ (Rose before.faults after.faults) → result ≢ 4
+    → ReportsFile q bytes before.taken after.taken result
+headline request old new before after result answers q bytes asks not_missed not_failed not_cut not4 =
+    decided request old new before after result answers q bytes asks not3 not4 (λ e. not_cut (sink_failed request old new before after result answers e))
+  where
+    fault_at : (r : Request) → r ≡ q → HasShelfFault r old new before after → ⊥
+    fault_at r same (inl m) = not_missed (subst (λ (x : Request). Rose (old.missed x.file) (new.missed x.file)) same m.1)
+    fault_at r same (inr rose) = not_failed rose
+
+    not3 : result ≢ 3
+    not3 e = let f = shelf_failed request old new before after result answers e in fault_at f.0 (same_request f.1 asks.asked) f.2
 
 -- ---- the statuses
 

@@ -1,6 +1,7 @@
 pub mod Clauses
+pub mod Crosses
 pub mod Derived
 pub mod Desking
-pub mod Judging
 pub mod Preparing
 pub mod Reporting
+pub mod Standing

@@ -6,7 +6,7 @@ use Rattle.dk_model.specs.Limits.{standard}
 use Rattle.command_line.specs.Requests.{Request}
 use Rattle.command_line.specs.Usage.{usage_text}
 use Rattle.verdict_book.specs.Report.{FileReport, report_of, status_of}
-use Rattle.dk_check_run.specs.Counts.{EndsOn, MayRiseAtUnread, RoseAtUnread}
+use Rattle.dk_check_run.specs.Counts.{CountsAt, EndsOn}
 use Rattle.dk_check_run.specs.Run.{ShelfState, SinkState, Writes, memory_at_once, unopened}
 
 -- the shelf is as it was, but for the book that is open
@@ -18,10 +18,9 @@ pub record SameCounts (old new : ShelfState) : Type 0 where
 -- the open book was read and its report written
 pub record ChecksBook (budget : ℕ) (quiet : Bool) (old new : ShelfState) (before after : SinkState) (result : ℕ) : Type 0 where
   pub report : FileReport
-  pub ends : (bytes : List ℕ) → old.left ≡ Some bytes → EndsOn standard budget bytes new.left report.names report.outcome
+  pub ends : (bytes : List ℕ) → old.left ≡ Some bytes → EndsOn standard budget bytes old new report.names report.outcome
   pub books : new.books ≡ old.books
-  pub faults : RoseAtUnread old.faults new.faults report.outcome
-  pub missed : MayRiseAtUnread old.missed new.missed report.outcome
+  pub counts : CountsAt old new report.outcome
   pub writes : Writes before after (report_of report.names report.outcome budget quiet) (status_of report.outcome) result
 
 -- what the program did, by what the words ask

@@ -11,7 +11,7 @@ pub record Runs (request : Option Request) (old new : ShelfState) (before after 
       → ¬ (Rose old.faults new.faults) → ¬ (Rose before.faults after.faults) → result ≢ 4 → ReportsFile q bytes before.taken after.taken result
   pub derived : (q : Request) (bytes : List ℕ) → AsksFor request old.books q (Some bytes) → result ≡ 0 → IsFileDerived q bytes
   pub decided : (q : Request) (bytes : List ℕ) → AsksFor request old.books q (Some bytes) → IsDecided result → ReportsFile q bytes before.taken after.taken result
-  pub shelf_held : IsDecided result → HasHeld old new
+  pub shelf_held : result ≡ 0 → HasHeld old new
   pub due : (q : Request) (book : Option (List ℕ)) → AsksFor request old.books q book → WritesDue q book old new before after result
   pub usage : request ≡ None → Writes before after usage_text 2 result ⊎ Writes before after memory_at_once 4 result
   pub usage_only : result ≡ 2 → request ≡ None

@@ -1,5 +1,5 @@
 -- For proofs: the program's jobs as the law of histories sees them, and how one is made.
-use Rattle.std.specs.Prelude.{◌≡◌, ◌≢◌, ℕ, true}
+use Rattle.std.specs.Prelude.{◌≡◌, ◌≢◌, ℕ, Bool, true}
 use Rattle.dk_model.specs.Scoping.{plain_command}
 use Rattle.dk_model.specs.Answering.{IsVerdictOrMemory}
 use Rattle.dk_model.specs.declared.code.Verdict.{Verdict}
@@ -15,7 +15,14 @@ use Rattle.dk_check_run.specs.declared.theory.Theory.{Theory as Kept}
 
 -- the job without pointers
 abbrev pub job_of : Job → plain.Job
-job_of j = record { signature = entries_of j.version; command = plain_command j.command; budget = j.budget; name = j.title.value.name; line = j.title.value.line }
+job_of j = record { signature = entries_of j.version; command = plain_command j.command; budget = j.budget; name = j.title.job.name; line = j.title.job.line }
+
+-- the verdict that the job is due, and whether the reader may check it itself
+abbrev pub due : Job → Verdict
+due j = due_of (job_of j)
+
+abbrev pub early : Job → Bool
+early j = is_early (job_of j)
 
 -- what the program's theory shows
 abbrev pub theory_of : Kept → Theory

@@ -3,6 +3,7 @@ use Rattle.std.specs.Prelude.{◌≡◌, ◌≢◌, ◌⊎◌, ℕ, ◌+◌, Lis
 use Rattle.dk_io.specs.Bytes.{AddsSome, Books, added, book_of}
 use Rattle.dk_io.specs.Causes.{Rose}
 use Rattle.dk_model.specs.Limits.{standard}
+use Rattle.dk_model.specs.declared.code.Verdict.{Verdict}
 use Rattle.dk_model.specs.declared.code.Verdict.TheVariants as verdict
 use Rattle.dk_lexer.specs.Tokens.{broken, whole}
 use Rattle.dk_parser.specs.FileReading.{read}
@@ -92,17 +93,21 @@ pub record HasHeld (old new : ShelfState) : Type 0 where
   pub faults : new.faults ≡ old.faults
   pub missed : (name : List ℕ) → new.missed name ≡ old.missed name
 
--- The status and the text that are due, a row for each answer (docs/report.md): the file's own report; the report of the bytes that
--- were given before a read failed; that the opening failed; where memory ended; and that it ended before the first command.
+-- The status and the text that are due, a row for each answer (docs/report.md): the file's own report; where a read failed, the
+-- report of the bytes that were given before, which ends at a command among them or at the one that was due; that the opening
+-- failed; where memory ended; and that it ended before the first command.
 pub data IsDue (q : Request) (book : Option (List ℕ)) (old new : ShelfState) : ℕ → List ℕ → Type 0 where
   of_the_file : (bytes : List ℕ) → book ≡ Some bytes → HasHeld old new
       → IsDue q book old new (status_of (report_for q bytes).outcome) (text_of q (report_for q bytes))
+  of_the_given : (given rest : List ℕ) → book ≡ Some (given ++ rest) → new.left ≡ Some rest → Rose old.faults new.faults
+      → (number line : ℕ) (v : Verdict) → (report_given q given).outcome ≡ Stopped number line v
+      → IsDue q book old new (status_of (Stopped number line v)) (text_of q (report_given q given))
   of_a_failed_read : (given rest : List ℕ) → book ≡ Some (given ++ rest) → new.left ≡ Some rest → Rose old.faults new.faults
       → (number : ℕ) → (report_given q given).outcome ≡ Unread number → IsDue q book old new 3 (text_of q (report_given q given))
   of_a_failed_opening : new.left ≡ old.left → Rose (old.missed q.file) (new.missed q.file) → IsDue q book old new 3 (unopened q.file)
-  of_memory : (bytes : List ℕ) → book ≡ Some bytes → HasHeld old new
+  of_memory : (bytes : List ℕ) → book ≡ Some bytes
       → (accepted line : ℕ) → IsMemoryAt standard q.budget bytes whole accepted line → IsDue q book old new 4 (memory_text q bytes accepted line)
-  of_no_memory : HasHeld old new → IsDue q book old new 4 memory_at_once
+  of_no_memory : IsDue q book old new 4 memory_at_once
 
 -- the text was written, and this is the status; or the sink failed and took a front of it, and the status is 5
 pub record Writes (old new : SinkState) (text : List ℕ) (status result : ℕ) : Type 0 where

@@ -9,13 +9,13 @@ ghost use Rattle.signature_log.specs.Versions.{entries_of};
 ghost use Rattle.file_report.specs.Jobs.{due_of};
 ghost use Rattle.dk_check_run.specs.Jobs.{IsOtherVerdict, job_of};
 
+use board_core::Past;
 use command_check::{check_command, infer_type};
 use conversion::PoolReducer;
 use dk_model::{NoMemory, Scoped, Verdict};
 use shared_term::Stored;
 use signature_log::Version;
 use std::alloc::Global;
-use std::snapshot::Snapshot;
 use verdict_book::Title;
 
 /// One command with what its check needs. What a report names of it is kept beside the board, and stands here for contracts
@@ -27,7 +27,7 @@ pub struct Job {
     pub command: Scoped,
     /// The units that its check may take.
     pub budget: u64,
-    pub title: Snapshot<Title>,
+    pub title: Past<Title>,
 }
 
 /// Who checks jobs, with a pool of terms that is used again for each.

@@ -1,6 +1,6 @@
 //! Reports of theories whose rules have abstractions, repeated variables or guards, and of rules that aren't typed.
-use crate::run;
 use crate::tests::{shelf_of, words_of};
+use crate::{NoGate, run};
 use dk_io::MemSink;
 use std::test::Fail;
 
@@ -147,7 +147,7 @@ fn reports_rules_of_every_form(rt: HostRuntime) -> Result<(), Fail> {
         let words = words_of(alloc, &["check", budget, "f.dk"])?;
         let mut shelf = shelf_of(alloc, text, 4096, &[])?;
         let mut sink = MemSink::new(alloc, 1000, 4096, Vec::new(alloc))?;
-        let got = run(alloc, words.as_slice(), &mut shelf, &mut sink);
+        let got = run(&rt, alloc, words.as_slice(), &mut shelf, &mut sink, &NoGate);
         assert_eq!(rt; sink.bytes(), report.as_bytes(), "at {budget} of {text}");
         assert_eq!(rt; got, *status, "at {budget} of {text}");
     }

@@ -1,7 +1,7 @@
 //! Whole reports, and what failing calls of shelf and sink lead to.
 ghost use Rattle.std.specs.Prelude.{◌<◌};
 
-use crate::run;
+use crate::{NoGate, run};
 use dk_io::{Book, MemShelf, MemSink};
 use std::alloc::Global;
 use std::test::Fail;
@@ -225,7 +225,7 @@ fn reports_each_file(rt: HostRuntime) -> Result<(), Fail> {
     for (text, status, report) in &FILES {
         let mut shelf = shelf_of(alloc, text, 4096, &[])?;
         let mut sink = MemSink::new(alloc, 1000, 4096, Vec::new(alloc))?;
-        let got = run(alloc, words.as_slice(), &mut shelf, &mut sink);
+        let got = run(&rt, alloc, words.as_slice(), &mut shelf, &mut sink, &NoGate);
         assert_eq!(rt; sink.bytes(), report.as_bytes(), "at {text}");
         assert_eq!(rt; got, *status, "at {text}");
     }
@@ -288,7 +288,7 @@ fn counts_units(rt: HostRuntime) -> Result<(), Fail> {
         let words = words_of(alloc, &["check", budget, "f.dk"])?;
         let mut shelf = shelf_of(alloc, text, 4096, &[])?;
         let mut sink = MemSink::new(alloc, 1000, 4096, Vec::new(alloc))?;
-        let got = run(alloc, words.as_slice(), &mut shelf, &mut sink);
+        let got = run(&rt, alloc, words.as_slice(), &mut shelf, &mut sink, &NoGate);
         assert_eq!(rt; sink.bytes(), report.as_bytes(), "at {budget} of {text}");
         assert_eq!(rt; got, *status, "at {budget} of {text}");
     }
@@ -341,7 +341,7 @@ const FAILURES: [Failure; 15] = [
         sink_piece: 99,
         sink_call: 0,
         status: 2,
-        taken: "usage: dk_check check [--budget B] [--quiet] FILE\n",
+        taken: "usage: dk_check check [--workers N] [--budget B] [--quiet] FILE\n",
     },
     Failure {
         text: TWO,
@@ -351,7 +351,7 @@ const FAILURES: [Failure; 15] = [
         sink_piece: 99,
         sink_call: 0,
         status: 2,
-        taken: "usage: dk_check check [--budget B] [--quiet] FILE\n",
+        taken: "usage: dk_check check [--workers N] [--budget B] [--quiet] FILE\n",
     },
     Failure {
         text: TWO,
@@ -475,7 +475,7 @@ fn answers_each_failure(rt: HostRuntime) -> Result<(), Fail> {
         let mut failing = Vec::new(alloc);
         failing.push(row.sink_call)?;
         let mut sink = MemSink::new(alloc, 1000, row.sink_piece, failing)?;
-        let status = run(alloc, words.as_slice(), &mut shelf, &mut sink);
+        let status = run(&rt, alloc, words.as_slice(), &mut shelf, &mut sink, &NoGate);
         assert_eq!(rt; sink.bytes(), row.taken.as_bytes());
         assert_eq!(rt; status, row.status);
     }

@@ -12,6 +12,7 @@ ghost use Rattle.file_report.specs.Outcomes.{head_name, no_theory, shown_name, v
 ghost use Rattle.dk_check_run.specs.Jobs.{IsOtherVerdict, Prepares, theory_of};
 
 use crate::job::{Job, Worker};
+use board_core::Past;
 use command_check::{entry_of, is_untyped};
 use dk_model::{Entry, Fault, Listed, NoMemory, Scoped, TypeFault, Verdict};
 use dk_parser::{Raw, RawForm, RawPat, RawRule};
@@ -20,7 +21,6 @@ use shared_term::Stored;
 use signature_log::Version;
 use std::alloc::Global;
 use std::mem::replace;
-use std::snapshot::Snapshot;
 use std::sync::Arc;
 use verdict_book::Title;
 
@@ -168,7 +168,7 @@ impl Theory {
             version: before,
             command,
             budget,
-            title: Snapshot::of(&title),
+            title: Past::of(&title),
         };
         Ok(Prepared {
             job,

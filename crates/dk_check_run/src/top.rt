@@ -19,14 +19,26 @@ ghost use Rattle.dk_check_run.specs.Run.{
 };
 
 use crate::answering::answer;
+use board_core::Gate;
 use dk_io::{Shelf, Sink};
 use std::alloc::Global;
+use std::sync::Wait;
+use std::thread::Threads;
 
 /// Checks the file that the words name and writes its report to the sink; answers the status (docs/report.md).
 ///
-/// `words[0]` is the program's name and isn't looked at. The shelf is read up to the first command that isn't accepted.
-/// A want of memory is answered as such wherever it comes, and no clause says that it came.
-pub fn run<H: Shelf, K: Sink>(alloc: Global, words: &[String], shelf: &mut H, sink: &mut K) -> u8
+/// `words[0]` is the program's name and isn't looked at. The clauses hold for every number of workers and whatever the order
+/// of their steps; that the waits for other threads end is a premise of them. How far the shelf is read behind the first
+/// command that isn't accepted depends on the workers, and the report doesn't. A want of memory is answered as such wherever
+/// it comes, and no clause says that it came. The gate's calls stand round each check, and no answer depends on them.
+pub fn run<R: Threads + Wait + Sync, H: Shelf, K: Sink, G: Gate + Sync>(
+    rt: &R,
+    alloc: Global,
+    words: &[String],
+    shelf: &mut H,
+    sink: &mut K,
+    gate: &G,
+) -> u8
     // The headline: where nothing failed, the report and the status are those of the plain check of the file.
     ensures checks { (q : Request) (bytes : List ℕ) →
         AsksFor (request_of (map string_bytes words.now)) (H.books shelf.old) q (Some bytes) →
@@ -40,11 +52,11 @@ pub fn run<H: Shelf, K: Sink>(alloc: Global, words: &[String], shelf: &mut H, si
         AsksFor (request_of (map string_bytes words.now)) (H.books shelf.old) q (Some bytes) →
         result ≡ 0 → IsFileDerived q bytes }
 
-    // 0, 1 and 6 are the file's own, whatever failed, and nothing of the shelf did.
+    // 0, 1 and 6 are the file's own, whatever failed; at 0 nothing of the shelf did.
     ensures decided { (q : Request) (bytes : List ℕ) →
         AsksFor (request_of (map string_bytes words.now)) (H.books shelf.old) q (Some bytes) →
         IsDecided result → ReportsFile q bytes (K.taken sink.old) (K.taken sink.new) result }
-    ensures shelf_held { IsDecided result →
+    ensures shelf_held { result ≡ 0 →
         HasHeld (shelf_state H.books H.left H.faults H.missed shelf.old)
         (shelf_state H.books H.left H.faults H.missed shelf.new) }
 
@@ -80,5 +92,5 @@ pub fn run<H: Shelf, K: Sink>(alloc: Global, words: &[String], shelf: &mut H, si
     // There is no other status.
     ensures statuses { result < 7 }
 {
-    answer(alloc, words, shelf, sink)
+    answer(rt, alloc, words, shelf, sink, gate)
 }

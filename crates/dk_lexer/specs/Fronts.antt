@@ -1,11 +1,14 @@
 -- For proofs: a front of a piece, of which each byte gives no token and no fault.
-use Rattle.std.specs.Prelude.{◌≡◌, ℕ, Bool, true, false, List, [], ◌∷◌, ◌++◌, None}
+use Rattle.std.specs.Prelude.{◌≡◌, ℕ, ◌+◌, ◌-◌, min, Bool, true, false, List, [], ◌∷◌, ◌++◌, length, Option, Some, None, nat_le}
 use Rattle.dk_model.specs.declared.limits.Limits.{Limits}
 use Rattle.dk_lexer.specs.declared.class.Class.{Class}
 use Rattle.dk_lexer.specs.declared.class.Class.TheVariants as class
 use Rattle.dk_lexer.specs.declared.fed.Fed.{Fed}
 use Rattle.dk_lexer.specs.declared.lexer.Lexer.{Lexer}
 use Rattle.dk_lexer.specs.declared.part.Part.{Part}
+use Rattle.dk_lexer.specs.declared.part.Part.TheVariants as part
+use Rattle.dk_lexer.specs.Classes.{class_of, in_name}
+use Rattle.dk_lexer.specs.Spelling.{Pair, apart, closes, opens, pair}
 use Rattle.dk_lexer.specs.Steps.{fed_one, lexer_from, none_begun, step}
 use Rattle.dk_lexer.specs.Tokens.{Lexed, broken, tokens}
 
@@ -28,11 +31,24 @@ pub record AddNothing (limits : Limits) (bytes more : List ℕ) : Type 0 where
   pub same_tokens : (tokens limits (bytes ++ more) broken).tokens ≡ (tokens limits bytes broken).tokens
   pub same_fault : (tokens limits (bytes ++ more) broken).fault ≡ (tokens limits bytes broken).fault
 
--- it may end a comment, or open one
-abbrev pub turns_comment : Class → Bool
-turns_comment class.Semicolon = true
-turns_comment class.CloseBracket = true
-turns_comment _ = false
+-- each of the bytes may stand in a name
+abbrev pub StandInName : List ℕ → Type 0
+StandInName [] = Unit {0}
+StandInName (b ∷ bs) = (in_name (class_of b) ≡ true) × StandInName bs
+
+-- how deep in comments a byte leads, and the class that it has there; nothing where it ends the outermost
+abbrev pub inside_by : Pair → Bool → ℕ → Class → Option (ℕ × Class)
+inside_by opens outermost depth c = Some (min (depth + 1) 4294967295, class.Other)
+inside_by closes true depth c = None
+inside_by closes false depth c = Some (depth - 1, class.Other)
+inside_by apart outermost depth c = Some (depth, c)
+
+abbrev pub comment_inside : ℕ → Class → Class → Option (ℕ × Class)
+comment_inside depth last c = inside_by (pair last c) (nat_le depth 1) depth c
+
+abbrev pub part_inside : Option (ℕ × Class) → Part
+part_inside None = part.Nothing
+part_inside (Some inside) = part.Comment inside.0 inside.1
 
 -- it stands between tokens
 abbrev pub is_blank_class : Class → Bool
@@ -46,3 +62,7 @@ GoesTo old b new = step old b ≡ record { fed = nothing_fed; lexer = new }
 
 abbrev pub with_part : Lexer → Part → Lexer
 with_part l p = record l { part = p }
+
+-- the lexer behind some bytes of a name that go to this text
+abbrev pub with_name : Lexer → List ℕ → List ℕ → Lexer
+with_name l text bs = record l { part = part.Run (text ++ bs); here = record { offset = l.here.offset + length bs; line = l.here.line } }

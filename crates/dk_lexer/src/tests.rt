@@ -218,7 +218,7 @@ fn lex_by_fronts(alloc: Global, text: &[u8]) -> Result<Read, Fail> {
     };
     let mut rest = text;
     for _ in 0..text.len() {
-        let count = lexer.pass(rest)?;
+        let count = lexer.pass(alloc, rest)?;
         let (_, behind) = rest.split_at(count.min(rest.len()));
         let [byte, later @ ..] = behind else {
             break;
@@ -261,8 +261,11 @@ fn takes_a_whole_front(rt: HostRuntime) -> Result<(), Fail> {
     let alloc = rt.alloc();
     for (before, text, count) in [
         ("", "  \n\t", 4),
-        ("", "  \nx", 3),
-        ("(; ", "a ( b \n ;) c", 8),
+        ("", "  \nx", 4),
+        ("", " ab' c", 4),
+        ("", " 'a", 1),
+        ("(; ", "a ( b \n ;) c", 10),
+        ("(; ", "a (; b ;) c ;", 13),
         ("na", "me' : x", 3),
         ("x ", ": y", 0),
         ("{|", "abc", 0),
@@ -273,7 +276,7 @@ fn takes_a_whole_front(rt: HostRuntime) -> Result<(), Fail> {
             let _fed = lexer.feed(alloc, *byte)?;
         }
         assert_eq!(rt;
-            lexer.pass(text.as_bytes())?,
+            lexer.pass(alloc, text.as_bytes())?,
             count,
             "at {text} behind {before}"
         );

@@ -1,7 +1,9 @@
 -- For proofs: the parser and its parts as plain data.
-use Rattle.std.specs.Prelude.{◌≡◌, Option, Some, None, Result, Ok, Err, map}
+use Rattle.std.specs.Prelude.{◌≡◌, ℕ, Bool, true, false, List, [], ◌∷◌, Option, Some, None, Result, Ok, Err, map}
 use Rattle.dk_model.specs.declared.code.Fault.{Fault}
 use Rattle.dk_model.specs.declared.code.Fault.TheVariants as fault
+use Rattle.dk_model.specs.declared.limits.Limits.{Limits}
+use Rattle.dk_lexer.specs.declared.token.Token.{Token}
 use Rattle.dk_parser.specs.declared.frames.Role.{Role}
 use Rattle.dk_parser.specs.declared.frames.Role.TheVariants as role
 use Rattle.dk_parser.specs.declared.frames.Application.{Application}
@@ -10,22 +12,18 @@ use Rattle.dk_parser.specs.declared.frames.Frame.{Frame}
 use Rattle.dk_parser.specs.declared.frames.Frame.TheVariants as frame
 use Rattle.dk_parser.specs.declared.frames.Around.{Around}
 use Rattle.dk_parser.specs.declared.frames.Around.TheVariants as around
-use Rattle.dk_parser.specs.declared.frames.Frames.{Frames, On'}
-use Rattle.dk_parser.specs.declared.frames.Frames.TheVariants.{Bottom}
 use Rattle.dk_parser.specs.declared.term_so_far.TermSoFar.{TermSoFar}
 use Rattle.dk_parser.specs.declared.head.Head.{Head}
 use Rattle.dk_parser.specs.declared.left_application.LeftApplication.{LeftApplication}
 use Rattle.dk_parser.specs.declared.left_application.LeftApplication.TheVariants as left_application
-use Rattle.dk_parser.specs.declared.left_so_far.Binders.{Binders, BinderOn'}
-use Rattle.dk_parser.specs.declared.left_so_far.Binders.TheVariants.{NoBinders}
-use Rattle.dk_parser.specs.declared.left_so_far.PatternFrames.{PatternFrames, BracketOn'}
-use Rattle.dk_parser.specs.declared.left_so_far.PatternFrames.TheVariants.{NoBracket}
+use Rattle.dk_parser.specs.declared.left_so_far.PatternFrame.{PatternFrame}
 use Rattle.dk_parser.specs.declared.left_so_far.LeftSoFar.{LeftSoFar}
 use Rattle.dk_parser.specs.declared.rule_head.RuleHead.{RuleHead}
 use Rattle.dk_parser.specs.declared.command_so_far.Purpose.{Purpose}
 use Rattle.dk_parser.specs.declared.command_so_far.Purpose.TheVariants as purpose
+use Rattle.dk_parser.specs.declared.command_so_far.Due.{Due}
+use Rattle.dk_parser.specs.declared.command_so_far.Due.TheVariants as due
 use Rattle.dk_parser.specs.declared.command_so_far.CommandSoFar.{CommandSoFar}
-use Rattle.dk_parser.specs.declared.command_so_far.CommandSoFar.TheVariants as part
 use Rattle.dk_parser.specs.declared.command_so_far.Advance.{Advance}
 use Rattle.dk_parser.specs.declared.command_so_far.Advance.TheVariants as advance
 use Rattle.dk_parser.specs.declared.parser.Parser.{Parser}
@@ -35,6 +33,11 @@ use Rattle.dk_parser.specs.declared.raw.RawPat.{RawPat}
 use Rattle.dk_parser.specs.Written.{WrittenPattern}
 use Rattle.dk_parser.specs.RawViews.{written, maybe_written, written_param, written_pattern, written_note, written_rule, written_form, written_command}
 use Rattle.dk_parser.specs.Parsing as plain
+
+-- what was changed in place, where it could be
+abbrev pub changed : {A : Type 0} → Bool → A → Option A
+changed true a = Some a
+changed false a = None
 
 abbrev pub maybe_pattern : Option RawPat → Option WrittenPattern
 maybe_pattern None = None
@@ -57,16 +60,28 @@ plain_frame (frame.Product v a) = plain.product_frame v (written a)
 plain_frame (frame.Bare v) = plain.bare_frame v
 plain_frame (frame.Annotated v a) = plain.annotated_frame v (written a)
 
+abbrev pub is_bracket : plain.Frame → Bool
+is_bracket (plain.bracket_frame s) = true
+is_bracket _ = false
+
+abbrev pub opens_domain : plain.Frame → Bool
+opens_domain (plain.bracket_frame (plain.due plain.at_front)) = true
+opens_domain _ = false
+
 abbrev pub plain_around : Around → plain.Around
 plain_around (around.Term a) = plain.around_term (written a)
 plain_around (around.Bracket s a) = plain.around_bracket (plain_application s) (written a)
 
-abbrev pub plain_frames : Frames → plain.Frames
-plain_frames (Bottom level) = plain.bottom level
-plain_frames (On' d f p fs) = plain.on d (plain_frame f) (plain_frames fs)
+-- these frames on others, the outermost first
+abbrev pub frames_on : plain.Frames → List Frame → plain.Frames
+frames_on fs [] = fs
+frames_on fs (g ∷ gs) = frames_on (plain.pushed (plain_frame g) fs) gs
+
+abbrev pub plain_frames : ℕ → List Frame → plain.Frames
+plain_frames level fs = frames_on (plain.bottom level) fs
 
 abbrev pub plain_term : TermSoFar → plain.TermSoFar
-plain_term t = record { frames = plain_frames t.frames; application = plain_application t.application }
+plain_term t = record { frames = plain_frames t.level t.frames; application = plain_application t.application }
 
 abbrev pub plain_head : Head → plain.Head
 plain_head h = record { sort = h.sort; name = h.name; params = map written_param h.params }
@@ -79,48 +94,74 @@ plain_left_application left_application.Due = plain.pattern_due
 plain_left_application (left_application.Bindable v) = plain.pattern_bindable v
 plain_left_application (left_application.Applied p n) = plain.pattern_applied (written_pattern p) n
 
-abbrev pub plain_binders : Binders → plain.Binders
-plain_binders NoBinders = plain.no_binders
-plain_binders (BinderOn' v p vs) = plain.binder_on v (plain_binders vs)
+-- these binders under others, the outermost first
+abbrev pub binders_on : plain.Binders → List (Option (List ℕ)) → plain.Binders
+binders_on vs [] = vs
+binders_on vs (w ∷ ws) = binders_on (plain.binder_on w vs) ws
 
-abbrev pub plain_pattern_frames : PatternFrames → plain.PatternFrames
-plain_pattern_frames NoBracket = plain.no_bracket
-plain_pattern_frames (BracketOn' d s vs p fs) = plain.bracket_on d (plain_left_application s) (plain_binders vs) (plain_pattern_frames fs)
+abbrev pub plain_binders : List (Option (List ℕ)) → plain.Binders
+plain_binders vs = binders_on plain.no_binders vs
 
-abbrev pub plain_pattern : LeftSoFar → plain.LeftSoFar
-plain_pattern p = record { frames = plain_pattern_frames p.frames; application = plain_left_application p.application }
+-- these brackets in others, the outermost first
+abbrev pub brackets_on : plain.PatternFrames → List PatternFrame → plain.PatternFrames
+brackets_on fs [] = fs
+brackets_on fs (g ∷ gs) = brackets_on (plain.bracket_on g.level (plain_left_application g.before) (plain_binders g.binders) fs) gs
 
-abbrev pub plain_purpose : Purpose → plain.Purpose
-plain_purpose (purpose.Param h v) = plain.as_param (plain_head h) v
-plain_purpose (purpose.Type h) = plain.as_type (plain_head h)
-plain_purpose (purpose.Body h a) = plain.as_body (plain_head h) (maybe_written a)
-plain_purpose (purpose.Entry h n) = plain.as_entry (plain_rule_head h) n
-plain_purpose (purpose.Guard h p) = plain.as_guard (plain_rule_head h) (plain_pattern p)
-plain_purpose (purpose.Right h l) = plain.as_right (plain_rule_head h) (written_pattern l)
+abbrev pub plain_left : LeftSoFar → plain.LeftSoFar
+plain_left p = record { frames = brackets_on plain.no_bracket p.frames; application = plain_left_application p.application }
+
+abbrev pub purpose_by : plain.Head → plain.RuleHead → plain.LeftSoFar → Purpose → plain.Purpose
+purpose_by h r l (purpose.Param v) = plain.as_param h v
+purpose_by h r l purpose.Type = plain.as_type h
+purpose_by h r l (purpose.Body a) = plain.as_body h (maybe_written a)
+purpose_by h r l (purpose.Entry n) = plain.as_entry r n
+purpose_by h r l purpose.Guard = plain.as_guard r l
+purpose_by h r l (purpose.Right p) = plain.as_right r (written_pattern p)
+
+-- what a term is read for in a command
+abbrev pub plain_purpose : CommandSoFar → Purpose → plain.Purpose
+plain_purpose c u = purpose_by (plain_head c.head) (plain_rule_head c.rules) (plain_left c.left) u
+
+abbrev pub due_by : plain.Head → plain.RuleHead → plain.LeftSoFar → plain.TermSoFar → Due → plain.CommandSoFar
+due_by h r l t due.Command = plain.command_due
+due_by h r l t (due.Name sort) = plain.name_due sort
+due_by h r l t due.Head = plain.head_due h
+due_by h r l t due.Binder = plain.binder_due h
+due_by h r l t (due.BinderColon v) = plain.binder_colon_due h v
+due_by h r l t due.RuleName = plain.rule_name_due r
+due_by h r l t due.RuleBrace = plain.rule_brace_due r
+due_by h r l t due.Square = plain.square_due r
+due_by h r l t due.Context = plain.context_due r
+due_by h r l t due.Entry = plain.entry_due r
+due_by h r l t (due.EntryNamed n) = plain.entry_named r n
+due_by h r l t due.Left = plain.in_left r l
+due_by h r l t (due.Term u) = plain.in_term (purpose_by h r l u) t
+
+-- a command in which this is due
+abbrev pub plain_due : CommandSoFar → Due → plain.CommandSoFar
+plain_due c d = due_by (plain_head c.head) (plain_rule_head c.rules) (plain_left c.left) (plain_term c.term) d
 
 abbrev pub plain_command : CommandSoFar → plain.CommandSoFar
-plain_command part.CommandDue = plain.command_due
-plain_command (part.NameDue sort) = plain.name_due sort
-plain_command (part.HeadDue h) = plain.head_due (plain_head h)
-plain_command (part.BinderDue h) = plain.binder_due (plain_head h)
-plain_command (part.BinderColonDue h v) = plain.binder_colon_due (plain_head h) v
-plain_command (part.RuleNameDue h) = plain.rule_name_due (plain_rule_head h)
-plain_command (part.RuleBraceDue h) = plain.rule_brace_due (plain_rule_head h)
-plain_command (part.SquareDue h) = plain.square_due (plain_rule_head h)
-plain_command (part.ContextDue h) = plain.context_due (plain_rule_head h)
-plain_command (part.EntryDue h) = plain.entry_due (plain_rule_head h)
-plain_command (part.EntryNamed h n) = plain.entry_named (plain_rule_head h) n
-plain_command (part.InLeft h p) = plain.in_left (plain_rule_head h) (plain_pattern p)
-plain_command (part.InTerm u p) = plain.in_term (plain_purpose u) (plain_term p)
+plain_command c = plain_due c c.due
 
-abbrev pub plain_step : Advance → plain.Advance
-plain_step (advance.Goes made p) = plain.goes made (plain_command p)
-plain_step (advance.Ends form) = plain.ends (written_form form)
-plain_step advance.Refuses = plain.refuses
+-- a term is due, and its terminal is the next one
+abbrev pub is_in_term : Due → Bool → Bool
+is_in_term (due.Term u) takes = takes
+is_in_term _ takes = false
+
+-- what a terminal came to, and the command that it left
+abbrev pub plain_step : Advance → CommandSoFar → plain.Advance
+plain_step (advance.Goes made) c = plain.goes made (plain_command c)
+plain_step (advance.Ends form) c = plain.ends (written_form form)
+plain_step advance.Refuses c = plain.refuses
 
 -- the parser as plain data
 abbrev pub parsing : Parser → plain.Parsing
-parsing p = record { limits = p.limits; begun = p.begun; part = plain_command p.part.value; fault = p.fault }
+parsing p = record { limits = p.limits; begun = p.begun; part = plain_command p.part; fault = p.fault }
+
+-- the parser was given these tokens and no others; it is as they leave it
+abbrev pub HasRead : Limits → List Token → Parser → Type 0
+HasRead limits ts p = parsing p ≡ plain.parsing_after limits ts
 
 -- the turn came to this answer and left this parser; want of memory says nothing
 abbrev pub CameTo : plain.Turn → Result Step Fault → plain.Parsing → Type 0

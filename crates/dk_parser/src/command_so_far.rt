@@ -1,73 +1,77 @@
 //! Commands, one terminal at a time.
-ghost use Rattle.std.specs.Prelude.{◌≡◌, IfOk, option_map};
-ghost use Rattle.dk_parser.specs.Parsing.{behind_term, in_term_next, advanced, takes, term_ends, term_goes};
+ghost use Rattle.std.specs.Prelude.{◌≡◌, IfOk};
+ghost use Rattle.dk_parser.specs.Parsing.{behind_term, advanced, takes, term_argument, term_done, term_ends, term_goes, term_next};
 ghost use Rattle.dk_parser.specs.Parsing as plain;
-ghost use Rattle.dk_parser.specs.Views.{plain_command, plain_purpose, plain_step, plain_term};
-ghost use Rattle.dk_parser.specs.RawViews.{maybe_written, written};
+ghost use Rattle.dk_parser.specs.Views.{is_in_term, plain_command, plain_due, plain_purpose, plain_step, plain_term};
+ghost use Rattle.dk_parser.specs.RawViews.{written};
 
-use crate::declare_part::{
-    binder_colon_next, binder_next, body_read, head_next, name_next, named, param_read, type_read,
-};
 use crate::head::Head;
 use crate::left_so_far::LeftSoFar;
 use crate::rule_head::RuleHead;
-use crate::rule_part::{
-    context_next, entry_next, entry_read, guard_read, left_next, named_next, rule_brace_next,
-    rule_name_next, rule_read, square_next,
-};
 use crate::term_so_far::TermSoFar;
 use crate::terminal::Terminal;
 use crate::{RawForm, RawPat, RawTerm};
 use dk_lexer::Sign;
 use dk_model::{Listed, NoMemory, SymSort};
 use std::alloc::Global;
+use std::mem::replace;
 
 /// What a term is read for.
 #[derive(Drop)]
 pub enum Purpose {
     /// The type of a parameter with this binder.
-    Param(Head, Option<Listed<u8>>),
-    /// The type of a declaration.
-    Type(Head),
-    /// The body of a declaration with this type.
-    Body(Head, Option<RawTerm>),
-    /// The type of an entry of a context.
-    Entry(RuleHead, Listed<u8>),
-    /// A guard behind this part of a left side.
-    Guard(RuleHead, LeftSoFar),
-    /// The right side of a rule with this left side.
-    Right(RuleHead, RawPat),
+    Param(Option<Listed<u8>>),
+    /// The type of the declaration.
+    Type,
+    /// The body of the declaration, with this type.
+    Body(Option<RawTerm>),
+    /// The type of an entry of the context.
+    Entry(Listed<u8>),
+    /// A guard behind what was read of the left side.
+    Guard,
+    /// The right side of the rule with this left side.
+    Right(RawPat),
 }
 
-/// A command that has begun, by what is due next.
+/// What is due next.
 #[derive(Drop)]
-pub enum CommandSoFar {
-    /// The first token.
-    CommandDue,
+pub enum Due {
+    /// The first token of a command.
+    Command,
     /// The name of a definition or a theorem.
-    NameDue(SymSort),
+    Name(SymSort),
     /// A parameter, the colon, or `:=`.
-    HeadDue(Head),
+    Head,
     /// The binder of a parameter.
-    BinderDue(Head),
-    /// The colon behind it.
-    BinderColonDue(Head, Option<Listed<u8>>),
+    Binder,
+    /// The colon behind this binder.
+    BinderColon(Option<Listed<u8>>),
     /// The name of a rule.
-    RuleNameDue(RuleHead),
-    /// The brace behind it.
-    RuleBraceDue(RuleHead),
+    RuleName,
+    /// The brace behind the name of a rule.
+    RuleBrace,
     /// A context.
-    SquareDue(RuleHead),
-    /// Its first entry, or its end.
-    ContextDue(RuleHead),
+    Square,
+    /// The first entry of a context, or the end of one that has none.
+    Context,
     /// An entry of a context.
-    EntryDue(RuleHead),
+    Entry,
     /// What stands behind the name of an entry.
-    EntryNamed(RuleHead, Listed<u8>),
+    EntryNamed(Listed<u8>),
     /// More of a left side, or what ends it.
-    InLeft(RuleHead, LeftSoFar),
+    Left,
     /// More of a term, or what ends it.
-    InTerm(Purpose, TermSoFar),
+    Term(Purpose),
+}
+
+/// A command that has begun: what is due, and what has been read of the parts that it may have.
+#[derive(Drop)]
+pub struct CommandSoFar {
+    pub due: Due,
+    pub head: Head,
+    pub rules: RuleHead,
+    pub left: LeftSoFar,
+    pub term: TermSoFar,
 }
 
 /// What a terminal makes of a command that has begun.
@@ -75,137 +79,147 @@ pub enum CommandSoFar {
 pub enum Advance {
     /// It goes on. The level that the terminal stands on, or the number of the argument that it
     /// begins, whichever is greater.
-    Goes(u64, CommandSoFar),
+    Goes(u64),
     Ends(RawForm),
     /// No command begins so.
     Refuses,
 }
 
 impl CommandSoFar {
-    /// Takes a terminal.
-    pub fn next(self, alloc: Global, x: Terminal) -> Result<Advance, NoMemory>
-        ensures { IfOk result (λ step. plain_step step ≡ advanced (plain_command self) x) }
+    /// Before the first terminal.
+    pub fn new(alloc: Global) -> CommandSoFar
+        ensures { plain_command result ≡ plain.command_due }
     {
-        match self {
-            CommandSoFar::CommandDue => Ok(command_next(alloc, x)),
-            CommandSoFar::NameDue(sort) => Ok(name_next(alloc, sort, x)),
-            CommandSoFar::HeadDue(head) => head_next(head, x),
-            CommandSoFar::BinderDue(head) => binder_next(head, x),
-            CommandSoFar::BinderColonDue(head, binder) => binder_colon_next(head, binder, x),
-            CommandSoFar::RuleNameDue(head) => Ok(rule_name_next(head, x)),
-            CommandSoFar::RuleBraceDue(head) => Ok(rule_brace_next(head, x)),
-            CommandSoFar::SquareDue(head) => Ok(square_next(head, x)),
-            CommandSoFar::ContextDue(head) => Ok(context_next(head, x)),
-            CommandSoFar::EntryDue(head) => Ok(entry_next(head, x)),
-            CommandSoFar::EntryNamed(head, name) => named_next(head, name, x),
-            CommandSoFar::InLeft(head, part) => left_next(alloc, head, part, x),
-            CommandSoFar::InTerm(purpose, part) => in_term_next(alloc, purpose, part, x),
+        CommandSoFar {
+            due: Due::Command,
+            head: Head::new(alloc, SymSort::Static, Listed::new(alloc)),
+            rules: RuleHead::new(alloc),
+            left: LeftSoFar::new(alloc),
+            term: TermSoFar::new(alloc),
         }
     }
-}
 
-// The first terminal of a command.
-fn command_next(alloc: Global, x: Terminal) -> Advance
-    ensures { plain_step result ≡ advanced plain.command_due x }
-{
-    match x {
-        Terminal::Name(name) => named(alloc, SymSort::Static, name),
-        Terminal::Def => Advance::Goes(0, CommandSoFar::NameDue(SymSort::Definable)),
-        Terminal::Thm => Advance::Goes(0, CommandSoFar::NameDue(SymSort::Theorem)),
-        Terminal::Sign(Sign::OpenBrace) => {
-            Advance::Goes(0, CommandSoFar::RuleNameDue(RuleHead::new(alloc)))
+    /// Takes a terminal.
+    #[tactic(auto, using(crate::proofs::Advanced::more_advanced, crate::proofs::Advanced::end_advanced))]
+    pub fn next(&mut self, alloc: Global, x: Terminal) -> Result<Advance, NoMemory>
+        ensures { IfOk result (λ step. plain_step step self.new
+            ≡ advanced (plain_command self.old) x) }
+    {
+        if self.is_in_term(&x) {
+            return self.term_more(alloc, x);
         }
-        Terminal::Sign(Sign::OpenSquare) => {
-            Advance::Goes(0, CommandSoFar::ContextDue(RuleHead::new(alloc)))
-        }
-        x => {
-            drop(x);
-            Advance::Refuses
+        match replace(&mut self.due, Due::Command) {
+            Due::Command => Ok(self.command_next(alloc, x)),
+            Due::Name(sort) => Ok(self.name_next(alloc, sort, x)),
+            Due::Head => self.head_next(alloc, x),
+            Due::Binder => self.binder_next(x),
+            Due::BinderColon(binder) => self.binder_colon_next(alloc, binder, x),
+            Due::RuleName => Ok(self.rule_name_next(x)),
+            Due::RuleBrace => Ok(self.rule_brace_next(x)),
+            Due::Square => Ok(self.square_next(x)),
+            Due::Context => Ok(self.context_next(alloc, x)),
+            Due::Entry => Ok(self.entry_next(x)),
+            Due::EntryNamed(name) => self.named_next(alloc, name, x),
+            Due::Left => self.left_next(alloc, x),
+            Due::Term(purpose) => self.term_end(alloc, purpose, x),
         }
     }
-}
 
-fn in_term_next(
-    alloc: Global,
-    purpose: Purpose,
-    part: TermSoFar,
-    x: Terminal,
-) -> Result<Advance, NoMemory>
-    ensures { IfOk result (λ step. plain_step step
-        ≡ in_term_next (takes (plain_term part) x) (plain_purpose purpose) (plain_term part) x) }
-{
-    if part.takes(&x) {
-        let argument = part.argument(&x);
-        match part.next(alloc, x) {
-            Ok(next) => Ok(term_goes(purpose, argument, next)),
-            Err(e) => {
-                drop(purpose);
-                Err(e)
+    // Whether a term is being read that takes this terminal.
+    fn is_in_term(&self, x: &Terminal) -> bool
+        ensures { result ≡ is_in_term self.now.due (takes (plain_term self.now.term) x.now) }
+    {
+        match self.due {
+            Due::Term(_) => self.term.takes(x),
+            _ => false,
+        }
+    }
+
+    // Goes on where this is due.
+    pub(crate) fn goes(&mut self, made: u64, due: Due) -> Advance
+        ensures { plain_step result self.new ≡ plain.goes made (plain_due self.old due) }
+    {
+        self.due = due;
+        Advance::Goes(made)
+    }
+
+    // Goes on with a term on this level.
+    pub(crate) fn goes_into(&mut self, alloc: Global, level: u64, purpose: Purpose) -> Advance
+        ensures { plain_step result self.new ≡ plain.goes level
+            (plain.in_term (plain_purpose self.old purpose) (plain.term_due level)) }
+    {
+        self.term.begin(alloc, level);
+        self.goes(level, Due::Term(purpose))
+    }
+
+    // The first terminal of a command.
+    fn command_next(&mut self, alloc: Global, x: Terminal) -> Advance
+        ensures { plain_step result self.new ≡ advanced plain.command_due x }
+    {
+        match x {
+            Terminal::Name(name) => self.named(alloc, SymSort::Static, name),
+            Terminal::Def => self.goes(0, Due::Name(SymSort::Definable)),
+            Terminal::Thm => self.goes(0, Due::Name(SymSort::Theorem)),
+            Terminal::Sign(Sign::OpenBrace) => {
+                self.rules = RuleHead::new(alloc);
+                self.goes(0, Due::RuleName)
             }
-        }
-    } else {
-        match part.done(alloc) {
-            Ok(term) => term_ends(alloc, purpose, x, term),
-            Err(e) => {
-                drop(purpose);
-                drop(x);
-                Err(e)
+            Terminal::Sign(Sign::OpenSquare) => {
+                self.rules = RuleHead::new(alloc);
+                self.goes(0, Due::Context)
             }
+            _ => Advance::Refuses,
         }
     }
-}
 
-fn term_goes(purpose: Purpose, argument: u64, part: Option<TermSoFar>) -> Advance
-    ensures { plain_step result
-        ≡ term_goes (plain_purpose purpose) argument (option_map plain_term part) }
-{
-    match part {
-        Some(part) => Advance::Goes(
-            part.frames.depth().max(argument),
-            CommandSoFar::InTerm(purpose, part),
-        ),
-        None => {
-            drop(purpose);
-            Advance::Refuses
-        }
-    }
-}
-
-fn term_ends(
-    alloc: Global,
-    purpose: Purpose,
-    x: Terminal,
-    term: Option<RawTerm>,
-) -> Result<Advance, NoMemory>
-    ensures { IfOk result (λ step. plain_step step
-        ≡ term_ends (plain_purpose purpose) x (maybe_written term)) }
-{
-    match term {
-        Some(term) => behind_term(alloc, purpose, term, x),
-        None => {
-            drop(purpose);
-            drop(x);
+    // One terminal more of a term.
+    fn term_more(&mut self, alloc: Global, x: Terminal) -> Result<Advance, NoMemory>
+        ensures { IfOk result (λ step. (purpose : Purpose) → self.old.due ≡ Due.Term purpose →
+            plain_step step self.new ≡ term_goes (plain_purpose self.old purpose)
+            (term_argument (plain_term self.old.term) x) (term_next (plain_term self.old.term) x)) }
+    {
+        let argument = self.term.argument(&x);
+        if self.term.next(alloc, x)? {
+            Ok(Advance::Goes(self.term.depth()?.max(argument)))
+        } else {
             Ok(Advance::Refuses)
         }
     }
-}
 
-// A terminal behind a whole term.
-fn behind_term(
-    alloc: Global,
-    purpose: Purpose,
-    term: RawTerm,
-    x: Terminal,
-) -> Result<Advance, NoMemory>
-    ensures { IfOk result (λ step. plain_step step
-        ≡ behind_term (plain_purpose purpose) (written term) x) }
-{
-    match purpose {
-        Purpose::Param(head, binder) => param_read(head, binder, term, x),
-        Purpose::Type(head) => Ok(type_read(head, term, x)),
-        Purpose::Body(head, typ) => Ok(body_read(head, typ, term, x)),
-        Purpose::Entry(head, name) => entry_read(head, name, Some(term), x),
-        Purpose::Guard(head, part) => guard_read(alloc, head, part, term, x),
-        Purpose::Right(head, left) => rule_read(alloc, head, left, term, x),
+    // What ends a term, where it may end here.
+    fn term_end(
+        &mut self,
+        alloc: Global,
+        purpose: Purpose,
+        x: Terminal,
+    ) -> Result<Advance, NoMemory>
+        ensures { IfOk result (λ step. plain_step step self.new
+            ≡ term_ends (plain_purpose self.old purpose) x (term_done (plain_term self.old.term))) }
+    {
+        match self.term.done(alloc)? {
+            Some(term) => self.behind_term(alloc, purpose, term, x),
+            None => Ok(Advance::Refuses),
+        }
+    }
+
+    // A terminal behind a whole term.
+    fn behind_term(
+        &mut self,
+        alloc: Global,
+        purpose: Purpose,
+        term: RawTerm,
+        x: Terminal,
+    ) -> Result<Advance, NoMemory>
+        ensures { IfOk result (λ step. plain_step step self.new
+            ≡ behind_term (plain_purpose self.old purpose) (written term) x) }
+    {
+        match purpose {
+            Purpose::Param(binder) => self.param_read(binder, term, x),
+            Purpose::Type => Ok(self.type_read(alloc, term, x)),
+            Purpose::Body(typ) => Ok(self.body_read(alloc, typ, term, x)),
+            Purpose::Entry(name) => self.entry_read(alloc, name, Some(term), x),
+            Purpose::Guard => self.guard_read(alloc, term, x),
+            Purpose::Right(left) => self.rule_read(alloc, left, term, x),
+        }
     }
 }

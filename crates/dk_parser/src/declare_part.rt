@@ -6,227 +6,186 @@ ghost use Rattle.dk_parser.specs.Views.{plain_head, plain_step};
 ghost use Rattle.dk_parser.specs.RawViews.{maybe_written, written};
 
 use crate::RawTerm;
-use crate::command_so_far::{Advance, CommandSoFar, Purpose};
+use crate::command_so_far::{Advance, CommandSoFar, Due, Purpose};
+use crate::frames::next;
 use crate::head::Head;
-use crate::term_so_far::TermSoFar;
 use crate::terminal::Terminal;
 use dk_lexer::Sign;
 use dk_model::{Listed, NoMemory, SymSort};
 use std::alloc::Global;
+use std::mem::replace;
 
-/// The name of a definition or a theorem.
-pub fn name_next(alloc: Global, sort: SymSort, x: Terminal) -> Advance
-    ensures { plain_step result ≡ advanced (plain.name_due sort) x }
-{
-    match x {
-        Terminal::Name(name) => named(alloc, sort, name),
-        x => {
-            drop(x);
-            Advance::Refuses
+impl CommandSoFar {
+    // The name of a definition or a theorem.
+    pub(crate) fn name_next(&mut self, alloc: Global, sort: SymSort, x: Terminal) -> Advance
+        ensures { plain_step result self.new ≡ advanced (plain.name_due sort) x }
+    {
+        match x {
+            Terminal::Name(name) => self.named(alloc, sort, name),
+            _ => Advance::Refuses,
         }
     }
-}
 
-/// Behind the name of a declaration.
-pub fn named(alloc: Global, sort: SymSort, name: Listed<u8>) -> Advance
-    ensures { plain_step result ≡ named sort name }
-{
-    Advance::Goes(0, CommandSoFar::HeadDue(Head::new(alloc, sort, name)))
-}
+    // Behind the name of a declaration.
+    pub(crate) fn named(&mut self, alloc: Global, sort: SymSort, name: Listed<u8>) -> Advance
+        ensures { plain_step result self.new ≡ named sort name }
+    {
+        self.head = Head::new(alloc, sort, name);
+        self.goes(0, Due::Head)
+    }
 
-// One level more than this.
-fn deeper(level: u64) -> Result<u64, NoMemory>
-    ensures { IfOk result (λ next. next ≡ level + 1) }
-{
-    level.checked_add(1).ok_or(NoMemory)
-}
-
-/// A parameter, the colon, or `:=`.
-pub fn head_next(head: Head, x: Terminal) -> Result<Advance, NoMemory>
-    ensures { IfOk result (λ step. plain_step step ≡ head_next (plain_head head) x) }
-{
-    let level = head.level();
-    match x {
-        Terminal::Sign(Sign::OpenBracket) => {
-            Ok(Advance::Goes(deeper(level)?, CommandSoFar::BinderDue(head)))
-        }
-        Terminal::Sign(Sign::Colon) => Ok(Advance::Goes(
-            level,
-            CommandSoFar::InTerm(Purpose::Type(head), TermSoFar::new(level)),
-        )),
-        Terminal::Sign(Sign::Defined) => Ok(body_behind_head(head)),
-        x => {
-            drop(x);
-            drop(head);
-            Ok(Advance::Refuses)
+    // A parameter, the colon, or `:=`.
+    pub(crate) fn head_next(&mut self, alloc: Global, x: Terminal) -> Result<Advance, NoMemory>
+        ensures { IfOk result (λ step. plain_step step self.new
+            ≡ head_next (plain_head self.old.head) x) }
+    {
+        let level = self.head.level();
+        match x {
+            Terminal::Sign(Sign::OpenBracket) => Ok(self.goes(next(level)?, Due::Binder)),
+            Terminal::Sign(Sign::Colon) => Ok(self.goes_into(alloc, level, Purpose::Type)),
+            Terminal::Sign(Sign::Defined) => Ok(self.body_behind_head(alloc)),
+            _ => Ok(Advance::Refuses),
         }
     }
-}
 
-/// The binder of a parameter.
-pub fn binder_next(head: Head, x: Terminal) -> Result<Advance, NoMemory>
-    ensures { IfOk result (λ step. plain_step step
-        ≡ advanced (plain.binder_due (plain_head head)) x) }
-{
-    match x {
-        Terminal::Name(name) => binder_named(head, Some(name)),
-        Terminal::Wildcard => binder_named(head, None),
-        x => {
-            drop(x);
-            drop(head);
-            Ok(Advance::Refuses)
+    // The binder of a parameter.
+    pub(crate) fn binder_next(&mut self, x: Terminal) -> Result<Advance, NoMemory>
+        ensures { IfOk result (λ step. plain_step step self.new
+            ≡ advanced (plain.binder_due (plain_head self.old.head)) x) }
+    {
+        match x {
+            Terminal::Name(name) => self.binder_named(Some(name)),
+            Terminal::Wildcard => self.binder_named(None),
+            _ => Ok(Advance::Refuses),
         }
     }
-}
 
-fn binder_named(head: Head, binder: Option<Listed<u8>>) -> Result<Advance, NoMemory>
-    ensures { IfOk result (λ step. plain_step step ≡ binder_named (plain_head head) binder) }
-{
-    let level = deeper(head.level())?;
-    Ok(Advance::Goes(level, CommandSoFar::BinderColonDue(head, binder)))
-}
+    fn binder_named(&mut self, binder: Option<Listed<u8>>) -> Result<Advance, NoMemory>
+        ensures { IfOk result (λ step. plain_step step self.new
+            ≡ binder_named (plain_head self.old.head) binder) }
+    {
+        let level = next(self.head.level())?;
+        Ok(self.goes(level, Due::BinderColon(binder)))
+    }
 
-/// The colon behind it.
-pub fn binder_colon_next(
-    head: Head,
-    binder: Option<Listed<u8>>,
-    x: Terminal,
-) -> Result<Advance, NoMemory>
-    ensures { IfOk result (λ step. plain_step step
-        ≡ advanced (plain.binder_colon_due (plain_head head) binder) x) }
-{
-    match x {
-        Terminal::Sign(Sign::Colon) => param_due(head, binder),
-        x => {
-            drop(x);
-            drop(head);
-            Ok(Advance::Refuses)
+    // The colon behind a binder.
+    pub(crate) fn binder_colon_next(
+        &mut self,
+        alloc: Global,
+        binder: Option<Listed<u8>>,
+        x: Terminal,
+    ) -> Result<Advance, NoMemory>
+        ensures { IfOk result (λ step. plain_step step self.new
+            ≡ advanced (plain.binder_colon_due (plain_head self.old.head) binder) x) }
+    {
+        match x {
+            Terminal::Sign(Sign::Colon) => {
+                let level = next(self.head.level())?;
+                Ok(self.goes_into(alloc, level, Purpose::Param(binder)))
+            }
+            _ => Ok(Advance::Refuses),
         }
     }
-}
 
-// Behind the colon of a parameter.
-fn param_due(head: Head, binder: Option<Listed<u8>>) -> Result<Advance, NoMemory>
-    ensures { IfOk result (λ step. plain_step step
-        ≡ advanced (plain.binder_colon_due (plain_head head) binder) (Terminal.Sign Sign.Colon)) }
-{
-    let level = deeper(head.level())?;
-    Ok(Advance::Goes(
-        level,
-        CommandSoFar::InTerm(Purpose::Param(head, binder), TermSoFar::new(level)),
-    ))
-}
+    // Behind `:=`.
+    fn body_due(&mut self, alloc: Global, typ: Option<RawTerm>) -> Advance
+        ensures { plain_step result self.new
+            ≡ body_due (plain_head self.old.head) (maybe_written typ) }
+    {
+        let level = self.head.level();
+        self.goes_into(alloc, level, Purpose::Body(typ))
+    }
 
-// Behind `:=`.
-fn body_due(head: Head, typ: Option<RawTerm>) -> Advance
-    ensures { plain_step result ≡ body_due (plain_head head) (maybe_written typ) }
-{
-    let level = head.level();
-    Advance::Goes(
-        level,
-        CommandSoFar::InTerm(Purpose::Body(head, typ), TermSoFar::new(level)),
-    )
-}
-
-fn body_behind_head(head: Head) -> Advance
-    ensures { plain_step result ≡ body_behind_head head.sort (plain_head head) }
-{
-    match head.sort {
-        SymSort::Definable => body_due(head, None),
-        _ => {
-            drop(head);
-            Advance::Refuses
+    // `:=` behind the name and the parameters.
+    fn body_behind_head(&mut self, alloc: Global) -> Advance
+        ensures { plain_step result self.new
+            ≡ body_behind_head self.old.head.sort (plain_head self.old.head) }
+    {
+        match self.head.sort {
+            SymSort::Definable => self.body_due(alloc, None),
+            _ => Advance::Refuses,
         }
     }
-}
 
-fn body_behind_type(head: Head, typ: RawTerm) -> Advance
-    ensures { plain_step result ≡ body_behind_type head.sort (plain_head head) (written typ) }
-{
-    match head.sort {
-        SymSort::Static => {
-            drop(head);
-            drop(typ);
-            Advance::Refuses
-        }
-        _ => body_due(head, Some(typ)),
-    }
-}
-
-fn dot_behind_type(head: Head, typ: RawTerm) -> Advance
-    ensures { plain_step result ≡ dot_behind_type head.sort (plain_head head) (written typ) }
-{
-    match head.sort {
-        SymSort::Theorem => {
-            drop(head);
-            drop(typ);
-            Advance::Refuses
-        }
-        _ => Advance::Ends(head.declared(Some(typ), None)),
-    }
-}
-
-/// A terminal behind the type of a parameter.
-pub fn param_read(
-    head: Head,
-    binder: Option<Listed<u8>>,
-    typ: RawTerm,
-    x: Terminal,
-) -> Result<Advance, NoMemory>
-    ensures { IfOk result (λ step. plain_step step
-        ≡ behind_term (plain.as_param (plain_head head) binder) (written typ) x) }
-{
-    match x {
-        Terminal::Sign(Sign::CloseBracket) => param_closed(head, binder, typ),
-        x => {
-            drop(x);
-            drop(head);
-            drop(typ);
-            Ok(Advance::Refuses)
+    // `:=` behind the type.
+    fn body_behind_type(&mut self, alloc: Global, typ: RawTerm) -> Advance
+        ensures { plain_step result self.new
+            ≡ body_behind_type self.old.head.sort (plain_head self.old.head) (written typ) }
+    {
+        match self.head.sort {
+            SymSort::Static => Advance::Refuses,
+            _ => self.body_due(alloc, Some(typ)),
         }
     }
-}
 
-/// A terminal behind the type of a declaration.
-pub fn type_read(head: Head, typ: RawTerm, x: Terminal) -> Advance
-    ensures { plain_step result ≡ behind_term (plain.as_type (plain_head head)) (written typ) x }
-{
-    match x {
-        Terminal::Sign(Sign::Dot) => dot_behind_type(head, typ),
-        Terminal::Sign(Sign::Defined) => body_behind_type(head, typ),
-        x => {
-            drop(x);
-            drop(head);
-            drop(typ);
-            Advance::Refuses
+    // The dot behind the type.
+    fn dot_behind_type(&mut self, alloc: Global, typ: RawTerm) -> Advance
+        ensures { plain_step result self.new
+            ≡ dot_behind_type self.old.head.sort (plain_head self.old.head) (written typ) }
+    {
+        match self.head.sort {
+            SymSort::Theorem => Advance::Refuses,
+            _ => Advance::Ends(self.taken_head(alloc).declared(Some(typ), None)),
         }
     }
-}
 
-/// A terminal behind a body.
-pub fn body_read(head: Head, typ: Option<RawTerm>, body: RawTerm, x: Terminal) -> Advance
-    ensures { plain_step result
-        ≡ behind_term (plain.as_body (plain_head head) (maybe_written typ)) (written body) x }
-{
-    match x {
-        Terminal::Sign(Sign::Dot) => Advance::Ends(head.declared(typ, Some(body))),
-        x => {
-            drop(x);
-            drop(head);
-            drop(typ);
-            drop(body);
-            Advance::Refuses
+    // The head, taken out.
+    fn taken_head(&mut self, alloc: Global) -> Head
+        ensures { result ≡ self.old.head }
+    {
+        let none = Head::new(alloc, SymSort::Static, Listed::new(alloc));
+        replace(&mut self.head, none)
+    }
+
+    // A terminal behind the type of a parameter.
+    pub(crate) fn param_read(
+        &mut self,
+        binder: Option<Listed<u8>>,
+        typ: RawTerm,
+        x: Terminal,
+    ) -> Result<Advance, NoMemory>
+        ensures { IfOk result (λ step. plain_step step self.new
+            ≡ behind_term (plain.as_param (plain_head self.old.head) binder) (written typ) x) }
+    {
+        match x {
+            Terminal::Sign(Sign::CloseBracket) => {
+                let level = next(self.head.level())?;
+                self.head.param(binder, typ)?;
+                Ok(self.goes(level, Due::Head))
+            }
+            _ => Ok(Advance::Refuses),
         }
     }
-}
 
-// Behind a parameter.
-fn param_closed(head: Head, binder: Option<Listed<u8>>, typ: RawTerm) -> Result<Advance, NoMemory>
-    ensures { IfOk result (λ step. plain_step step
-        ≡ behind_term (plain.as_param (plain_head head) binder) (written typ)
-        (Terminal.Sign Sign.CloseBracket)) }
-{
-    let level = deeper(head.level())?;
-    let head = head.with_param(binder, typ)?;
-    Ok(Advance::Goes(level, CommandSoFar::HeadDue(head)))
+    // A terminal behind the type of a declaration.
+    pub(crate) fn type_read(&mut self, alloc: Global, typ: RawTerm, x: Terminal) -> Advance
+        ensures { plain_step result self.new
+            ≡ behind_term (plain.as_type (plain_head self.old.head)) (written typ) x }
+    {
+        match x {
+            Terminal::Sign(Sign::Dot) => self.dot_behind_type(alloc, typ),
+            Terminal::Sign(Sign::Defined) => self.body_behind_type(alloc, typ),
+            _ => Advance::Refuses,
+        }
+    }
+
+    // A terminal behind a body.
+    pub(crate) fn body_read(
+        &mut self,
+        alloc: Global,
+        typ: Option<RawTerm>,
+        body: RawTerm,
+        x: Terminal,
+    ) -> Advance
+        ensures { plain_step result self.new
+            ≡ behind_term (plain.as_body (plain_head self.old.head) (maybe_written typ))
+            (written body) x }
+    {
+        match x {
+            Terminal::Sign(Sign::Dot) => {
+                Advance::Ends(self.taken_head(alloc).declared(typ, Some(body)))
+            }
+            _ => Advance::Refuses,
+        }
+    }
 }

@@ -1,5 +1,5 @@
 //! The head of a declaration: what stands before its colon.
-ghost use Rattle.std.specs.Prelude.{◌≡◌, [], IfOk};
+ghost use Rattle.std.specs.Prelude.{◌≡◌, [], OnOk};
 ghost use Rattle.dk_parser.specs.Parsing.{level_behind, with_param};
 ghost use Rattle.dk_parser.specs.Views.{plain_head};
 ghost use Rattle.dk_parser.specs.Written.{written_declare};
@@ -36,18 +36,12 @@ impl Head {
         self.params.len() as u64
     }
 
-    /// With a parameter more.
-    pub fn with_param(self, binder: Option<Listed<u8>>, typ: RawTerm) -> Result<Head, NoMemory>
-        ensures { IfOk result (λ h. plain_head h
-            ≡ with_param (plain_head self) binder (written typ)) }
+    /// Adds a parameter.
+    pub fn param(&mut self, binder: Option<Listed<u8>>, typ: RawTerm) -> Result<(), NoMemory>
+        ensures { OnOk result (plain_head self.new
+            ≡ with_param (plain_head self.old) binder (written typ)) }
     {
-        let Head {
-            sort,
-            name,
-            mut params,
-        } = self;
-        params.push(RawParam { binder, typ })?;
-        Ok(Head { sort, name, params })
+        self.params.push(RawParam { binder, typ })
     }
 
     /// The declaration with this type and this body.

@@ -1,14 +1,15 @@
 //! What has been read of an application of patterns.
-ghost use Rattle.std.specs.Prelude.{◌≡◌, ◌+◌, IfOk};
+ghost use Rattle.std.specs.Prelude.{◌≡◌, IfOk, OnOk};
 ghost use Rattle.dk_parser.specs.Parsing.{binder_pattern, pattern_atoms, pattern_binder, pattern_more, left_pattern};
-ghost use Rattle.dk_parser.specs.Parsing as plain;
 ghost use Rattle.dk_parser.specs.Views.{maybe_pattern, plain_left_application};
 ghost use Rattle.dk_parser.specs.Written.{pattern_apply};
 ghost use Rattle.dk_parser.specs.RawViews.{written_pattern};
 
 use crate::RawPat;
+use crate::frames::next;
 use dk_model::{Listed, NoMemory};
 use std::alloc::Global;
+use std::mem::replace;
 
 /// What has been read of an application of patterns.
 #[derive(Drop)]
@@ -53,31 +54,33 @@ impl LeftApplication {
     }
 
     /// Adds an atom.
-    pub fn more(self, alloc: Global, p: RawPat) -> Result<LeftApplication, NoMemory>
-        ensures { IfOk result (λ application. plain_left_application application
-            ≡ pattern_more (plain_left_application self) (written_pattern p)) }
+    pub fn more(&mut self, alloc: Global, p: RawPat) -> Result<(), NoMemory>
+        ensures { OnOk result (plain_left_application self.new
+            ≡ pattern_more (plain_left_application self.old) (written_pattern p)) }
     {
-        match self {
-            LeftApplication::Due => Ok(LeftApplication::Applied(p, 1)),
+        *self = match replace(self, LeftApplication::Due) {
+            LeftApplication::Due => LeftApplication::Applied(p, 1),
             LeftApplication::Bindable(binder) => {
-                let f = apply(alloc, binder_pattern(binder), p)?;
-                Ok(LeftApplication::Applied(f, 2))
+                LeftApplication::Applied(apply(alloc, binder_pattern(binder), p)?, 2)
             }
-            LeftApplication::Applied(f, n) => applied(alloc, f, n, p),
-        }
+            LeftApplication::Applied(f, n) => {
+                let n = next(n)?;
+                LeftApplication::Applied(apply(alloc, f, p)?, n)
+            }
+        };
+        Ok(())
     }
 
     /// Adds a name or a wildcard.
-    pub fn binder(
-        self,
-        alloc: Global,
-        binder: Option<Listed<u8>>,
-    ) -> Result<LeftApplication, NoMemory>
-        ensures { IfOk result (λ application. plain_left_application application
-            ≡ pattern_binder (plain_left_application self) binder) }
+    pub fn binder(&mut self, alloc: Global, binder: Option<Listed<u8>>) -> Result<(), NoMemory>
+        ensures { OnOk result (plain_left_application self.new
+            ≡ pattern_binder (plain_left_application self.old) binder) }
     {
         match self {
-            LeftApplication::Due => Ok(LeftApplication::Bindable(binder)),
+            LeftApplication::Due => {
+                *self = LeftApplication::Bindable(binder);
+                Ok(())
+            }
             application => application.more(alloc, binder_pattern(binder)),
         }
     }
@@ -90,24 +93,6 @@ impl LeftApplication {
             LeftApplication::Due => None,
             LeftApplication::Bindable(binder) => Some(binder_pattern(binder)),
             LeftApplication::Applied(p, _) => Some(p),
-        }
-    }
-}
-
-// An application with one argument more.
-fn applied(alloc: Global, f: RawPat, n: u64, p: RawPat) -> Result<LeftApplication, NoMemory>
-    ensures { IfOk result (λ application. plain_left_application application
-        ≡ plain.pattern_applied (pattern_apply (written_pattern f) (written_pattern p)) (n + 1)) }
-{
-    match n.checked_add(1) {
-        Some(n) => {
-            let f = apply(alloc, f, p)?;
-            Ok(LeftApplication::Applied(f, n))
-        }
-        None => {
-            drop(f);
-            drop(p);
-            Err(NoMemory)
         }
     }
 }

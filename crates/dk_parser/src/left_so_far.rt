@@ -1,38 +1,37 @@
 //! Left sides of rules, one terminal at a time; their guards are read as terms.
-ghost use Rattle.std.specs.Prelude.{◌≡◌, ◌+◌, IfOk, Some, option_map};
-ghost use Rattle.dk_parser.specs.Parsing.{left_due, pattern_argument, pattern_bound, pattern_closed, pattern_depth, pattern_done, pattern_next, pattern_opened, left_pattern, under_binders, with_atom, with_binder};
+ghost use Rattle.std.specs.Prelude.{◌≡◌, IfOk, List, Option, OnOk, ℕ};
+ghost use Rattle.dk_parser.specs.Parsing.{left_due, pattern_argument, pattern_atoms, pattern_bound, pattern_closed, pattern_depth, pattern_done, pattern_next, pattern_opened, left_pattern, under_binders, with_atom, with_binder};
 ghost use Rattle.dk_parser.specs.Parsing as plain;
-ghost use Rattle.dk_parser.specs.Views.{maybe_pattern, plain_binders, plain_pattern, plain_pattern_frames, plain_left_application};
+ghost use Rattle.dk_parser.specs.Views.{changed, maybe_pattern, plain_binders, plain_left};
 ghost use Rattle.dk_parser.specs.Written.{pattern_bare};
 ghost use Rattle.dk_parser.specs.RawViews.{written_pattern};
 
 use crate::RawPat;
+use crate::frames::next;
 use crate::left_application::LeftApplication;
 use crate::terminal::Terminal;
 use dk_lexer::Sign;
 use dk_model::{Listed, NoMemory};
 use std::alloc::Global;
+use std::mem::replace;
 
-/// The binders of a pattern in brackets, the innermost first.
+/// An open bracket of a left side.
 #[derive(Drop)]
-pub enum Binders {
-    NoBinders,
-    BinderOn(Option<Listed<u8>>, Box<Binders>),
-}
-
-/// The brackets that are open, the innermost first, each with the level in it, what stood before
-/// it and its binders.
-#[derive(Drop)]
-pub enum PatternFrames {
-    NoBracket,
-    BracketOn(u64, LeftApplication, Binders, Box<PatternFrames>),
+pub struct PatternFrame {
+    // The level in it.
+    level: u64,
+    // What stood before it.
+    before: LeftApplication,
+    // The outermost first.
+    binders: Listed<Option<Listed<u8>>>,
 }
 
 /// A left side that has begun.
 #[derive(Drop)]
 pub struct LeftSoFar {
-    pub frames: PatternFrames,
-    pub application: LeftApplication,
+    // The outermost first.
+    frames: Listed<PatternFrame>,
+    application: LeftApplication,
 }
 
 fn bare(alloc: Global, binder: Option<Listed<u8>>, p: RawPat) -> Result<RawPat, NoMemory>
@@ -42,68 +41,61 @@ fn bare(alloc: Global, binder: Option<Listed<u8>>, p: RawPat) -> Result<RawPat, 
     Ok(RawPat::Abs(binder, p))
 }
 
-fn next(n: u64) -> Result<u64, NoMemory>
-    ensures { IfOk result (λ next. next ≡ n + 1) }
+// A pattern under these binders.
+#[tactic(auto, using(crate::proofs::Pushed::under_more))]
+fn under(alloc: Global, binders: Listed<Option<Listed<u8>>>, p: RawPat) -> Result<RawPat, NoMemory>
+    ensures { IfOk result (λ q. written_pattern q
+        ≡ under_binders (plain_binders binders) (written_pattern p)) }
 {
-    match n.checked_add(1) {
-        Some(next) => Ok(next),
-        None => Err(NoMemory),
+    let mut binders = binders;
+    let mut pattern = p;
+    while let Some(binder) = binders.pop() {
+        pattern = bare(alloc, binder, pattern)?;
     }
-}
-
-impl Binders {
-    // A pattern under these binders. Recurses once for each.
-    fn around(self, alloc: Global, p: RawPat) -> Result<RawPat, NoMemory>
-        ensures { IfOk result (λ q. written_pattern q
-            ≡ under_binders (plain_binders self) (written_pattern p)) }
-    {
-        match self {
-            Binders::NoBinders => Ok(p),
-            Binders::BinderOn(binder, rest) => match bare(alloc, binder, p) {
-                Ok(p) => Box::into_inner(rest).around(alloc, p),
-                Err(e) => {
-                    drop(rest);
-                    Err(e)
-                }
-            },
-        }
-    }
-
-    fn more(self, alloc: Global, binder: Option<Listed<u8>>) -> Result<Binders, NoMemory>
-        ensures { IfOk result (λ vs. plain_binders vs
-            ≡ plain.binder_on binder (plain_binders self)) }
-    {
-        let rest = Box::new(alloc, self)?;
-        Ok(Binders::BinderOn(binder, rest))
-    }
-}
-
-impl PatternFrames {
-    /// The level within them.
-    pub fn depth(&self) -> u64
-        ensures { result ≡ pattern_depth (plain_pattern_frames self.now) }
-    {
-        match self {
-            PatternFrames::NoBracket => 0,
-            PatternFrames::BracketOn(depth, _, _, _) => *depth,
-        }
-    }
+    Ok(pattern)
 }
 
 impl LeftSoFar {
     /// Before the first terminal.
-    pub fn new() -> LeftSoFar
-        ensures { plain_pattern result ≡ left_due }
+    pub fn new(alloc: Global) -> LeftSoFar
+        ensures { plain_left result ≡ left_due }
     {
         LeftSoFar {
-            frames: PatternFrames::NoBracket,
+            frames: Listed::new(alloc),
             application: LeftApplication::Due,
         }
     }
 
+    /// Begins anew.
+    pub fn begin(&mut self, alloc: Global)
+        ensures { plain_left self.new ≡ left_due }
+    {
+        let mut frames = replace(&mut self.frames, Listed::new(alloc)).into_vec();
+        frames.clear();
+        self.frames = Listed::from_vec(frames);
+        self.application = LeftApplication::Due;
+    }
+
+    /// The level within the brackets.
+    pub fn depth(&self) -> u64
+        ensures { result ≡ pattern_depth (plain_left self.now).frames }
+    {
+        match self.frames.as_slice().split_last() {
+            Some((frame, _)) => frame.level,
+            None => 0,
+        }
+    }
+
+    /// The atoms of the innermost application.
+    pub fn atoms(&self) -> u64
+        ensures { result ≡ pattern_atoms (plain_left self.now).application }
+    {
+        self.application.atoms()
+    }
+
     /// The number of the argument that a terminal begins, from 1; 0 where it begins none.
     pub fn argument(&self, x: &Terminal) -> u64
-        ensures { result ≡ pattern_argument (plain_pattern self.now) x.now }
+        ensures { result ≡ pattern_argument (plain_left self.now) x.now }
     {
         match x {
             Terminal::Name(_) => self.application.atoms(),
@@ -114,241 +106,119 @@ impl LeftSoFar {
         }
     }
 
-    /// Takes a terminal that is in no guard, or answers None where the left side can't go on so.
-    pub fn next(self, alloc: Global, x: Terminal) -> Result<Option<LeftSoFar>, NoMemory>
-        ensures { IfOk result (λ next. option_map plain_pattern next
-            ≡ pattern_next (plain_pattern self) x) }
+    /// Takes a terminal that is in no guard, and says whether the left side can go on so.
+    pub fn next(&mut self, alloc: Global, x: Terminal) -> Result<bool, NoMemory>
+        ensures { IfOk result (λ goes. changed goes (plain_left self.new)
+            ≡ pattern_next (plain_left self.old) x) }
     {
         match x {
-            Terminal::Name(n) => Ok(Some(self.with_binder(alloc, Some(n))?)),
-            Terminal::Wildcard => Ok(Some(self.with_binder(alloc, None)?)),
-            Terminal::Qualified(m, n) => {
-                Ok(Some(self.with_atom(alloc, RawPat::Qualified(m, n))?))
+            Terminal::Name(n) => self.binder(alloc, Some(n))?,
+            Terminal::Wildcard => self.binder(alloc, None)?,
+            Terminal::Qualified(m, n) => self.atom(alloc, RawPat::Qualified(m, n))?,
+            Terminal::Sign(Sign::OpenBracket) => self.open(alloc)?,
+            Terminal::Sign(Sign::CloseBracket) => return self.close(alloc),
+            Terminal::Sign(Sign::DoubleArrow) => return self.bind(),
+            _ => return Ok(false),
+        }
+        Ok(true)
+    }
+
+    /// Another atom.
+    pub fn atom(&mut self, alloc: Global, p: RawPat) -> Result<(), NoMemory>
+        ensures { OnOk result (plain_left self.new
+            ≡ with_atom (plain_left self.old) (written_pattern p)) }
+    {
+        self.application.more(alloc, p)
+    }
+
+    fn binder(&mut self, alloc: Global, binder: Option<Listed<u8>>) -> Result<(), NoMemory>
+        ensures { OnOk result (plain_left self.new ≡ with_binder (plain_left self.old) binder) }
+    {
+        self.application.binder(alloc, binder)
+    }
+
+    fn open(&mut self, alloc: Global) -> Result<(), NoMemory>
+        ensures { OnOk result (plain_left self.new ≡ pattern_opened (plain_left self.old)) }
+    {
+        let level = next(self.depth())?;
+        let before = replace(&mut self.application, LeftApplication::Due);
+        self.frames.push(PatternFrame {
+            level,
+            before,
+            binders: Listed::new(alloc),
+        })?;
+        Ok(())
+    }
+
+    #[tactic(auto, using(crate::proofs::Pushed::closed_goes, crate::proofs::Pushed::closed_none))]
+    fn close(&mut self, alloc: Global) -> Result<bool, NoMemory>
+        ensures { IfOk result (λ goes. changed goes (plain_left self.new)
+            ≡ pattern_closed (plain_left self.old).frames
+            (left_pattern (plain_left self.old).application)) }
+    {
+        let last = replace(&mut self.application, LeftApplication::Due).pattern();
+        match (self.frames.pop(), last) {
+            (Some(frame), Some(p)) => {
+                let PatternFrame {
+                    level: _,
+                    before,
+                    binders,
+                } = frame;
+                let p = under(alloc, binders, p)?;
+                self.application = before;
+                self.atom(alloc, p)?;
+                Ok(true)
             }
-            Terminal::Sign(Sign::OpenBracket) => Ok(Some(self.opened(alloc)?)),
-            Terminal::Sign(Sign::CloseBracket) => self.closed(alloc),
-            Terminal::Sign(Sign::DoubleArrow) => self.bound(alloc),
-            x => {
-                drop(x);
-                drop(self);
-                Ok(None)
-            }
+            _ => Ok(false),
         }
     }
 
-    /// With an atom more.
-    pub fn with_atom(self, alloc: Global, p: RawPat) -> Result<LeftSoFar, NoMemory>
-        ensures { IfOk result (λ part. plain_pattern part
-            ≡ with_atom (plain_pattern self) (written_pattern p)) }
+    // A binder in brackets.
+    fn bind(&mut self) -> Result<bool, NoMemory>
+        ensures { IfOk result (λ goes. changed goes (plain_left self.new)
+            ≡ pattern_bound (plain_left self.old).frames (plain_left self.old).application) }
     {
-        let LeftSoFar {
-            frames,
-            application,
-        } = self;
-        match application.more(alloc, p) {
-            Ok(application) => Ok(LeftSoFar {
-                frames,
-                application,
-            }),
-            Err(e) => {
-                drop(frames);
-                Err(e)
-            }
+        match replace(&mut self.application, LeftApplication::Due) {
+            LeftApplication::Bindable(binder) => self.bind_in(binder),
+            LeftApplication::Due => Ok(false),
+            LeftApplication::Applied(_, _) => Ok(false),
         }
     }
 
-    fn with_binder(self, alloc: Global, binder: Option<Listed<u8>>) -> Result<LeftSoFar, NoMemory>
-        ensures { IfOk result (λ part. plain_pattern part
-            ≡ with_binder (plain_pattern self) binder) }
+    // This binder in the innermost bracket; a pattern is due behind it.
+    #[tactic(auto, using(crate::proofs::Pushed::bound_goes))]
+    fn bind_in(&mut self, binder: Option<Listed<u8>>) -> Result<bool, NoMemory>
+        ensures { IfOk result (λ goes. changed goes (plain_left self.new)
+            ≡ pattern_bound (plain_left self.old).frames (plain.pattern_bindable binder)) }
     {
-        let LeftSoFar {
-            frames,
-            application,
-        } = self;
-        match application.binder(alloc, binder) {
-            Ok(application) => Ok(LeftSoFar {
-                frames,
-                application,
-            }),
-            Err(e) => {
-                drop(frames);
-                Err(e)
-            }
-        }
-    }
-
-    fn opened(self, alloc: Global) -> Result<LeftSoFar, NoMemory>
-        ensures { IfOk result (λ part. plain_pattern part ≡ pattern_opened (plain_pattern self)) }
-    {
-        let LeftSoFar {
-            frames,
-            application,
-        } = self;
-        let depth = frames.depth();
-        frames_more(alloc, depth, application, Binders::NoBinders, frames)
-    }
-
-    fn closed(self, alloc: Global) -> Result<Option<LeftSoFar>, NoMemory>
-        ensures { IfOk result (λ part. option_map plain_pattern part
-            ≡ pattern_closed (plain_pattern self).frames (left_pattern (plain_pattern self).application)) }
-    {
-        let LeftSoFar {
-            frames,
-            application,
-        } = self;
-        match (frames, application.pattern()) {
-            (PatternFrames::BracketOn(_, application, binders, rest), Some(p)) => {
-                bracket_closed(alloc, application, binders, Box::into_inner(rest), p)
-            }
-            (frames, p) => {
-                drop(frames);
-                drop(p);
-                Ok(None)
-            }
-        }
-    }
-
-    fn bound(self, alloc: Global) -> Result<Option<LeftSoFar>, NoMemory>
-        ensures { IfOk result (λ part. option_map plain_pattern part
-            ≡ pattern_bound (plain_pattern self).frames (plain_pattern self).application) }
-    {
-        let LeftSoFar {
-            frames,
-            application,
-        } = self;
-        match (frames, application) {
-            (
-                PatternFrames::BracketOn(depth, before, binders, rest),
-                LeftApplication::Bindable(v),
-            ) => { binder_bound(alloc, depth, before, binders, Box::into_inner(rest), v) }
-            (frames, application) => {
-                drop(frames);
-                drop(application);
-                Ok(None)
-            }
-        }
+        self.application = LeftApplication::Due;
+        let Some(frame) = self.frames.pop() else {
+            return Ok(false);
+        };
+        let PatternFrame {
+            level,
+            before,
+            mut binders,
+        } = frame;
+        let level = next(level)?;
+        binders.push(binder)?;
+        self.frames.push(PatternFrame {
+            level,
+            before,
+            binders,
+        })?;
+        Ok(true)
     }
 
     /// The left side, where it may end here.
-    pub fn done(self) -> Option<RawPat>
-        ensures { maybe_pattern result ≡ pattern_done (plain_pattern self) }
+    #[tactic(auto, using(crate::proofs::Pushed::done_inside))]
+    pub fn done(&mut self) -> Option<RawPat>
+        ensures { maybe_pattern result ≡ pattern_done (plain_left self.old) }
     {
-        let LeftSoFar {
-            frames,
-            application,
-        } = self;
-        match frames {
-            PatternFrames::NoBracket => application.pattern(),
-            frames => {
-                drop(frames);
-                drop(application);
-                None
-            }
-        }
-    }
-}
-
-// A bracket closes behind this pattern.
-fn bracket_closed(
-    alloc: Global,
-    application: LeftApplication,
-    binders: Binders,
-    frames: PatternFrames,
-    p: RawPat,
-) -> Result<Option<LeftSoFar>, NoMemory>
-    ensures { IfOk result (λ part. option_map plain_pattern part
-        ≡ Some (with_atom
-        (record { frames = plain_pattern_frames frames; application = plain_left_application application })
-        (under_binders (plain_binders binders) (written_pattern p)))) }
-{
-    let part = LeftSoFar {
-        frames,
-        application,
-    };
-    match binders.around(alloc, p) {
-        Ok(p) => match part.with_atom(alloc, p) {
-            Ok(part) => Ok(Some(part)),
-            Err(e) => Err(e),
-        },
-        Err(e) => {
-            drop(part);
-            Err(e)
-        }
-    }
-}
-
-// A binder more in the innermost bracket.
-fn binder_bound(
-    alloc: Global,
-    depth: u64,
-    application: LeftApplication,
-    binders: Binders,
-    rest: PatternFrames,
-    binder: Option<Listed<u8>>,
-) -> Result<Option<LeftSoFar>, NoMemory>
-    ensures { IfOk result (λ part. option_map plain_pattern part
-        ≡ Some (record {
-          frames = plain.bracket_on (depth + 1) (plain_left_application application)
-              (plain.binder_on binder (plain_binders binders)) (plain_pattern_frames rest);
-          application = plain.pattern_due;
-        })) }
-{
-    match binders.more(alloc, binder) {
-        Ok(binders) => match frames_more(alloc, depth, application, binders, rest) {
-            Ok(part) => Ok(Some(part)),
-            Err(e) => Err(e),
-        },
-        Err(e) => {
-            drop(application);
-            drop(rest);
-            Err(e)
-        }
-    }
-}
-
-// A bracket on these frames, one level deeper than this.
-fn frames_more(
-    alloc: Global,
-    depth: u64,
-    application: LeftApplication,
-    binders: Binders,
-    rest: PatternFrames,
-) -> Result<LeftSoFar, NoMemory>
-    ensures { IfOk result (λ part. plain_pattern part
-        ≡ record {
-          frames = plain.bracket_on (depth + 1) (plain_left_application application)
-              (plain_binders binders) (plain_pattern_frames rest);
-          application = plain.pattern_due;
-        }) }
-{
-    match bracket_on(alloc, depth, application, binders, rest) {
-        Ok(frames) => Ok(LeftSoFar {
-            frames,
-            application: LeftApplication::Due,
-        }),
-        Err(e) => Err(e),
-    }
-}
-
-fn bracket_on(
-    alloc: Global,
-    depth: u64,
-    application: LeftApplication,
-    binders: Binders,
-    rest: PatternFrames,
-) -> Result<PatternFrames, NoMemory>
-    ensures { IfOk result (λ frames. plain_pattern_frames frames
-        ≡ plain.bracket_on (depth + 1) (plain_left_application application) (plain_binders binders)
-        (plain_pattern_frames rest)) }
-{
-    match (next(depth), Box::new(alloc, rest)) {
-        (Ok(depth), Ok(rest)) => Ok(PatternFrames::BracketOn(depth, application, binders, rest)),
-        (depth, rest) => {
-            drop(depth);
-            drop(rest);
-            drop(application);
-            drop(binders);
-            Err(NoMemory)
+        let last = replace(&mut self.application, LeftApplication::Due);
+        match self.frames.pop() {
+            None => last.pattern(),
+            Some(_) => None,
         }
     }
 }

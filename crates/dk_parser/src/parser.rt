@@ -1,21 +1,19 @@
 //! The parser: commands from tokens, one token at a time.
-ghost use Rattle.std.specs.Prelude.{◌≡◌, [], ◌∷◌, ◌++◌, ◌↔◌, List, IfOk, Err, Ok, None, Some};
+ghost use Rattle.std.specs.Prelude.{◌≡◌, [], ◌∷◌, ◌++◌, List, Err, Some};
 ghost use Rattle.dk_lexer.specs.declared.token.Token.{Token};
 ghost use Rattle.dk_model.specs.declared.code.Fault.{Fault};
 ghost use Rattle.dk_model.specs.declared.limits.Limits.{Limits};
-ghost use Rattle.dk_parser.specs.declared.parser.Step.{Step};
-ghost use Rattle.dk_parser.specs.Parsing.{parsing_after, advanced, turn, turn_by_step};
+ghost use Rattle.dk_parser.specs.Parsing.{advanced, turn, turn_by_step};
 ghost use Rattle.dk_parser.specs.Parsing as plain;
 ghost use Rattle.dk_parser.specs.Steps.{AddsStep, Answers, finished, read_tokens};
-ghost use Rattle.dk_parser.specs.Views.{CameTo, parsing, plain_command, plain_step};
+ghost use Rattle.dk_parser.specs.Views.{CameTo, HasRead, parsing};
 
-use crate::command_so_far::{Advance, CommandSoFar};
+use crate::Raw;
+use crate::command_so_far::{Advance, CommandSoFar, Due};
 use crate::terminal::Terminal;
-use crate::{Raw, RawForm};
 use dk_lexer::Token;
 use dk_model::{Code, Fault, Limits, NoMemory};
 use std::alloc::Global;
-use std::mem::replace;
 
 /// Why `feed` gave no step.
 pub type ParseFault = Fault;
@@ -34,23 +32,21 @@ pub enum Step {
 pub struct Parser {
     limits: Limits,
     begun: Option<u32>,
-    // Behind a box, since it is large and what holds a parser is moved.
-    part: Box<CommandSoFar>,
+    part: CommandSoFar,
     fault: Option<Code>,
 }
 
 impl Parser {
     /// A parser before the first token.
-    pub fn new(alloc: Global, limits: Limits) -> Result<Parser, NoMemory>
-        ensures { IfOk result (λ parser. parsing parser ≡ parsing_after limits []) }
+    pub fn new(alloc: Global, limits: Limits) -> Parser
+        ensures { HasRead limits [] result }
     {
-        let part = Box::new(alloc, CommandSoFar::CommandDue)?;
-        Ok(Parser {
+        Parser {
             limits,
             begun: None,
-            part,
+            part: CommandSoFar::new(alloc),
             fault: None,
-        })
+        }
     }
 
     /// Takes the next token.
@@ -61,10 +57,9 @@ impl Parser {
     /// memory the parser is to be dropped.
     pub fn feed(&mut self, alloc: Global, token: Token) -> Result<Step, ParseFault>
         ensures after { (limits : Limits) (ts : List Token) →
-            parsing self.old ≡ parsing_after limits ts
-            → Answers result (parsing self.new ≡ parsing_after limits (ts ++ token ∷ [])) }
+            HasRead limits ts self.old → Answers result (HasRead limits (ts ++ token ∷ []) self.new) }
         ensures adds { (limits : Limits) (ts : List Token) →
-            parsing self.old ≡ parsing_after limits ts
+            HasRead limits ts self.old
             → AddsStep (read_tokens limits ts) result (read_tokens limits (ts ++ token ∷ [])) }
     {
         self.take(alloc, token)
@@ -73,7 +68,7 @@ impl Parser {
     /// The end of the tokens: the code that `feed` answered, else E03 where a command has begun
     /// and not ended.
     pub fn finish(&self) -> Result<(), Code>
-        ensures { (limits : Limits) (ts : List Token) → parsing self.now ≡ parsing_after limits ts
+        ensures { (limits : Limits) (ts : List Token) → HasRead limits ts self.now
             → result ≡ finished (read_tokens limits ts) }
     {
         match (self.fault, self.begun) {
@@ -86,7 +81,7 @@ impl Parser {
     /// The line of the first token of the command that has begun and not ended, also where one
     /// of its tokens was at fault.
     pub fn begun(&self) -> Option<u32>
-        ensures { (limits : Limits) (ts : List Token) → parsing self.now ≡ parsing_after limits ts
+        ensures { (limits : Limits) (ts : List Token) → HasRead limits ts self.now
             → result ≡ (read_tokens limits ts).begun }
     {
         self.begun
@@ -99,8 +94,7 @@ impl Parser {
             return Err(Fault::Refused(code));
         }
         let line = self.begun.unwrap_or(token.line);
-        let x = Terminal::of(alloc, token)?;
-        match x {
+        match Terminal::of(alloc, token)? {
             Terminal::Profile => self.refuse(line, Code::E06),
             x => self.advance(alloc, line, x),
         }
@@ -111,61 +105,27 @@ impl Parser {
             (turn_by_step (parsing self.old) line (advanced (parsing self.old).part x))
             result (parsing self.new) }
     {
-        let step = self.advance_command(alloc, x)?;
-        self.step(line, step)
-    }
-
-    // The step of the part; the part is taken out.
-    fn advance_command(&mut self, alloc: Global, x: Terminal) -> Result<Advance, NoMemory>
-        ensures ok { IfOk result (λ step. plain_step step
-            ≡ advanced (parsing self.old).part x) }
-        ensures after { parsing self.new ≡ record (parsing self.old) { part = plain.command_due } }
-    {
-        let part = replace(&mut *self.part, CommandSoFar::CommandDue);
-        part.next(alloc, x)
-    }
-
-    fn step(&mut self, line: u32, step: Advance) -> Result<Step, Fault>
-        ensures { CameTo (turn_by_step (parsing self.old) line (plain_step step))
-            result (parsing self.new) }
-    {
-        match step {
-            Advance::Goes(made, part) => self.goes(line, made, part),
-            Advance::Ends(form) => self.end(line, form),
+        match self.part.next(alloc, x)? {
+            Advance::Goes(made) => self.goes(line, made),
+            Advance::Ends(form) => {
+                self.begun = None;
+                self.part.due = Due::Command;
+                Ok(Step::Command(Raw { line, form }))
+            }
             Advance::Refuses => self.refuse(line, Code::E02),
         }
     }
 
-    fn goes(&mut self, line: u32, made: u64, part: CommandSoFar) -> Result<Step, Fault>
-        ensures { CameTo (turn_by_step (parsing self.old) line (plain.goes made (plain_command part)))
+    fn goes(&mut self, line: u32, made: u64) -> Result<Step, Fault>
+        ensures { CameTo
+            (turn_by_step (parsing self.old) line (plain.goes made (parsing self.old).part))
             result (parsing self.new) }
     {
-        if made > self.limits.levels as u64 {
-            drop(part);
-            self.refuse(line, Code::E04)
-        } else {
-            self.go_on(line, part)
+        if made > u64::from(self.limits.levels) {
+            return self.refuse(line, Code::E04);
         }
-    }
-
-    fn go_on(&mut self, line: u32, part: CommandSoFar) -> Result<Step, Fault>
-        ensures answer { result ≡ Ok Step.More }
-        ensures after { parsing self.new
-            ≡ record (parsing self.old) { begun = Some line; part = plain_command part } }
-    {
         self.begun = Some(line);
-        drop(replace(&mut *self.part, part));
         Ok(Step::More)
-    }
-
-    fn end(&mut self, line: u32, form: RawForm) -> Result<Step, Fault>
-        ensures answer { result ≡ Ok (Step.Command (record { line = line; form = form })) }
-        ensures after { parsing self.new
-            ≡ record (parsing self.old) { begun = None; part = plain.command_due } }
-    {
-        self.begun = None;
-        drop(replace(&mut *self.part, CommandSoFar::CommandDue));
-        Ok(Step::Command(Raw { line, form }))
     }
 
     fn refuse(&mut self, line: u32, code: Code) -> Result<Step, Fault>
@@ -177,7 +137,7 @@ impl Parser {
         } }
     {
         self.begun = Some(line);
-        drop(replace(&mut *self.part, CommandSoFar::CommandDue));
+        self.part.due = Due::Command;
         self.fault = Some(code);
         Err(Fault::Refused(code))
     }

@@ -84,7 +84,7 @@ fn gives_theorem(step: &Result<Step, ParseFault>, text: &[u8], line: u32) -> boo
 
 // Feeds words that blanks and lines part.
 fn read(alloc: Global, text: &str) -> Result<Outcome, NoMemory> {
-    let mut parser = Parser::new(alloc, Limits::standard())?;
+    let mut parser = Parser::new(alloc, Limits::standard());
     let mut commands: u32 = 0;
     let mut line: u32 = 0;
     for row in text.lines() {
@@ -263,7 +263,7 @@ fn refuses_what_is_no_rule(rt: HostRuntime) -> Result<(), Fail> {
 #[test]
 fn gives_the_command_as_written(rt: HostRuntime) -> Result<(), Fail> {
     let alloc = rt.alloc();
-    let mut parser = Parser::new(alloc, Limits::standard())?;
+    let mut parser = Parser::new(alloc, Limits::standard());
     for word in ["thm", "t", ":", "nat", ":=", "z"] {
         assert!(rt;
             parser.feed(alloc, token(alloc, word, 7)?).is_ok(),
@@ -301,7 +301,7 @@ fn ends_levels_and_arguments_at_the_limit(rt: HostRuntime) -> Result<(), Fail> {
         ("( a )", 1_000, Code::E03),
         ("( a )", 1_001, Code::E04),
     ] {
-        let mut parser = Parser::new(alloc, Limits::standard())?;
+        let mut parser = Parser::new(alloc, Limits::standard());
         feed_times(alloc, &mut parser, "x : a", 1)?;
         feed_times(alloc, &mut parser, words, count)?;
         assert_eq!(rt; parser.finish(), Err(code), "at {count} of {words}");
@@ -313,7 +313,7 @@ fn ends_levels_and_arguments_at_the_limit(rt: HostRuntime) -> Result<(), Fail> {
 fn read_within(alloc: Global, words: &str, levels: u32) -> Result<Option<Code>, NoMemory> {
     let mut limits = Limits::standard();
     limits.levels = levels;
-    let mut parser = Parser::new(alloc, limits)?;
+    let mut parser = Parser::new(alloc, limits);
     feed_times(alloc, &mut parser, words, 1)?;
     Ok(parser.finish().err())
 }
@@ -357,7 +357,7 @@ fn counts_the_levels_of_rules(rt: HostRuntime) -> Result<(), Fail> {
 #[test]
 fn reads_a_thousand_brackets(rt: HostRuntime) -> Result<(), Fail> {
     let alloc = rt.alloc();
-    let mut parser = Parser::new(alloc, Limits::standard())?;
+    let mut parser = Parser::new(alloc, Limits::standard());
     feed_times(alloc, &mut parser, "x :", 1)?;
     feed_times(alloc, &mut parser, "(", 1_000)?;
     feed_times(alloc, &mut parser, "Type", 1)?;

@@ -10,12 +10,17 @@ pub struct Over;
 
 /// What takes the commands of a file. It knows nothing of bytes and tokens, and who reads them knows no verdict.
 pub trait Judge {
-    ghost use Rattle.std.specs.Prelude.{List, [], ◌∷◌, ◌++◌, OnOk, OnErr};
+    ghost use Rattle.std.specs.Prelude.{◌≡◌, List, [], ◌∷◌, ◌++◌, OnOk, OnErr};
     ghost use Rattle.dk_parser.specs.Written.{WrittenCommand};
     ghost use Rattle.dk_parser.specs.RawViews.{written_command};
 
     /// What is the same for all commands of a file.
     type Bounds;
+
+    /// What no command changes of it.
+    type Fixed;
+
+    ghost fixed: { Self → Self.Fixed };
 
     // A command may be handed over.
     ghost ready: { Self → Type 0 };
@@ -32,6 +37,7 @@ pub trait Judge {
     /// Takes the next command.
     fn command(&mut self, alloc: Global, raw: Raw) -> Result<(), Over>
         requires ready { ready self.old }
+        ensures fixed { fixed self.new ≡ fixed self.old }
         ensures ready { OnOk result (ready self.new) }
         ensures closed { OnErr result (over self.new) }
         ensures goes_on { OnOk result ((bounds : Self.Bounds) (done : List WrittenCommand) →

@@ -38,16 +38,16 @@ impl Reader {
         ensures lexer { IfOk result (λ r. r.lexer ≡ lexer_after limits []) }
         ensures parser { IfOk result (λ r. parsing r.parser ≡ parsing_after limits []) }
     {
-        let parser = Parser::new(alloc, limits)?;
         Ok(Reader {
             lexer: Lexer::new(limits),
-            parser,
+            parser: Parser::new(alloc, limits),
         })
     }
 
     // Takes one token.
     fn token<J: Judge>(&mut self, alloc: Global, judge: &mut J, token: Token) -> Result<(), Halt>
         requires ready { J.ready judge.old }
+        ensures fixed { J.fixed judge.new ≡ J.fixed judge.old }
         ensures ready { LeavesJudge J.ready J.over judge.new result }
         ensures stands { (bounds : J.Bounds) (limits : Limits) (bytes : List ℕ) (ending : Ending)
             (taken coming : List Token) →
@@ -80,6 +80,7 @@ impl Reader {
         token: Option<Token>,
     ) -> Result<(), Halt>
         requires ready { J.ready judge.old }
+        ensures fixed { J.fixed judge.new ≡ J.fixed judge.old }
         ensures ready { LeavesJudge J.ready J.over judge.new result }
         ensures stands { (bounds : J.Bounds) (limits : Limits) (bytes : List ℕ) (ending : Ending)
             (taken coming : List Token) →
@@ -106,6 +107,7 @@ impl Reader {
         fourth: Option<Token>,
     ) -> Result<(), Halt>
         requires ready { J.ready judge.old }
+        ensures fixed { J.fixed judge.new ≡ J.fixed judge.old }
         ensures ready { LeavesJudge J.ready J.over judge.new result }
         ensures stands { (bounds : J.Bounds) (limits : Limits) (bytes : List ℕ) (ending : Ending)
             (taken : List Token) →
@@ -132,6 +134,7 @@ impl Reader {
         place: u32,
     ) -> Result<(), Halt>
         requires ready { J.ready judge.old }
+        ensures fixed { J.fixed judge.new ≡ J.fixed judge.old }
         ensures ready { LeavesJudge J.ready J.over judge.new result }
         ensures stands { (bounds : J.Bounds) (limits : Limits) (bytes : List ℕ) (ending : Ending)
             (before : Lexed) →
@@ -169,6 +172,7 @@ impl Reader {
     /// Takes the next byte.
     pub fn feed<J: Judge>(&mut self, alloc: Global, judge: &mut J, byte: u8) -> Result<(), Halt>
         requires ready { J.ready judge.old }
+        ensures fixed { J.fixed judge.new ≡ J.fixed judge.old }
         ensures ready { LeavesJudge J.ready J.over judge.new result }
         ensures stands { (bounds : J.Bounds) (limits : Limits) (given : List ℕ) →
             GoesOnAfter (J.stands bounds) limits given self.old judge.old →
@@ -186,7 +190,7 @@ impl Reader {
     }
 
     /// Takes a front of the bytes at once, where none of them completes a token, and says how many.
-    pub fn pass(&mut self, bytes: &[u8]) -> Result<usize, Halt>
+    pub fn pass(&mut self, alloc: Global, bytes: &[u8]) -> Result<usize, Halt>
         ensures within { IfOk result (λ count. count ≤ length bytes.now) }
         ensures passes { (limits : Limits) (given : List ℕ) →
             self.old.lexer ≡ lexer_after limits given → (tokens limits given broken).fault ≡ None →
@@ -195,7 +199,7 @@ impl Reader {
         ensures memory { IfErr result (λ halt. (line : ℕ) × (halt ≡ Halt.NoMemory line)) }
     {
         let due = self.due_line();
-        match self.lexer.pass(bytes) {
+        match self.lexer.pass(alloc, bytes) {
             Ok(count) => Ok(count),
             Err(_) => Err(Halt::NoMemory(due)),
         }
@@ -204,6 +208,7 @@ impl Reader {
     /// The end of the input.
     pub fn finish<J: Judge>(&mut self, alloc: Global, judge: &mut J) -> Result<(), Halt>
         requires ready { J.ready judge.old }
+        ensures fixed { J.fixed judge.new ≡ J.fixed judge.old }
         ensures ready { LeavesJudge J.ready J.over judge.new result }
         ensures ends { (bounds : J.Bounds) (limits : Limits) (bytes : List ℕ) →
             GoesOnAfter (J.stands bounds) limits bytes self.old judge.old →

@@ -22,7 +22,7 @@ pub enum ReadEnd {
     Halted(Halt),
 }
 
-// Takes a front of the bytes, at least one, and says how many.
+// Takes a front of the bytes that completes no token and then the next byte, and says how many.
 fn feed_front<J: Judge>(
     alloc: Global,
     reader: &mut Reader,
@@ -31,6 +31,7 @@ fn feed_front<J: Judge>(
 ) -> Result<usize, Halt>
     requires some { 0 < length bytes.now }
     requires ready { J.ready judge.old }
+    ensures fixed { J.fixed judge.new ≡ J.fixed judge.old }
     ensures ready { LeavesJudge J.ready J.over judge.new result }
     ensures some { IfOk result (λ count. 0 < count) }
     ensures within { IfOk result (λ count. count ≤ length bytes.now) }
@@ -39,12 +40,12 @@ fn feed_front<J: Judge>(
         ComesToFront (J.stands bounds) (J.stops bounds) limits given bytes.now
         reader.new judge.new result }
 {
-    let count = reader.pass(bytes)?;
-    if count > 0 {
+    let count = reader.pass(alloc, bytes)?;
+    if count >= bytes.len() {
         return Ok(count);
     }
-    reader.feed(alloc, judge, bytes[0])?;
-    Ok(1)
+    reader.feed(alloc, judge, bytes[count])?;
+    Ok(count + 1)
 }
 
 // Takes the bytes of a piece.
@@ -55,6 +56,7 @@ fn feed_piece<J: Judge>(
     bytes: &[u8],
 ) -> Result<(), Halt>
     requires ready { J.ready judge.old }
+    ensures fixed { J.fixed judge.new ≡ J.fixed judge.old }
     ensures ready { LeavesJudge J.ready J.over judge.new result }
     ensures stands { (bounds : J.Bounds) (limits : Limits) (given : List ℕ) →
         GoesOnAfter (J.stands bounds) limits given reader.old judge.old →
@@ -78,6 +80,7 @@ pub fn read_book<H: Shelf, J: Judge>(
     judge: &mut J,
 ) -> ReadEnd
     requires ready { J.ready judge.old }
+    ensures fixed { J.fixed judge.new ≡ J.fixed judge.old }
     ensures ready { LeavesAtEnd J.ready J.over judge.new result }
     ensures books { H.books shelf.new ≡ H.books shelf.old }
     ensures ends { (bounds : J.Bounds) (limits : Limits) (bytes : List ℕ) →

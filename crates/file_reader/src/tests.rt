@@ -18,6 +18,10 @@ struct Counter {
 impl Judge for Counter {
     type Bounds = u8;
 
+    type Fixed = u32;
+
+    ghost fixed = { λ c. c.most };
+
     ghost ready = { λ c. Unit {0} };
 
     ghost over = { λ c. Unit {0} };

@@ -7,3 +7,4 @@ pub mod Commands
 pub mod Rows
 pub mod Distinct
 pub mod Variables
+pub mod Spines

@@ -1,3 +1,4 @@
 pub mod Answers
 pub mod Patterns
 pub mod Marks
+pub mod Spines

@@ -3,6 +3,7 @@ ghost use Rattle.std.specs.Prelude.{◌≡◌, IfOk, map};
 ghost use Rattle.dk_model.specs.Signatures.{pattern as plain, plain_rule};
 ghost use Rattle.dk_model.specs.Shapes.{erased_pattern, erased_rule};
 
+use crate::copies::erased;
 use dk_model::{Listed, NoMemory, Pat, Rule};
 use std::alloc::Global;
 
@@ -17,7 +18,7 @@ fn erased_pattern(alloc: Global, pattern: &Pat) -> Result<Pat, NoMemory>
             Listed::from_slice(alloc, arguments.as_slice())?,
         )),
         Pat::Any => Ok(Pat::Any),
-        Pat::Guard(term) => Ok(Pat::Guard(term.erased(alloc)?)),
+        Pat::Guard(term) => Ok(Pat::Guard(erased(alloc, term)?)),
         Pat::Sym(symbol, arguments) => Ok(Pat::Sym(
             *symbol,
             erased_patterns(alloc, arguments.as_slice())?,
@@ -56,7 +57,7 @@ fn erased_rule(alloc: Global, rule: Rule) -> Result<Rule, NoMemory>
         vars,
         pats: erased_patterns(alloc, pats.as_slice())?,
         notes,
-        right: right.erased(alloc)?,
+        right: erased(alloc, &right)?,
     })
 }
 

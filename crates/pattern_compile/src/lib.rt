@@ -4,6 +4,7 @@
 //! `shape_all`, then docs/rules.md and specs/Shapes.antt of dk_model, which says what a shape is.
 #![tactic(auto)]
 
+mod copies;
 mod erase;
 mod mark;
 mod pattern;

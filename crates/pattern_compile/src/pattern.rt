@@ -13,6 +13,7 @@ ghost use Rattle.dk_model.specs.Shapes.{
 };
 ghost use Rattle.pattern_compile.specs.Patterns.{plain_patterns, bare_variable, head_of, is_application};
 
+use crate::copies::copied;
 use dk_model::{Left, Listed, NoMemory, Pat};
 use std::alloc::Global;
 
@@ -124,7 +125,7 @@ fn applied(
         Left::Rvar(variable) => applied_variable(alloc, vars, *variable, arguments.as_slice()),
         Left::Any => Ok(unapplied(Pat::Any, arguments.as_slice())),
         Left::Guard(term) => {
-            let guard = Pat::Guard(term.copy(alloc)?);
+            let guard = Pat::Guard(copied(alloc, term)?);
             Ok(unapplied(guard, arguments.as_slice()))
         }
         Left::Abs(body) => match pattern(alloc, vars, body)? {

@@ -5,6 +5,7 @@ ghost use Rattle.dk_model.specs.Scoping.{plain_scoped_rule};
 ghost use Rattle.dk_model.specs.Shapes.{shape_of, is_definable, is_definable_entry};
 ghost use Rattle.pattern_compile.specs.Answers.{GivesRule, GivesRules, command_shapes};
 
+use crate::copies;
 use crate::mark::{is_covered, variable_marks};
 use crate::pattern::{head, patterns};
 use dk_model::{
@@ -19,7 +20,7 @@ fn copied(alloc: Global, notes: &[Option<Term>]) -> Result<Listed<Option<Term>>,
     let mut copies = Listed::new(alloc);
     for note in notes {
         let copy = match note {
-            Some(note) => Some(note.copy(alloc)?),
+            Some(note) => Some(copies::copied(alloc, note)?),
             None => None,
         };
         copies.push(copy)?;
@@ -50,7 +51,7 @@ pub fn shape(alloc: Global, rule: &ScopedRule) -> Result<Rule, Fault>
         vars: rule.vars,
         pats,
         notes: copied(alloc, rule.notes.as_slice())?,
-        right: rule.right.copy(alloc)?,
+        right: copies::copied(alloc, &rule.right)?,
     })
 }
 

@@ -5,6 +5,7 @@ ghost use Rattle.dk_model.specs.Signatures.{plain_signature};
 ghost use Rattle.dk_model.specs.Scoping.{plain_command};
 ghost use Rattle.dk_model.specs.Answering.{is_untyped};
 ghost use Rattle.dk_model.specs.WellFormed.{IsSignature};
+ghost use Rattle.typing_model.specs.Conditions.{HasNoAnnotations, IsNumbered};
 ghost use Rattle.typing_model.specs.Derivations.{HasDerivation};
 ghost use Rattle.plain_check.specs.Clauses.{due, inferred_for, IsDue};
 
@@ -18,10 +19,14 @@ use tree_evaluation::Trees;
 ///
 /// The check may take `budget` units; `Ended` says that it needs more. `Memory` says nothing of the command; it comes too
 /// where the signature has more entries than a version holds. What is accepted has a derivation, where the signature is
-/// well formed, as that of accepted commands is.
+/// well formed, as that of accepted commands is, or where it numbers the rule variables of its rules as shapes do and has
+/// no annotations.
 pub fn check_plain(alloc: Global, signature: &Signature, command: &Scoped, budget: u64) -> Verdict
     ensures due { IsDue signature.now command.now budget result }
     ensures derivation { result ≡ Verdict.Accepted → IsSignature (plain_signature signature.now)
+        → HasDerivation (plain_signature signature.now) (plain_command command.now) }
+    ensures numbered { result ≡ Verdict.Accepted → IsNumbered (plain_signature signature.now)
+        → HasNoAnnotations (plain_signature signature.now)
         → HasDerivation (plain_signature signature.now) (plain_command command.now) }
 {
     match version_of(alloc, signature) {

@@ -9,4 +9,6 @@ pub mod laws;
 pub use check::{check_plain, infer_plain};
 
 #[cfg(test)]
+mod row_tests;
+#[cfg(test)]
 mod tests;

@@ -87,7 +87,11 @@ fn outcome_of_shared_terms(
 }
 
 /// Both, which are one: the number is 0 where they differ.
-fn outcome(alloc: Global, commands: &[Scoped], budget: u64) -> Result<(usize, Verdict), NoMemory> {
+pub(crate) fn outcome(
+    alloc: Global,
+    commands: &[Scoped],
+    budget: u64,
+) -> Result<(usize, Verdict), NoMemory> {
     let trees = outcome_of_trees(alloc, commands, budget)?;
     let shared = outcome_of_shared_terms(alloc, commands, budget)?;
     Ok(if trees == shared {

@@ -24,6 +24,14 @@ pub both_second : {A B C : Type 0} (f : A → B → C) (s : Scoping A) (t : Scop
 both_second f s t a (Refused c) is it = ap (λ s'. both f s' t) is ∙ ap (one (f a)) it
 both_second f s t a NoMemory is it = tt
 
+-- what is scoped twice is the same, and has no code
+pub scoped_again : {A : Type 0} (s : Scoping A) (a b : A) → s ≡ scoped a → s ≡ scoped b → b ≡ a
+scoped_again s a b is again = let e : scoped a ≡ scoped b = sym is ∙ again in cc
+
+pub no_fault_again : {A : Type 0} (s : Scoping A) (a : A) (e : Fault) → s ≡ scoped a → IsFaultOf s e → e ≡ NoMemory
+no_fault_again s a NoMemory is it = refl
+no_fault_again s a (Refused c) is it = let e : scoped a ≡ refused c = sym is ∙ it in cc
+
 -- a list that is scoped behind elements that are scoped already
 abbrev pub behind : {A : Type 0} → List A → Scoping (List A) → Scoping (List A)
 behind done s = one (λ xs. done ++ xs) s

@@ -1,3 +1,5 @@
 pub mod Scopes
 pub mod Answers
 pub mod Meanings
+pub mod Spines
+pub mod Binding

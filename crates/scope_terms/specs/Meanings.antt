@@ -1,6 +1,5 @@
 -- For proofs: what the code holds as plain data, and its scoping.
 use Rattle.std.specs.Prelude.{ℕ, Option, List, [], ◌∷◌, map}
-use Rattle.std.specs.Option.{option_map}
 use Rattle.dk_model.specs.Trees.{Tree}
 use Rattle.dk_model.specs.Scoping.{PlainLeft, PlainScopedRule, PlainCommand, plain_scoped_rule}
 use Rattle.dk_model.specs.declared.scoped.ScopedRule.{ScopedRule}
@@ -14,16 +13,12 @@ use Rattle.dk_parser.specs.declared.raw.RawRule.{RawRule}
 use Rattle.scope_terms.specs.Scopes.{Binder, Meaning, means_variable, means_rule_variable, means_symbol, unknown, Declaration, Numbered, no_names, Scoping, meant_term, meant_left, meaning_of, term_of, maybe_term_of, left_of, declaration_of, notes_of, variables_of, rule_of, rules_of, scope_of}
 use Rattle.dk_model.specs.Signatures.{maybe_tree}
 use Rattle.scope_terms.specs.declared.declaration.TypeAndBody.{TypeAndBody}
-use Rattle.scope_terms.specs.declared.meaning.Binders.{Binders, Outermost, Under'}
+use Rattle.scope_terms.specs.declared.binders.Binders.{Binders}
+use Rattle.scope_terms.specs.Binding.{binders}
 use Rattle.scope_terms.specs.declared.rule.ScopedContext.{ScopedContext}
 use Rattle.scope_terms.specs.declared.meaning.Scope.{Scope}
 use Rattle.scope_terms.specs.declared.meaning.Named.{Named}
 use Rattle.scope_terms.specs.declared.meaning.Named.TheVariants.{Variable, RuleVariable, Symbol, Unknown}
-
--- innermost first
-abbrev pub binders : Binders → List Binder
-binders Outermost = []
-binders (Under' x p outer) = option_map (λ y. y.now) x ∷ binders outer
 
 abbrev pub meaning : Named → Meaning
 meaning (Variable k) = means_variable k

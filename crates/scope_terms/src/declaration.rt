@@ -1,13 +1,16 @@
 //! The type and the body of a declaration under its parameters.
 ghost use Rattle.std.specs.Prelude.{◌≡◌, IfOk, IfErr};
 ghost use Rattle.dk_model.specs.Trees.{tree};
+ghost use Rattle.dk_model.specs.declared.code.Fault.TheVariants.{NoMemory};
 ghost use Rattle.scope_terms.specs.Scopes.{no_names, scoped, with_parameter};
 ghost use Rattle.scope_terms.specs.Answers.{IsFaultOf};
-ghost use Rattle.scope_terms.specs.Meanings.{declaration, declaring};
+ghost use Rattle.scope_terms.specs.Binding.{IsTold};
+ghost use Rattle.scope_terms.specs.Meanings.{declaration, declaring, term_sense};
 
-use crate::meaning::{Binders, Scope};
+use crate::binders::{Binders, under};
+use crate::meaning::Scope;
 use crate::term::{maybe_term_at, term_at};
-use dk_model::{Fault, NoMemory, Term, make_annotated, make_product};
+use dk_model::{Fault, Term, make_annotated, make_product};
 use dk_parser::{RawParam, RawTerm};
 use std::alloc::Global;
 
@@ -18,13 +21,28 @@ pub(crate) struct TypeAndBody {
     pub body: Option<Term>,
 }
 
-/// The declaration under a parameter of type `domain`.
-fn under_parameter(alloc: Global, domain: Term, inner: TypeAndBody) -> Result<TypeAndBody, NoMemory>
-    ensures { IfOk result (λ d. declaration d ≡ with_parameter (tree domain) (declaration inner)) }
+/// The declaration under a parameter whose type, `domain`, stands for `raw`. For the declared type it is scoped once more,
+/// since a copy would nest with the arguments of its applications.
+#[tactic(auto, using(crate::proofs::Stages::scoped_again, crate::proofs::Stages::no_fault_again))]
+fn under_parameter<'a>(
+    alloc: Global,
+    scope: &Scope,
+    raw: &'a RawTerm,
+    bound: &'a Binders<'a>,
+    domain: Term,
+    inner: TypeAndBody,
+) -> Result<TypeAndBody, Fault>
+    requires told { IsTold bound.now }
+    requires domain { term_sense scope.now bound.now raw.now ≡ scoped (tree domain) }
+    ensures ok { IfOk result (λ d. declaration d ≡ with_parameter (tree domain) (declaration inner)) }
+    ensures memory { IfErr result (λ e. e ≡ NoMemory) }
 {
     let TypeAndBody { typ, body } = inner;
     let typ = match typ {
-        Some(typ) => Some(make_product(alloc, domain.copy(alloc)?, typ)?),
+        Some(typ) => {
+            let again = term_at(alloc, scope, raw, bound)?;
+            Some(make_product(alloc, again, typ)?)
+        }
         None => None,
     };
     let body = match body {
@@ -44,7 +62,8 @@ pub(crate) fn declaration_at<'a>(
     body: &'a Option<RawTerm>,
     bound: &'a Binders<'a>,
 ) -> Result<TypeAndBody, Fault>
-    requires { scope.now.variables.now ≡ no_names }
+    requires told { IsTold bound.now }
+    requires none { scope.now.variables.now ≡ no_names }
     ensures ok { IfOk result
         (λ d. declaring scope.now bound.now params.now typ.now body.now ≡ scoped (declaration d)) }
     ensures refused { IfErr result
@@ -58,9 +77,9 @@ pub(crate) fn declaration_at<'a>(
         }
         [param, rest @ ..] => {
             let domain = term_at(alloc, scope, &param.typ, bound)?;
-            let under = Binders::Under(param.binder.as_ref(), bound);
+            let under = under(param.binder.as_ref(), bound)?;
             let inner = declaration_at(alloc, scope, rest, typ, body, &under)?;
-            Ok(under_parameter(alloc, domain, inner)?)
+            under_parameter(alloc, scope, &param.typ, bound, domain, inner)
         }
     }
 }

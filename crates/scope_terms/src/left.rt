@@ -1,11 +1,16 @@
 //! The left side that a pattern stands for.
-ghost use Rattle.std.specs.Prelude.{◌≡◌, IfOk, IfErr};
+ghost use Rattle.std.specs.Prelude.{◌≡◌, ◌+◌, ◌≤◌, IfOk, IfErr};
 ghost use Rattle.dk_model.specs.Scoping.{plain_left, left_apply, left_abstraction};
+ghost use Rattle.dk_parser.specs.RawViews.{written_pattern};
+ghost use Rattle.dk_parser.specs.Written.{pattern_apply};
 ghost use Rattle.scope_terms.specs.Scopes.{scoped};
 ghost use Rattle.scope_terms.specs.Answers.{IsFaultOf};
+ghost use Rattle.scope_terms.specs.Binding.{IsTold};
 ghost use Rattle.scope_terms.specs.Meanings.{named_left, left_sense};
+ghost use Rattle.scope_terms.specs.Spines.{applied_pattern, pattern_references, pattern_size, total_pattern_size};
 
-use crate::meaning::{Binders, Named, Scope, look_up};
+use crate::binders::{Binders, under};
+use crate::meaning::{Named, Scope, look_up};
 use crate::term::term_at;
 use dk_model::{Code, Fault, Left, Listed, NoMemory};
 use dk_parser::RawPat;
@@ -36,6 +41,7 @@ fn narrow(number: u64) -> Result<u32, NoMemory>
 }
 
 fn name_at<'a>(scope: &Scope, name: &Listed<u8>, bound: &'a Binders<'a>) -> Result<Left, Fault>
+    requires told { IsTold bound.now }
     ensures ok { IfOk result
         (λ l. named_left scope.now bound.now name.now ≡ scoped (plain_left l)) }
     ensures refused { IfErr result (IsFaultOf (named_left scope.now bound.now name.now)) }
@@ -48,14 +54,45 @@ fn name_at<'a>(scope: &Scope, name: &Listed<u8>, bound: &'a Binders<'a>) -> Resu
     }
 }
 
-/// The left side under these binders, or its first code.
-#[tactic(auto, using(crate::proofs::Stages::one_scoped, crate::proofs::Stages::one_fault, crate::proofs::Stages::both_scoped, crate::proofs::Stages::both_first, crate::proofs::Stages::both_second))]
+/// The head of `f a`, and its arguments on a stack, the first one on top.
+#[tactic(auto, using(crate::proofs::PatternSpines::applied_pushed, crate::proofs::PatternSpines::total_pushed))]
+fn spine<'a>(
+    alloc: Global,
+    f: &'a RawPat,
+    a: &'a RawPat,
+) -> Result<(&'a RawPat, Vec<&'a RawPat>), NoMemory>
+    ensures whole { IfOk result (λ s.
+        applied_pattern (written_pattern s.0.now) (pattern_references s.1.items)
+        ≡ pattern_apply (written_pattern f.now) (written_pattern a.now)) }
+    ensures smaller { IfOk result (λ s.
+        pattern_size (written_pattern s.0.now) + total_pattern_size (pattern_references s.1.items)
+        ≤ pattern_size (written_pattern f.now) + pattern_size (written_pattern a.now)) }
+{
+    let mut arguments = Vec::new(alloc);
+    arguments.push(a)?;
+    let mut head = f;
+    loop {
+        match head {
+            RawPat::App(g, b) => {
+                let b: &'a RawPat = b;
+                arguments.push(b)?;
+                head = g;
+            }
+            other => return Ok((other, arguments)),
+        }
+    }
+}
+
+/// The left side under these binders, or its first code. It nests with brackets, and not with the arguments of an
+/// application.
+#[tactic(auto, using(crate::proofs::Stages::one_scoped, crate::proofs::Stages::one_fault, crate::proofs::PatternSpines::total_pushed, crate::proofs::PatternSpines::spine_begun, crate::proofs::PatternSpines::spine_head_fault, crate::proofs::PatternSpines::spine_further, crate::proofs::PatternSpines::spine_argument_fault))]
 pub(crate) fn left_at<'a>(
     alloc: Global,
     scope: &Scope,
     raw: &'a RawPat,
     bound: &'a Binders<'a>,
 ) -> Result<Left, Fault>
+    requires told { IsTold bound.now }
     ensures ok { IfOk result (λ l. left_sense scope.now bound.now raw.now ≡ scoped (plain_left l)) }
     ensures refused { IfErr result (IsFaultOf (left_sense scope.now bound.now raw.now)) }
 {
@@ -68,12 +105,17 @@ pub(crate) fn left_at<'a>(
             Ok(Left::Guard(guard))
         }
         RawPat::App(f, a) => {
-            let f = left_at(alloc, scope, f, bound)?;
-            let a = left_at(alloc, scope, a, bound)?;
-            Ok(make_left_app(alloc, f, a)?)
+            let (head, arguments) = spine(alloc, f, a)?;
+            let mut arguments = arguments;
+            let mut whole = left_at(alloc, scope, head, bound)?;
+            while let Some(argument) = arguments.pop() {
+                let argument = left_at(alloc, scope, argument, bound)?;
+                whole = make_left_app(alloc, whole, argument)?;
+            }
+            Ok(whole)
         }
         RawPat::Abs(x, body) => {
-            let under = Binders::Under(x.as_ref(), bound);
+            let under = under(x.as_ref(), bound)?;
             let body = left_at(alloc, scope, body, &under)?;
             Ok(make_left_abs(alloc, body)?)
         }

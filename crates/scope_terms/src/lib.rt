@@ -4,6 +4,7 @@
 //! then docs/scoping.md and specs/Scopes.antt, which says what scoping is.
 #![tactic(auto)]
 
+mod binders;
 mod declaration;
 pub mod laws;
 mod left;

@@ -6,8 +6,9 @@ ghost use Rattle.scope_terms.specs.Scopes.{no_names, number_of, with_name, names
 ghost use Rattle.scope_terms.specs.Answers.{IsFaultOf};
 ghost use Rattle.scope_terms.specs.Meanings.{scoping_of};
 
+use crate::binders::Binders;
 use crate::declaration::{TypeAndBody, declaration_at};
-use crate::meaning::{Binders, Scope};
+use crate::meaning::Scope;
 use crate::rule::rules_at;
 use dk_model::{Code, Fault, Listed, NoMemory, Scoped};
 use dk_parser::{Raw, RawForm};

@@ -6,8 +6,9 @@ ghost use Rattle.scope_terms.specs.Answers.{IsFaultOf};
 ghost use Rattle.scope_terms.specs.Meanings.{noted, plain_rules, notes_sense, declared, rule_sense, rules_sense};
 
 use crate::Names;
+use crate::binders::Binders;
 use crate::left::left_at;
-use crate::meaning::{Binders, Scope};
+use crate::meaning::Scope;
 use crate::term::{maybe_term_at, term_at};
 use dk_model::{Code, Fault, Listed, ScopedRule, Term};
 use dk_parser::{RawNote, RawRule};

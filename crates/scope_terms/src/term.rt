@@ -1,18 +1,25 @@
 //! The term that a written term stands for at a place of a command.
-ghost use Rattle.std.specs.Prelude.{◌≡◌, IfOk, IfErr};
+ghost use Rattle.std.specs.Prelude.{◌≡◌, ◌+◌, ◌≤◌, IfOk, IfErr};
 ghost use Rattle.dk_model.specs.Trees.{tree};
 ghost use Rattle.dk_model.specs.Signatures.{maybe_tree};
 ghost use Rattle.dk_parser.specs.RawViews.{written};
+ghost use Rattle.dk_parser.specs.Written.{written_apply};
 ghost use Rattle.scope_terms.specs.Scopes.{scoped};
 ghost use Rattle.scope_terms.specs.Answers.{IsFaultOf};
+ghost use Rattle.scope_terms.specs.Binding.{IsTold};
 ghost use Rattle.scope_terms.specs.Meanings.{named_term, term_sense, maybe_sense};
+ghost use Rattle.scope_terms.specs.Spines.{applied, written_references, size, total_size};
 
-use crate::meaning::{Binders, Named, Scope, look_up};
-use dk_model::{Code, Fault, Listed, Term, make_annotated, make_app, make_bare, make_product};
+use crate::binders::{Binders, under};
+use crate::meaning::{Named, Scope, look_up};
+use dk_model::{
+    Code, Fault, Listed, NoMemory, Term, make_annotated, make_app, make_bare, make_product,
+};
 use dk_parser::RawTerm;
 use std::alloc::Global;
 
 fn name_at<'a>(scope: &Scope, name: &Listed<u8>, bound: &'a Binders<'a>) -> Result<Term, Fault>
+    requires told { IsTold bound.now }
     ensures ok { IfOk result (λ t. named_term scope.now bound.now name.now ≡ scoped (tree t)) }
     ensures refused { IfErr result (IsFaultOf (named_term scope.now bound.now name.now)) }
 {
@@ -24,14 +31,43 @@ fn name_at<'a>(scope: &Scope, name: &Listed<u8>, bound: &'a Binders<'a>) -> Resu
     }
 }
 
-/// The term under these binders, or its first code.
-#[tactic(auto, using(crate::proofs::Stages::one_scoped, crate::proofs::Stages::one_fault, crate::proofs::Stages::both_scoped, crate::proofs::Stages::both_first, crate::proofs::Stages::both_second))]
+/// The head of `f a`, and its arguments on a stack, the first one on top.
+#[tactic(auto, using(crate::proofs::Spines::applied_pushed, crate::proofs::Spines::total_pushed))]
+fn spine<'a>(
+    alloc: Global,
+    f: &'a RawTerm,
+    a: &'a RawTerm,
+) -> Result<(&'a RawTerm, Vec<&'a RawTerm>), NoMemory>
+    ensures whole { IfOk result (λ s. applied (written s.0.now) (written_references s.1.items)
+        ≡ written_apply (written f.now) (written a.now)) }
+    ensures smaller { IfOk result (λ s. size (written s.0.now) + total_size (written_references s.1.items)
+        ≤ size (written f.now) + size (written a.now)) }
+{
+    let mut arguments = Vec::new(alloc);
+    arguments.push(a)?;
+    let mut head = f;
+    loop {
+        match head {
+            RawTerm::App(g, b) => {
+                let b: &'a RawTerm = b;
+                arguments.push(b)?;
+                head = g;
+            }
+            other => return Ok((other, arguments)),
+        }
+    }
+}
+
+/// The term under these binders, or its first code. It nests with brackets and binders, and not with the arguments of an
+/// application.
+#[tactic(auto, using(crate::proofs::Stages::one_scoped, crate::proofs::Stages::one_fault, crate::proofs::Stages::both_scoped, crate::proofs::Stages::both_first, crate::proofs::Stages::both_second, crate::proofs::Spines::total_pushed, crate::proofs::Spines::spine_begun, crate::proofs::Spines::spine_head_fault, crate::proofs::Spines::spine_further, crate::proofs::Spines::spine_argument_fault))]
 pub(crate) fn term_at<'a>(
     alloc: Global,
     scope: &Scope,
     raw: &'a RawTerm,
     bound: &'a Binders<'a>,
 ) -> Result<Term, Fault>
+    requires told { IsTold bound.now }
     ensures ok { IfOk result (λ t. term_sense scope.now bound.now raw.now ≡ scoped (tree t)) }
     ensures refused { IfErr result (IsFaultOf (term_sense scope.now bound.now raw.now)) }
 {
@@ -41,30 +77,35 @@ pub(crate) fn term_at<'a>(
         RawTerm::Star => Ok(Term::Star),
         RawTerm::Wild => Err(Fault::Refused(Code::E12)),
         RawTerm::App(f, a) => {
-            let f = term_at(alloc, scope, f, bound)?;
-            let a = term_at(alloc, scope, a, bound)?;
-            Ok(make_app(alloc, f, a)?)
+            let (head, arguments) = spine(alloc, f, a)?;
+            let mut arguments = arguments;
+            let mut whole = term_at(alloc, scope, head, bound)?;
+            while let Some(argument) = arguments.pop() {
+                let argument = term_at(alloc, scope, argument, bound)?;
+                whole = make_app(alloc, whole, argument)?;
+            }
+            Ok(whole)
         }
         RawTerm::Arrow(a, b) => {
             let a = term_at(alloc, scope, a, bound)?;
-            let under = Binders::Under(None, bound);
+            let under = under(None, bound)?;
             let b = term_at(alloc, scope, b, &under)?;
             Ok(make_product(alloc, a, b)?)
         }
         RawTerm::Prod(x, a, b) => {
             let a = term_at(alloc, scope, a, bound)?;
-            let under = Binders::Under(x.as_ref(), bound);
+            let under = under(x.as_ref(), bound)?;
             let b = term_at(alloc, scope, b, &under)?;
             Ok(make_product(alloc, a, b)?)
         }
         RawTerm::Abs(x, None, b) => {
-            let under = Binders::Under(x.as_ref(), bound);
+            let under = under(x.as_ref(), bound)?;
             let b = term_at(alloc, scope, b, &under)?;
             Ok(make_bare(alloc, b)?)
         }
         RawTerm::Abs(x, Some(a), b) => {
             let a = term_at(alloc, scope, a, bound)?;
-            let under = Binders::Under(x.as_ref(), bound);
+            let under = under(x.as_ref(), bound)?;
             let b = term_at(alloc, scope, b, &under)?;
             Ok(make_annotated(alloc, a, b)?)
         }
@@ -78,6 +119,7 @@ pub(crate) fn maybe_term_at<'a>(
     raw: &'a Option<RawTerm>,
     bound: &'a Binders<'a>,
 ) -> Result<Option<Term>, Fault>
+    requires told { IsTold bound.now }
     ensures ok { IfOk result
         (λ t. maybe_sense scope.now bound.now raw.now ≡ scoped (maybe_tree t)) }
     ensures refused { IfErr result (IsFaultOf (maybe_sense scope.now bound.now raw.now)) }

@@ -3,6 +3,7 @@ use Rattle.std.proofs.Common.{◌≡◌, ℕ, ◌+◌, ◌<◌, ◌≤◌, nat_l
 use Rattle.std.proofs.lemmas.Bool.Decides.{nat_tests}
 use Rattle.dk_model.specs.Trees.{Tree, star, kind, symbol, variable, rule_variable, apply, bare, annotated, product}
 use Rattle.dk_model.specs.Erasure.{erased}
+use Rattle.dk_model.specs.Substitution.{shift}
 use Rattle.dk_model.specs.Captures.{Captures, filled, renamed}
 use Rattle.dk_model.specs.Bounds.{IsClosedAt}
 use Rattle.shared_term.specs.declared.id.TermId.{TermId}
@@ -36,6 +37,21 @@ filled_without cs u (apply f a) h = λ i. apply (filled_without cs u f h.0 i) (f
 filled_without cs u (bare b) h = ap bare (filled_without cs (u + 1) b h)
 filled_without cs u (annotated n b) h = λ i. annotated (filled_without cs u n h.0 i) (filled_without cs (u + 1) b h.1 i)
 filled_without cs u (product a b) h = λ i. product (filled_without cs u a h.0 i) (filled_without cs (u + 1) b h.1 i)
+
+unraised : (b : Bool) (k : ℕ) → variable (if b then k else (k + 0)) ≡ variable k
+unraised true k = refl
+unraised false k = ap variable (omega arith)
+
+pub shifted_none : (u : ℕ) (t : Tree) → shift u 0 t ≡ t
+shifted_none u star = refl
+shifted_none u kind = refl
+shifted_none u (symbol k) = refl
+shifted_none u (variable k) = unraised (nat_lt k u) k
+shifted_none u (rule_variable k) = refl
+shifted_none u (apply f a) = λ i. apply (shifted_none u f i) (shifted_none u a i)
+shifted_none u (bare b) = ap bare (shifted_none (u + 1) b)
+shifted_none u (annotated n b) = λ i. annotated (shifted_none u n i) (shifted_none (u + 1) b i)
+shifted_none u (product a b) = λ i. product (shifted_none u a i) (shifted_none (u + 1) b i)
 
 below : (u k : ℕ) (x : Tree) → k < u → (if nat_lt k u then variable k else x) ≡ variable k
 below u k x l = grind (arith, nat_tests)
@@ -73,6 +89,9 @@ module _ (ns : List Node) (g : Given) (goal : Goal) (s : Summary) (h : IsSummary
   pub unchanged_shift : (by : ℕ) → goal.change ≡ Shift by → s.bound ≤ goal.depth → wanted ns g goal ≡ term ns goal.id
   unchanged_shift by e l = ap (λ c. changed ns g c goal.depth (term ns goal.id)) e
       ∙ shift_closed goal.depth by (term ns goal.id) (closed_further s.bound goal.depth (term ns goal.id) l h.closed)
+
+  pub unchanged_shift_none : (by : ℕ) → goal.change ≡ Shift by → by ≡ 0 → wanted ns g goal ≡ term ns goal.id
+  unchanged_shift_none by e z = ap (λ c. changed ns g c goal.depth (term ns goal.id)) e ∙ ap (λ n. shift goal.depth n (term ns goal.id)) z ∙ shifted_none goal.depth (term ns goal.id)
 
   pub unchanged_substitute : (u : TermId) → goal.change ≡ Substitute u → s.bound ≤ goal.depth → wanted ns g goal ≡ term ns goal.id
   unchanged_substitute u e l = ap (λ c. changed ns g c goal.depth (term ns goal.id)) e

@@ -1,6 +1,7 @@
 //! Between stored terms and terms of boxes.
 ghost use Rattle.std.specs.Prelude.{◌≡◌, IfOk};
 ghost use Rattle.dk_model.specs.Trees.{tree};
+ghost use Rattle.dk_model.specs.Erasure.{erased};
 ghost use Rattle.shared_term.specs.Storage.{stored_term};
 
 use crate::Stored;
@@ -15,7 +16,17 @@ impl Stored {
         ensures { IfOk result (λ s. stored_term s ≡ tree it.now) }
     {
         let mut nodes = Vec::new(alloc);
-        let root = spelt(alloc, &mut nodes, it)?;
+        let root = spelt(alloc, &mut nodes, it, false)?;
+        nodes.shrink_to_fit();
+        Ok(Stored { nodes, root })
+    }
+
+    /// The same of the term without its annotations.
+    pub fn from_erased(alloc: Global, it: &Term) -> Result<Stored, NoMemory>
+        ensures { IfOk result (λ s. stored_term s ≡ erased (tree it.now)) }
+    {
+        let mut nodes = Vec::new(alloc);
+        let root = spelt(alloc, &mut nodes, it, true)?;
         nodes.shrink_to_fit();
         Ok(Stored { nodes, root })
     }

@@ -65,13 +65,14 @@ fn is_other(given: &Given<'_>, depth: u64, k: u64) -> bool
     k >= depth && k - depth < given.bound && !is_in(k - depth, given.arguments)
 }
 
-// Whether the change leaves the term as it is, as its summary shows.
-fn stays(nodes: &Nodes, given: &Given<'_>, goal: Goal) -> bool
+/// Whether the change leaves the term as it is, as its summary shows.
+pub(crate) fn stays(nodes: &Nodes, given: &Given<'_>, goal: Goal) -> bool
     requires { goal.id.0 < length nodes.now }
     ensures { IsTrue result → wanted nodes.now given.now goal ≡ term nodes.now goal.id }
 {
     let summary = nodes.summary(goal.id);
     match goal.change {
+        Change::Shift(0) => true,
         Change::Shift(_) => summary.bound <= goal.depth,
         Change::Substitute(_) => summary.bound <= goal.depth,
         Change::Erase => !summary.annotations,

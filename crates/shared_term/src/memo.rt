@@ -42,7 +42,7 @@ pub(crate) struct Memo {
     ghost begun: { 0 < era },
 }
 
-// Two goals that pick the same slot only cost time.
+// Two goals that pick the same slot only cost time. All slots are used where their number is a power of two.
 fn slot_of(goal: Goal, count: usize) -> usize {
     let change = match goal.change {
         Change::Shift(by) => by.wrapping_mul(2),
@@ -56,11 +56,7 @@ fn slot_of(goal: Goal, count: usize) -> usize {
         .wrapping_add(change.wrapping_mul(0x9e37_79b9))
         .wrapping_add(goal.depth << 21)
         .wrapping_mul(0x9e37_79b9_7f4a_7c15);
-    if count == 0 {
-        0
-    } else {
-        ((key >> 32) % count as u64) as usize
-    }
+    (key >> 32) as usize & count.wrapping_sub(1)
 }
 
 impl Memo {

@@ -8,6 +8,7 @@ ghost use Rattle.shared_term.specs.Pools.{term, terms, denoted, Extends, IsWithi
 ghost use Rattle.shared_term.specs.Changes.{AreCaptures, captured_terms};
 
 use crate::change::{Change, Frame, Given, Goal};
+use crate::entering::stays;
 use crate::loading::loaded;
 use crate::memos::Memos;
 use crate::storing::stored;
@@ -97,6 +98,19 @@ impl Pool {
         ensures { IsTrue result ↔ (term self.now a ≡ term self.now b) }
     {
         self.nodes.same(a, b)
+    }
+
+    /// Whether no abstraction of the term has an annotation.
+    pub fn is_erased(&self, id: TermId) -> bool
+        requires { id.0 < length self.now }
+        ensures { IsTrue result → erased (term self.now id) ≡ term self.now id }
+    {
+        let goal = Goal {
+            change: Change::Erase,
+            id,
+            depth: 0,
+        };
+        stays(&self.nodes, &NOTHING, goal)
     }
 
     /// The place of a node, which goes last where it isn't there.

@@ -1,10 +1,10 @@
 //! A term of boxes spelt in a list of nodes.
-ghost use Rattle.std.specs.Prelude.{◌≡◌, ◌<◌, ◌++◌, ◌∷◌, [], length, IfOk, OnOk};
+ghost use Rattle.std.specs.Prelude.{◌≡◌, ◌<◌, ◌++◌, ◌∷◌, [], Bool, length, IfOk, OnOk};
 ghost use Rattle.dk_model.specs.Trees.{tree};
 ghost use Rattle.shared_term.specs.declared.building.Stage.TheVariants.{Before, After};
 ghost use Rattle.shared_term.specs.Pools.{term, terms, denoted, IsWithin};
 ghost use Rattle.shared_term.specs.Storage.{IsSpelt};
-ghost use Rattle.shared_term.specs.Spelling.{AreThere, Turns};
+ghost use Rattle.shared_term.specs.Spelling.{AreThere, Turns, spelt_tree};
 
 use crate::building::{Stage, Waiting};
 use crate::change::Pair;
@@ -19,10 +19,11 @@ fn before<'a>(
     nodes: &mut Vec<Node>,
     waiting: &mut Vec<Waiting<&'a Term, TermId>>,
     it: &'a Term,
+    erases: bool,
 ) -> Result<Stage<&'a Term, TermId>, NoMemory>
     requires spelt { IsSpelt nodes.old.items }
     requires there { AreThere (length nodes.old.items) waiting.old.items }
-    ensures turns { IfOk result (λ s. Turns nodes.old.items nodes.new.items
+    ensures turns { IfOk result (λ s. Turns erases nodes.old.items nodes.new.items
         waiting.old.items (Before it.entry) waiting.new.items s) }
 {
     match it {
@@ -45,6 +46,10 @@ fn before<'a>(
                 Ok(Stage::Before(b))
             }
             Some(n) => {
+                if erases {
+                    waiting.push(Waiting::Body)?;
+                    return Ok(Stage::Before(b));
+                }
                 let second: &'a Term = b;
                 waiting.push(Waiting::First {
                     pair: Pair::Abstraction,
@@ -74,8 +79,8 @@ fn after<'a>(
     requires spelt { IsSpelt nodes.old.items }
     requires there { AreThere (length nodes.old.items) (waiting.old.items ++ last ∷ []) }
     requires id { id.0 < length nodes.old.items }
-    ensures turns { let before = waiting.old.items ++ last.entry ∷ [] in IfOk result
-        (λ s. Turns nodes.old.items nodes.new.items before (After id) waiting.new.items s) }
+    ensures turns { (erases : Bool) → let before = waiting.old.items ++ last.entry ∷ [] in IfOk result
+        (λ s. Turns erases nodes.old.items nodes.new.items before (After id) waiting.new.items s) }
 {
     match last {
         Waiting::First { pair, second } => {
@@ -89,18 +94,23 @@ fn after<'a>(
     }
 }
 
-/// The place of the term, once each node of it is in the list.
-pub(crate) fn spelt(alloc: Global, nodes: &mut Vec<Node>, it: &Term) -> Result<TermId, NoMemory>
+/// The place of the term, or of the same without its annotations, once each node of it is in the list.
+pub(crate) fn spelt(
+    alloc: Global,
+    nodes: &mut Vec<Node>,
+    it: &Term,
+    erases: bool,
+) -> Result<TermId, NoMemory>
     requires { IsSpelt nodes.old.items }
     ensures there { IfOk result (λ r. r.0 < length nodes.new.items) }
-    ensures is { IfOk result (λ r. term nodes.new.items r ≡ tree it.now) }
+    ensures is { IfOk result (λ r. term nodes.new.items r ≡ spelt_tree erases (tree it.now)) }
     ensures spelt { OnOk result (IsSpelt nodes.new.items) }
 {
     let mut waiting = Vec::new(alloc);
     let mut stage = Stage::Before(it);
     loop {
         stage = match stage {
-            Stage::Before(part) => before(nodes, &mut waiting, part)?,
+            Stage::Before(part) => before(nodes, &mut waiting, part, erases)?,
             Stage::After(id) => match waiting.pop() {
                 None => return Ok(id),
                 Some(last) => after(nodes, &mut waiting, last, id)?,

@@ -403,6 +403,36 @@ fn boxed_terms_are_stored_and_come_back(rt: HostRuntime) -> Result<(), Fail> {
     Ok(())
 }
 
+// `0 1 -> (y => R2 0) (y => Type Kind)`.
+fn bared(alloc: Global) -> Result<Term, NoMemory> {
+    let domain = make_app(alloc, Term::Var(0), Term::Var(1))?;
+    let bare = make_bare(alloc, make_app(alloc, Term::Rvar(2), Term::Var(0))?)?;
+    let body = make_app(alloc, Term::Star, Term::Kind)?;
+    make_product(
+        alloc,
+        domain,
+        make_app(alloc, bare, make_bare(alloc, body)?)?,
+    )
+}
+
+// Whether the one has annotations, and the other is stored without them.
+fn loses_annotations(pool: &mut Pool, term: &Term, bare: &Term) -> Result<bool, NoMemory> {
+    let alloc = pool.alloc();
+    let whole = pool.load(&Stored::from_term(alloc, term)?)?;
+    let erased = Stored::from_erased(alloc, term)?;
+    let id = pool.load(&erased)?;
+    Ok(!pool.is_erased(whole) && pool.is_erased(id) && erased.to_term(alloc)?.equal(bare))
+}
+
+#[test]
+fn boxed_terms_are_stored_without_annotations(rt: HostRuntime) -> Result<(), Fail> {
+    let mut pool = Pool::new(rt.alloc())?;
+    let term = boxed(rt.alloc())?;
+    let bare = bared(rt.alloc())?;
+    assert!(rt; loses_annotations(&mut pool, &term, &bare)?);
+    Ok(())
+}
+
 // A chain of applications, open at its end.
 fn chain(pool: &mut Pool, count: u32) -> Result<TermId, NoMemory>
     ensures within { IfOk result (λ id. id.0 < length pool.new) }

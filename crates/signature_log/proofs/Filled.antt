@@ -159,18 +159,3 @@ module _ {B A : Type 0} (places : B → List A) (sound : B → Type 0) (most : �
         filled = subst (AreFilled places sound most) (sym made) (first_filled c x one some good);
         fits = omega (arith, alone);
       }
-
-  -- a full block and a further one
-  pub paired : (b c : B) (new : List B) (x : A) → new ≡ b ∷ c ∷ [] → sound b → length (places b) ≡ most → most < 2 ^ 64 - 1 → places c ≡ x ∷ [] → 0 < most → sound c → IsBranch places sound most new
-  paired b c new x made good full fits one some further =
-      let first : (length (places c) ≡ 1) = ap length one in
-      let count : length new ≡ 2 = ap length made in
-      let all : length (flat_map places new) ≡ length (places b) + (length (places c) + 0) = ap (λ bs. length (flat_map places bs)) made ∙ (length-append (places b) (places c ++ []) ∙ ap (λ n. length (places b) + n) (length-append (places c) [])) in
-      record {
-        few = omega (arith, count);
-        filled = subst (AreFilled places sound most) (sym made) (good, (full, (further, ((omega (arith, first), omega (arith, first, some)), tt))));
-        fits = omega (arith, all, full, fits, first);
-      }
-
-  pub paired_places : (b c : B) (x : A) → places c ≡ x ∷ [] → flat_map places (b ∷ c ∷ []) ≡ places b ++ x ∷ []
-  paired_places b c x one = ap (λ xs. places b ++ xs) (append-nil (places c) ∙ one)

@@ -1,7 +1,7 @@
 pub mod Blocks
 pub mod Slots
 pub mod Placed
-pub mod Levels
+pub mod Listings
 pub mod Rows
 pub mod Versions
 pub mod Reducers

@@ -40,20 +40,6 @@ impl<B> Branch<B> {
     }
 }
 
-impl<B: Drop> Branch<B> {
-    /// Two blocks.
-    pub fn pair(alloc: Global, first: B, second: B) -> Result<Branch<B>, NoMemory>
-        ensures { IfOk result (λ branch. branch ≡ first ∷ second ∷ []) }
-    {
-        let mut blocks = Vec::with_capacity(alloc, 2)?;
-        blocks.push(first)?;
-        blocks.push(second)?;
-        Ok(Branch {
-            blocks: Arc::new(alloc, blocks)?,
-        })
-    }
-}
-
 impl<B: Share> Share for Branch<B> {
     fn share(&self) -> Result<Branch<B>, NoMemory> {
         Ok(Branch {

@@ -27,6 +27,14 @@ impl<T> Model for Leaf<T> {
     ghost view = { λ leaf. (arc_value leaf.places).items };
 }
 
+impl<T> Leaf<T> {
+    pub fn as_slice(&self) -> &[T]
+        ensures { result.now ≡ self.now }
+    {
+        self.places.as_slice()
+    }
+}
+
 impl<T: Share> Share for Leaf<T> {
     fn share(&self) -> Result<Leaf<T>, NoMemory> {
         Ok(Leaf {

@@ -11,7 +11,7 @@ mod fork;
 mod grow;
 mod held;
 mod leaf;
-mod levels;
+mod many;
 mod packed;
 mod place;
 mod reducer;
@@ -21,6 +21,8 @@ mod slots;
 mod steps;
 mod storing;
 mod table;
+#[cfg(test)]
+mod tests;
 mod version;
 
 pub use grow::Grow;

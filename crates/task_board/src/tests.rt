@@ -21,11 +21,15 @@ impl Checker for Told {
 
     type Job = Verdict;
 
+    type Kit = ();
+
     ghost due = { λ job. job };
 
     ghost early = { λ _. true };
 
-    fn check(&self, job: &Verdict) -> Verdict {
+    fn kit(&self) {}
+
+    fn check(&self, _kit: &mut (), job: &Verdict) -> Verdict {
         *job
     }
 }
@@ -122,7 +126,7 @@ fn answer<R: Wait + Abort>(
     ensures own { pass.new.seat.table_id ≡ board.now }
     ensures idle { IsIdle pass.new.seat.me.0 }
 {
-    let verdict = Told.check(&*task.job);
+    let verdict = Told.check(&mut (), &*task.job);
     assert!(rt; verdict == want);
     board.answer(rt, pass, task, verdict);
 }
@@ -203,4 +207,31 @@ fn keeps_two_workers_apart_and_stops_at_a_fault(rt: HostRuntime) {
         Event::Seal(End::Stopped),
     ];
     assert!(rt; book.history() == &history[..]);
+}
+
+// The board keeps no share of a job that was answered, and none of a settled one.
+#[test]
+fn lets_a_job_go(rt: HostRuntime) {
+    let alloc = rt.alloc();
+    let (board, mut reader, passes) = Board::<Told>::new(alloc, 1).expect(
+        &rt,
+        "memory for a board",
+    );
+    let mut passes = passes.into_vec();
+    let mut worker = last_pass(&rt, &board, &mut passes);
+    let job = Arc::new(alloc, Verdict::Accepted).expect(&rt, "memory for a job");
+    let open = job.clone().expect(&rt, "a share");
+    assert!(rt; board.put(&rt, &mut reader, open, false).is_ok());
+    let settled = job.clone().expect(&rt, "a share");
+    assert!(rt; board.put(&rt, &mut reader, settled, true).is_ok());
+    assert!(rt; Arc::strong_count(&job) == 2, "the open job waits");
+    let task = must_claim(&rt, &board, &mut worker);
+    assert!(rt; Arc::strong_count(&job) == 2, "the worker has it");
+    answer(&rt, &board, &mut worker, task, Verdict::Accepted);
+    assert!(rt; Arc::strong_count(&job) == 1, "nobody has it");
+    let sealed = board.seal(&rt, reader, End::Whole);
+    let mut passes = Listed::new(alloc);
+    pass_back(&rt, &board, &mut passes, worker);
+    let book = board.close(sealed, passes);
+    assert!(rt; book.len() == 2);
 }

@@ -8,6 +8,7 @@
 #![tactic(auto)]
 
 mod crossing;
+mod door;
 mod kept;
 mod slot;
 mod steps;

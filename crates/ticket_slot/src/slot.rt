@@ -3,6 +3,7 @@ ghost use Rattle.std.specs.Prelude.{◌≡◌, ℕ, ◌+◌, ◌-◌, ◌^◌, �
 ghost use Rattle.std.specs.List.{All};
 ghost use Rattle.ticket_slot.specs.Views.{IsFree, IsReader, HasTurn, TookTurn, AddsOne, KeepsList, EachOnce, EndsIn, StartsWith, calls_by, added, passed, child, parent, joined, ended_of, reader};
 
+use crate::door::Door;
 use crate::kept::Kept;
 use crate::steps::{Adding, Count, Draw, Give, Look, Seating, Turns};
 use crate::view::View;
@@ -22,6 +23,7 @@ const COUNT: usize = 2;
 /// One value that threads take turns at. Contracts see the identity that its passes carry.
 pub struct Slot<V: Kept> {
     table: Table<Option<V>, View<V::Event, V::Item>, (), Turns<V>, Global>,
+    door: Door,
 }
 
 impl<V: Kept> Model for Slot<V> {
@@ -63,7 +65,10 @@ impl<V: Kept> Slot<V> {
         }
         slots.push_reserved(Some(value));
         match Table::new(alloc, &[0, 0, 0], slots, &()) {
-            Ok((table, pass)) => Ok((Slot { table }, pass)),
+            Ok((table, pass)) => {
+                let door = Door::new();
+                Ok((Slot { table, door }, pass))
+            }
             Err(refused) => Err(NoMemory {
                 value: only_value(refused.slots),
             }),
@@ -107,7 +112,7 @@ impl<V: Kept> Slot<V> {
         ensures each_once { EachOnce pass.me.0.made pass.me.0.ended }
         ensures no_others { (n : ℕ) → pass.me.0.made ≤ n → calls_by n (V.events result) ≡ [] }
     {
-        let Slot { table } = self;
+        let Slot { table, door: _ } = self;
         let mut closed = table.close_with(pass);
         let Some(value) = closed.take(0) else {
             unreachable!()
@@ -116,8 +121,8 @@ impl<V: Kept> Slot<V> {
         value
     }
 
-    /// Draws a ticket, waits for its turn, and takes the value. While it waits it yields. At the turn
-    /// the pass's `seen` is the whole history, and `known` the reader's list.
+    /// Passes the door, draws a ticket, waits for its turn, and takes the value. While it waits it
+    /// yields. At the turn the pass's `seen` is the whole history, and `known` the reader's list.
     pub fn lock<R: Wait>(&self, rt: &R, pass: &mut Pass<V>) -> V
         requires own { pass.old.table_id ≡ self.now }
         requires free { IsFree pass.old.me }
@@ -129,6 +134,7 @@ impl<V: Kept> Slot<V> {
         ensures mine { calls_by pass.old.me.0.number (V.events result) ≡ pass.old.me.0.mine }
         ensures reader { pass.old.me.0.number ≡ 0 → V.items result ≡ pass.old.me.0.known }
     {
+        self.door.enter(rt);
         let shared = &self.table.shared;
         let ticket = shared.fetch_add::<Draw>(pass, NEXT, 1);
         for _ in rt.forever() {
@@ -188,6 +194,7 @@ impl<V: Kept> Slot<V> {
         let empty = shared.exchange(pass, 0, Some(value));
         let None = empty else { unreachable!() };
         shared.fetch_add::<Give>(pass, SERVING, 1);
+        self.door.leave();
     }
 }
 

@@ -10,7 +10,7 @@ use Rattle.dk_model.specs.WellFormed.{IsKeptBody, AreRulesOver, IsEntryOver, bef
 use Rattle.dk_model.specs.declared.code.Code.{Code}
 use Rattle.dk_model.specs.declared.signature.SymSort.{SymSort}
 use Rattle.dk_model.specs.declared.signature.SymSort.TheVariants.{Static, Definable, Theorem}
-use Rattle.typing_model.proofs.Conditions.{AreNumberedRules, IsNumberedEntry, IsNumbered, IsPlainOption, ArePlainRules, IsPlainEntry, HasNoAnnotations}
+use Rattle.typing_model.specs.Conditions.{AreNumberedRules, IsNumberedEntry, IsNumbered, IsPlainOption, ArePlainRules, IsPlainEntry, HasNoAnnotations}
 use Rattle.typing_model.proofs.Plain.{plain_erased}
 use Rattle.typing_model.proofs.PlainEntries.{entry_plain}
 use Rattle.typing_model.proofs.Rules.{whnf_reduces, comparison_joins}

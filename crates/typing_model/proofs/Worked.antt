@@ -6,7 +6,7 @@ use Rattle.dk_model.specs.Scoping.{left_symbol, left_rule_variable, left_wildcar
 use Rattle.dk_model.specs.declared.signature.SymSort.TheVariants.{Static, Definable, Theorem}
 use Rattle.typing_model.specs.Steps.{at_rule_variable, no_arguments, one_argument, Step, beta, by_rule, no_step, one_step, AreMet, no_condition, one_condition}
 use Rattle.typing_model.specs.Derivations.{HasType, RuleHasDerivation, HasDerivation}
-use Rattle.typing_model.proofs.Conditions.{IsNumbered, HasNoAnnotations}
+use Rattle.typing_model.specs.Conditions.{IsNumbered, HasNoAnnotations}
 use Rattle.typing_model.proofs.Rules.{whnf_reduces, normal_reduces, comparison_joins}
 use Rattle.typing_model.proofs.RuleTyping.{rule_derives}
 use Rattle.typing_model.proofs.Commands.{accepted_derives}

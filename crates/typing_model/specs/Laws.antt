@@ -1,9 +1,9 @@
 -- What the laws say: the answers of evaluation and of typing have the meaning that reduction and derivations give them.
-use Rattle.std.specs.Prelude.{ℕ, ◌≡◌, Some, Ok, true, List, [], ◌∷◌, ◌++◌}
+use Rattle.std.specs.Prelude.{ℕ, ◌≡◌, Option, Some, Ok, true, List, [], ◌∷◌, ◌++◌}
 use Rattle.dk_model.specs.PlainTerms.{Tree}
 use Rattle.dk_model.specs.PlainEntries.{PlainRule, PlainSignature}
 use Rattle.dk_model.specs.WellFormed.{IsSignature}
-use Rattle.dk_model.specs.PlainCommands.{PlainScopedRule, PlainCommand}
+use Rattle.dk_model.specs.PlainCommands.{PlainScopedRule, PlainCommand, declare}
 use Rattle.dk_model.specs.Shapes.{shape_of}
 use Rattle.dk_model.specs.RuleTyping.{rule_checked}
 use Rattle.dk_model.specs.Spines.{head_symbol}
@@ -13,8 +13,10 @@ use Rattle.dk_model.specs.Equations.{selection_of}
 use Rattle.dk_model.specs.Typing.{answer, inferred, checked}
 use Rattle.dk_model.specs.Verdicts.{verdict_of, inferred_type, entry_of}
 use Rattle.dk_model.specs.declared.code.Verdict.TheVariants.{Accepted}
+use Rattle.dk_model.specs.declared.signature.SymSort.{SymSort}
 use Rattle.typing_model.specs.Steps.{ReducesTo, AreJoinable}
 use Rattle.typing_model.specs.Derivations.{Context, HasType, Fits, RuleHasDerivation, HasDerivation}
+use Rattle.typing_model.specs.Conditions.{IsNumbered, HasNoAnnotations}
 
 -- a term reduces to its weak head form
 abbrev pub WhnfReduces : PlainSignature → Type 0
@@ -46,6 +48,10 @@ CheckedFits S = (types : List Tree) (context : Context) (n m : ℕ) (t T : Tree)
 abbrev pub AcceptedHasDerivation : PlainSignature → Type 0
 AcceptedHasDerivation S = (command : PlainCommand) (budget : ℕ) → verdict_of S command budget ≡ Accepted → HasDerivation S command
 
+-- a declaration, definition or theorem that the plain check accepts has a derivation
+abbrev pub DeclarationHasDerivation : PlainSignature → Type 0
+DeclarationHasDerivation S = (sort : SymSort) (typ body : Option Tree) (budget : ℕ) → verdict_of S (declare sort typ body) budget ≡ Accepted → HasDerivation S (declare sort typ body)
+
 -- a rule whose shape is typed has a derivation
 abbrev pub TypedRuleHasDerivation : PlainSignature → Type 0
 TypedRuleHasDerivation S = (rule : PlainScopedRule) (shape : PlainRule) (n m : ℕ) (u : Unit {0}) → shape_of rule ≡ Ok shape → rule_checked S shape n ≡ answer u m → RuleHasDerivation S rule
@@ -53,6 +59,15 @@ TypedRuleHasDerivation S = (rule : PlainScopedRule) (shape : PlainRule) (n m : �
 -- a signature stays one with the entry of a further command
 abbrev pub StaysSignature : PlainSignature → Type 0
 StaysSignature S = (command : PlainCommand) (budget : ℕ) → IsSignature S → IsSignature (S ++ (entry_of S command (inferred_type S command budget) ∷ []))
+
+-- a signature stays numbered with the entry of a further command, whatever type its body has
+abbrev pub StaysNumbered : PlainSignature → Type 0
+StaysNumbered S = (command : PlainCommand) (typ : Option Tree) → IsNumbered S → IsNumbered (S ++ (entry_of S command typ ∷ []))
+
+-- a numbered signature without annotations stays without them
+abbrev pub StaysPlain : PlainSignature → Type 0
+StaysPlain S = (command : PlainCommand) (budget : ℕ) → IsNumbered S → HasNoAnnotations S
+    → HasNoAnnotations (S ++ (entry_of S command (inferred_type S command budget) ∷ []))
 
 -- no context gives the term a type
 abbrev pub HasNoType : PlainSignature → Tree → Type 0

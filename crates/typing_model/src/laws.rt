@@ -1,19 +1,24 @@
 //! The laws between the plain check and the meaning of typing, each on a function that does nothing.
 //!
-//! A caller that needs a law calls its function, whose clauses then stand among what is known.
+//! A caller that needs a law calls its function, whose clauses then stand among what is known. Each law asks the least of
+//! the signature that its proof needs; a well-formed one meets all conditions (`signature_meets_conditions`).
 
 ghost use Rattle.std.specs.Prelude.{[]};
 ghost use Rattle.dk_model.specs.Trees.{bare, kind};
 ghost use Rattle.dk_model.specs.WellFormed.{IsSignature};
 ghost use Rattle.typing_model.specs.Captures.{CaptureGivesPart};
+ghost use Rattle.typing_model.specs.Conditions.{HasNoAnnotations, IsNumbered};
 ghost use Rattle.typing_model.specs.Laws.{
   AcceptedHasDerivation,
   CheckedFits,
   ComparisonJoins,
+  DeclarationHasDerivation,
   HasNoType,
   InferredHasType,
   NormalReduces,
   SelectionReduces,
+  StaysNumbered,
+  StaysPlain,
   StaysSignature,
   TypedRuleHasDerivation,
   WhnfReduces,
@@ -25,10 +30,10 @@ ghost use Rattle.typing_model.specs.Laws.{
 /// conditions of repeated rule variables and guards. They need not be confluent nor terminate: where the units suffice,
 /// the answer is a reduct.
 pub fn evaluation_reduces()
-    ensures weak_head_form { (S : _) → IsSignature S → WhnfReduces S }
-    ensures normal_form { (S : _) → IsSignature S → NormalReduces S }
-    ensures comparison { (S : _) → IsSignature S → ComparisonJoins S }
-    ensures selection { (S : _) → IsSignature S → SelectionReduces S }
+    ensures weak_head_form { (S : _) → IsNumbered S → WhnfReduces S }
+    ensures normal_form { (S : _) → IsNumbered S → NormalReduces S }
+    ensures comparison { (S : _) → IsNumbered S → ComparisonJoins S }
+    ensures selection { (S : _) → IsNumbered S → SelectionReduces S }
 {
     // Proved for each signature, number of units and term.
 }
@@ -45,15 +50,20 @@ pub fn capture_gives_part()
 
 /// A term has the type that inference answers, and fits the type against which checking accepts it.
 pub fn typing_derives()
-    ensures inference { (S : _) → IsSignature S → InferredHasType S }
-    ensures checking { (S : _) → IsSignature S → CheckedFits S }
+    ensures inference { (S : _) → IsNumbered S → InferredHasType S }
+    ensures checking { (S : _) → IsNumbered S → CheckedFits S }
 {
     // Proved by the structure of the term.
 }
 
 /// A command that the plain check accepts has a derivation over the commands before it.
+///
+/// A declaration has one whatever annotations the signature has; rules only where it has none, since the types of their
+/// rule variables are taken from it.
 pub fn accepted_has_derivation()
-    ensures { (S : _) → IsSignature S → AcceptedHasDerivation S }
+    ensures command { (S : _) → IsSignature S → AcceptedHasDerivation S }
+    ensures plain { (S : _) → IsNumbered S → HasNoAnnotations S → AcceptedHasDerivation S }
+    ensures declaration { (S : _) → IsNumbered S → DeclarationHasDerivation S }
 {
     // Proved for each command and budget.
 }
@@ -62,18 +72,44 @@ pub fn accepted_has_derivation()
 ///
 /// The types of its rule variables are those that its left side gives.
 pub fn typed_rule_has_derivation()
-    ensures { (S : _) → IsSignature S → TypedRuleHasDerivation S }
+    ensures signature { (S : _) → IsSignature S → TypedRuleHasDerivation S }
+    ensures plain { (S : _) → IsNumbered S → HasNoAnnotations S → TypedRuleHasDerivation S }
 {
     // Proved by the structure of the left side.
 }
 
-/// The entries of accepted commands are a well-formed signature, which the other laws ask for: none are one, and they stay
-/// one with the entry of a further command.
+/// A well-formed signature meets the conditions of the other laws: its rules number their variables, and it has no
+/// annotations.
+pub fn signature_meets_conditions()
+    ensures numbered { (S : _) → IsSignature S → IsNumbered S }
+    ensures plain { (S : _) → IsSignature S → HasNoAnnotations S }
+{
+    // Proved entry by entry.
+}
+
+/// The entries of accepted commands are a well-formed signature: none are one, and they stay one with the entry of a
+/// further command.
 pub fn entries_form_signature()
     ensures empty { IsSignature [] }
     ensures more { (S : _) → StaysSignature S }
 {
     // Proved by the shapes of rules, and by the types that terms have.
+}
+
+/// Entries stay numbered with that of a further command, also where those before are no well-formed signature.
+pub fn entries_are_numbered()
+    ensures empty { IsNumbered [] }
+    ensures more { (S : _) → StaysNumbered S }
+{
+    // Proved by the shapes of rules.
+}
+
+/// Numbered entries without annotations stay without them with that of a further command.
+pub fn entries_are_plain()
+    ensures empty { HasNoAnnotations [] }
+    ensures more { (S : _) → StaysPlain S }
+{
+    // Proved by the types that terms have.
 }
 
 /// `Kind` has no type, and an abstraction without annotation none of its own.

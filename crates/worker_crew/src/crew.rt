@@ -4,6 +4,7 @@ ghost use Rattle.task_board.specs.Passes.{IsIdle, IsOver};
 
 use crate::worker::work;
 use board_core::{Checker, Gate};
+use core::thread::Stack;
 use dk_model::{Listed, NoMemory};
 use std::alloc::Global;
 use std::snapshot::Snapshot;
@@ -11,6 +12,21 @@ use std::sync::Wait;
 use std::thread;
 use std::thread::{Promise, Threads};
 use task_board::{Board, WorkerPass};
+
+/// What is read beside the workers. It is no closure, since no clause says what a closure that was handed over wrote
+/// through a `&mut` that it holds: what was lent to it comes back in what it gives.
+pub trait Reading {
+    type Given;
+
+    ghost can_read: { Self → Type 0 };
+
+    ghost gives: { Self → Self.Given → Type 0 };
+
+    /// Reads, and seals the board.
+    fn read(self) -> Self::Given
+        requires { can_read self }
+        ensures { gives self result };
+}
 
 /// What a worker's thread gives back for the pass that it was given.
 struct Returned<C: Checker> {
@@ -31,29 +47,32 @@ impl<C: Checker> Promise<WorkerPass<C>> for Returned<C> {
         × IsIdle r.seat.me.0 × IsOver r.seat.me.0 };
 }
 
-/// Starts a worker for each pass, lets the reader read, works itself with the passes whose threads
-/// couldn't be made, and gives all passes back with what the reader gave. The reader has to seal the
-/// board, or no worker ends. Where there is no memory for the workers' handles no thread is made.
+/// Starts a worker for each pass, with a stack of so many bytes, lets the reader read, works itself
+/// with the passes whose threads couldn't be made, and gives all passes back with what the reader
+/// gave. The reader has to seal the board, or no worker ends. Where there is no memory for the
+/// workers' handles no thread is made.
 pub fn run_crew<
     R: Threads + Wait + Sync,
     C: Checker + Send + Sync,
     G: Gate + Sync,
+    D: Reading<Given = T> + Drop,
     T,
-    D: FnOnce() -> T,
 >(
     rt: &R,
     alloc: Global,
+    stack: usize,
     board: &Board<C>,
     passes: Listed<WorkerPass<C>>,
     checker: &C,
     gate: &G,
-    read: D,
+    reading: D,
 ) -> (T, Listed<WorkerPass<C>>)
 where
     C::Job: Drop + Send + Sync,
+    C::Kit: Drop + Send,
     requires idle { All (λ p. (p.seat.table_id ≡ board.now) × IsIdle p.seat.me.0) passes }
-    requires read { D.pre read }
-    ensures read { D.post read result.0 }
+    requires read { D.can_read reading }
+    ensures read { D.gives reading result.0 }
     ensures count { length result.1 ≡ length passes }
     ensures over { All (λ p. (p.seat.table_id ≡ board.now)
         × IsIdle p.seat.me.0 × IsOver p.seat.me.0) result.1 }
@@ -63,8 +82,8 @@ where
         rt,
         move |scope| -> (T, Listed<WorkerPass<C>>)
             requires { All (λ p. (p.seat.table_id ≡ board.now) × IsIdle p.seat.me.0) passes
-                × D.pre read }
-            ensures { D.post read result.0 × (length result.1 ≡ length passes)
+                × D.can_read reading }
+            ensures { D.gives reading result.0 × (length result.1 ≡ length passes)
                 × All (λ p. (p.seat.table_id ≡ board.entry.now)
                 × IsIdle p.seat.me.0 × IsOver p.seat.me.0) result.1 }
         {
@@ -72,13 +91,14 @@ where
             let mut handles = Vec::new(alloc);
             let mut late = Vec::new(alloc);
             let Ok(()) = make_room(&mut handles, &mut late, passes.len()) else {
-                let given = read();
+                let given = reading.read();
                 let passes = work_off(rt, board, passes, checker, gate);
                 return (given, Listed::from_vec(passes));
             };
             while let Some(pass) = passes.pop() {
                 let given = Snapshot::of(&pass);
-                match scope.spawn_with(
+                match Stack::new().stack_size(stack).spawn_scoped_with(
+                    scope,
                     Returned { given },
                     move || -> WorkerPass<C>
                         requires { (pass.seat.table_id ≡ board.now) × IsIdle pass.seat.me.0 }
@@ -90,7 +110,7 @@ where
                     Err(refused) => late.push_reserved(refused.value),
                 }
             }
-            let given = read();
+            let given = reading.read();
             while let Some(worker) = late.pop() {
                 passes.push_reserved(worker());
             }
@@ -126,6 +146,7 @@ pub fn work_off<R: Wait, C: Checker, G: Gate>(
 ) -> Vec<WorkerPass<C>>
 where
     C::Job: Drop,
+    C::Kit: Drop,
     requires waiting { All (λ p. (p.seat.table_id ≡ board.now) × IsIdle p.seat.me.0) passes.items }
     ensures count { vec_len result ≡ vec_len passes }
     ensures room { vec_capacity result ≡ vec_capacity passes }

@@ -8,7 +8,7 @@ mod crew;
 mod patience;
 mod worker;
 
-pub use crew::run_crew;
+pub use crew::{Reading, run_crew};
 pub use worker::work;
 
 #[cfg(test)]

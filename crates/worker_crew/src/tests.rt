@@ -6,7 +6,7 @@ mod hands;
 mod told;
 
 use crate::crew::work_off;
-use crate::run_crew;
+use crate::{Reading, run_crew};
 use board_core::{End, Event};
 use dk_model::{Code, Listed, Verdict};
 use hands::{last_hand, pass_back, put_all, reader_and_eight};
@@ -171,6 +171,37 @@ fn works_off_passes_without_threads(rt: HostRuntime) {
     assert!(rt; book.fault() == Some((10, fault)));
 }
 
+/// Puts two jobs, of which the second is at fault, and seals.
+#[derive(Drop)]
+struct TwoPuts<'a, R: Wait> {
+    rt: &'a R,
+    alloc: Global,
+    board: &'a Board<Told>,
+    reader: ReaderPass<Told>,
+}
+
+impl<'a, R: Wait> Reading for TwoPuts<'a, R> {
+    ghost use Rattle.std.specs.Prelude.{◌≡◌, length};
+
+    type Given = SealedPass<Told>;
+
+    ghost can_read = { λ t. (t.reader.seat.table_id ≡ t.board.now)
+        × (length t.reader.seat.me.0.known ≡ 0) };
+
+    ghost gives = { λ t sealed. (sealed.seat.table_id ≡ t.board.now)
+        × (sealed.seat.me.0.made ≡ t.reader.seat.me.0.made) };
+
+    fn read(self) -> SealedPass<Told> {
+        let TwoPuts {
+            rt,
+            alloc,
+            board,
+            reader,
+        } = self;
+        put_all(rt, alloc, board, reader, 1, Verdict::Refused(Code::E21))
+    }
+}
+
 /// Two jobs and a crew of two, each with a thread of its own.
 fn read_with_crew<R: Threads + Wait + Sync>(
     rt: &R,
@@ -190,18 +221,11 @@ fn read_with_crew<R: Threads + Wait + Sync>(
     ensures own_workers { All (λ p. p.seat.table_id ≡ board.now) result.1 }
     ensures idle { All (λ p. IsIdle p.seat.me.0) result.1 }
 {
-    run_crew(
+    let reading = TwoPuts {
         rt,
         alloc,
         board,
-        passes,
-        checker,
-        &NoGate,
-        || -> SealedPass<Told>
-            requires own { reader.seat.table_id ≡ board.now }
-            requires few { length reader.seat.me.0.known ≡ 0 }
-            ensures own { result.seat.table_id ≡ board.entry.now }
-            ensures made { result.seat.me.0.made ≡ reader.seat.me.0.made }
-        { put_all(rt, alloc, board, reader, 1, Verdict::Refused(Code::E21)) },
-    )
+        reader,
+    };
+    run_crew(rt, alloc, 1 << 20, board, passes, checker, &NoGate, reading)
 }

@@ -20,6 +20,7 @@ pub fn work<R: Wait, C: Checker, G: Gate>(
 ) -> WorkerPass<C>
 where
     C::Job: Drop,
+    C::Kit: Drop,
     requires own { pass.seat.table_id ≡ board.now }
     requires idle { IsIdle pass.seat.me.0 }
     ensures own { result.seat.table_id ≡ board.now }
@@ -27,13 +28,14 @@ where
     ensures idle { IsIdle result.seat.me.0 }
     ensures over { IsOver result.seat.me.0 }
 {
+    let mut kit = checker.kit();
     let mut patience = Patience::new();
     for _ in rt.forever() {
         match board.claim(rt, &mut pass) {
             Claimed::Over => return pass,
             Claimed::Empty => patience.rest(rt),
             Claimed::Task(task) => {
-                let verdict = gated(checker, gate, task.number, &*task.job);
+                let verdict = gated(checker, gate, &mut kit, task.number, &*task.job);
                 board.answer(rt, &mut pass, task, verdict);
                 patience = Patience::new();
             }
@@ -43,11 +45,17 @@ where
 }
 
 /// The verdict of the job, between the two calls of the gate.
-fn gated<C: Checker, G: Gate>(checker: &C, gate: &G, number: u32, job: &C::Job) -> Verdict
+fn gated<C: Checker, G: Gate>(
+    checker: &C,
+    gate: &G,
+    kit: &mut C::Kit,
+    number: u32,
+    job: &C::Job,
+) -> Verdict
     ensures { (result ≡ C.due job.now) ⊎ (result ≡ Memory) }
 {
     gate.enter(number);
-    let verdict = checker.check(job);
+    let verdict = checker.check(kit, job);
     gate.leave(number);
     verdict
 }

@@ -47,11 +47,15 @@ impl Checker for Told {
 
     type Job = Verdict;
 
+    type Kit = ();
+
     ghost due = { λ job. job };
 
     ghost early = { λ _. true };
 
-    fn check(&self, job: &Verdict) -> Verdict {
+    fn kit(&self) {}
+
+    fn check(&self, _kit: &mut (), job: &Verdict) -> Verdict {
         let verdict = *job;
         if self.meet {
             if verdict == Verdict::Accepted {

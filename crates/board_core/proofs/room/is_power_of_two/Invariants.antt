@@ -1,4 +1,4 @@
-use Rattle.std.proofs.Common.{◌≡◌, ◌<◌, ◌↔◌}
+use Rattle.std.proofs.Common.{◌<◌, ◌↔◌}
 use Rattle.board_core.specs.Kept.{IsPowerOfTwo}
 use Rattle.board_core.proofs.room.is_power_of_two.Given as goal
 

@@ -1,8 +1,8 @@
-use Rattle.std.proofs.Common.{arith, ◌≡◌, ◌+◌, ◌≤◌, ◌∙◌, sym, ap, subst, length, vec_len, vec_capacity}
+use Rattle.std.proofs.Common.{arith, ◌≡◌, ◌+◌, ap, subst, length, vec_len, vec_capacity}
 use Rattle.std.specs.VecDeque.{deque_capacity}
 use Rattle.board_core.specs.Kept.{IsWide}
 use Rattle.board_core.specs.Rooms.{IsRoomBehind}
-use Rattle.board_core.proofs.Rooms.{twice_wide, place_left}
+use Rattle.board_core.proofs.Rooms.{twice_wide}
 use Rattle.board_core.proofs.room.make_place.Goals as goal
 
 pub returns-in-Wider-clause-ok : goal.returns-in-Wider-clause-ok

@@ -52,5 +52,6 @@ returns c =
     record {
       ok = refused texts c.in-Err.error c.in-Err.ensures.faults other;
       taken = ((λ none. absurd (true≢false (sym none))), (λ taken. absurd (not_taken texts c.in-Err.error c.in-Err.ensures.faults other taken)));
+      workers = tt;
       budget = tt;
     }

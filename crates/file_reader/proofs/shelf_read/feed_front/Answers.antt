@@ -1,5 +1,5 @@
-use Rattle.std.proofs.Common.{◌≡◌, ◌++◌, ◌∷◌, [], List, ℕ, ap, refl, subst, sym, ◌∙◌, take, drop, get_or, arith}
-use Rattle.std.proofs.lemmas.List.{append-nil, append_assoc, take_more, take-append-drop}
+use Rattle.std.proofs.Common.{◌≡◌, ◌<◌, ◌+◌, ◌++◌, ◌∷◌, [], List, ℕ, length, ap, refl, subst, sym, ◌∙◌, take, drop, get_or, arith}
+use Rattle.std.proofs.lemmas.List.{append_assoc, take_more, take-append-drop}
 use Rattle.std.proofs.lemmas.Result.{err_from_is_err_and}
 use Rattle.dk_lexer.specs.Tokens.{broken, tokens}
 use Rattle.dk_lexer.specs.Given.{begun_line}
@@ -19,32 +19,35 @@ returns-in_err-count-clause-stands g c = λ bounds limits given goes.
     let halt_is = c.in_err-count.ensures.passes limits given goes.lexer goes.no_fault (tokens limits given broken).tokens goes.goes.parser in
     rw (p.1, p.2, halt_is) (memory_halts (g.J.Judge.stands bounds) (g.J.Judge.stops bounds) limits given c.args.bytes.now (due_line limits (tokens limits given broken).tokens (begun_line limits given)) c.args.reader.now c.args.judge.now goes refl)
 
-pub returns-then-count-gt0-clause-stands : goal.returns-then-count-gt0-clause-stands
-returns-then-count-gt0-clause-stands g c = λ bounds limits given goes.
+pub returns-then-count-bytes-clause-stands : goal.returns-then-count-bytes-clause-stands
+returns-then-count-bytes-clause-stands g c = λ bounds limits given goes.
     let passes = c.in_ok-count.ensures.passes limits given goes.lexer goes.no_fault in
     front_goes (g.J.Judge.stands bounds) (g.J.Judge.stops bounds) limits given (take c.in_ok-count.count c.args.bytes.now) c.args.reader.now c.pass.new.self c.args.judge.now goes passes.0 c.pass.ensures.parser passes.1
 
 pub returns-in_err-feed-clause-stands : goal.returns-in_err-feed-clause-stands
 returns-in_err-feed-clause-stands g c = λ bounds limits given goes.
-    let none : c.in_ok-count.count ≡ 0 = omega arith in
-    let nothing : given ++ take c.in_ok-count.count c.args.bytes.now ≡ given = ap (λ n. given ++ take n c.args.bytes.now) none ∙ append-nil given in
-    let byte = get_or c.args.bytes.now 0 0 in
-    let all : byte ∷ drop 1 c.args.bytes.now ≡ c.args.bytes.now = ap (λ l. l ++ drop 1 c.args.bytes.now) (sym (take_more c.args.bytes.now 0 0 c.requires.some)) ∙ take-append-drop 1 c.args.bytes.now in
+    let n = c.in_ok-count.count in
+    let bytes = c.args.bytes.now in
+    let byte = get_or bytes n 0 in
+    let lt : n < length bytes = omega arith in
+    let whole : (given ++ take n bytes) ++ byte ∷ [] ≡ given ++ take (n + 1) bytes = append_assoc given (take n bytes) (byte ∷ []) ∙ ap (λ l. given ++ l) (sym (take_more bytes n 0 lt)) in
+    let all : (given ++ take (n + 1) bytes) ++ drop (n + 1) bytes ≡ given ++ bytes = append_assoc given (take (n + 1) bytes) (drop (n + 1) bytes) ∙ ap (λ l. given ++ l) (take-append-drop (n + 1) bytes) in
     let passes = c.in_ok-count.ensures.passes limits given goes.lexer goes.no_fault in
-    let passed = subst (λ (bs : List ℕ). GoesOnAfter (g.J.Judge.stands bounds) limits bs c.pass.new.self c.args.judge.now) nothing
-    (front_goes (g.J.Judge.stands bounds) (g.J.Judge.stops bounds) limits given (take c.in_ok-count.count c.args.bytes.now) c.args.reader.now c.pass.new.self c.args.judge.now goes passes.0 c.pass.ensures.parser passes.1) in
+    let passed = front_goes (g.J.Judge.stands bounds) (g.J.Judge.stops bounds) limits given (take n bytes) c.args.reader.now c.pass.new.self c.args.judge.now goes passes.0 c.pass.ensures.parser passes.1 in
     let p = err_from_is_err_and c.from_residual-in_err-feed.result c.from_residual-in_err-feed.ensures.1 in
-    rw (p.1, p.2) (subst (λ (bs : List ℕ). HaltsAtBytes (g.J.Judge.stands bounds) (g.J.Judge.stops bounds) limits bs c.feed.new.judge c.in_err-feed.field-0.0) (append_assoc given (byte ∷ []) (drop 1 c.args.bytes.now) ∙ ap (λ l. given ++ l) all)
-    (halts_wider (g.J.Judge.stands bounds) (g.J.Judge.stops bounds) limits (given ++ byte ∷ []) (drop 1 c.args.bytes.now) c.feed.new.judge c.in_err-feed.field-0.0
-    (c.in_err-feed.ensures.stands bounds limits given passed)))
+    rw (p.1, p.2) (subst (λ (bs : List ℕ). HaltsAtBytes (g.J.Judge.stands bounds) (g.J.Judge.stops bounds) limits bs c.feed.new.judge c.in_err-feed.field-0.0) all
+    (halts_wider (g.J.Judge.stands bounds) (g.J.Judge.stops bounds) limits (given ++ take (n + 1) bytes) (drop (n + 1) bytes) c.feed.new.judge c.in_err-feed.field-0.0
+    (subst (λ (bs : List ℕ). HaltsAtBytes (g.J.Judge.stands bounds) (g.J.Judge.stops bounds) limits bs c.feed.new.judge c.in_err-feed.field-0.0) whole
+    (c.in_err-feed.ensures.stands bounds limits (given ++ take n bytes) passed))))
 
 pub returns-clause-stands : goal.returns-clause-stands
 returns-clause-stands g c = λ bounds limits given goes.
-    let none : c.in_ok-count.count ≡ 0 = omega arith in
-    let nothing : given ++ take c.in_ok-count.count c.args.bytes.now ≡ given = ap (λ n. given ++ take n c.args.bytes.now) none ∙ append-nil given in
-    let one : take 1 c.args.bytes.now ≡ get_or c.args.bytes.now 0 0 ∷ [] = take_more c.args.bytes.now 0 0 c.requires.some in
+    let n = c.in_ok-count.count in
+    let bytes = c.args.bytes.now in
+    let byte = get_or bytes n 0 in
+    let lt : n < length bytes = omega arith in
+    let whole : (given ++ take n bytes) ++ byte ∷ [] ≡ given ++ take (n + 1) bytes = append_assoc given (take n bytes) (byte ∷ []) ∙ ap (λ l. given ++ l) (sym (take_more bytes n 0 lt)) in
     let passes = c.in_ok-count.ensures.passes limits given goes.lexer goes.no_fault in
-    let passed = subst (λ (bs : List ℕ). GoesOnAfter (g.J.Judge.stands bounds) limits bs c.pass.new.self c.args.judge.now) nothing
-    (front_goes (g.J.Judge.stands bounds) (g.J.Judge.stops bounds) limits given (take c.in_ok-count.count c.args.bytes.now) c.args.reader.now c.pass.new.self c.args.judge.now goes passes.0 c.pass.ensures.parser passes.1) in
-    subst (λ (bs : List ℕ). GoesOnAfter (g.J.Judge.stands bounds) limits (given ++ bs) c.feed.new.self c.feed.new.judge) (sym one)
-    (c.in_ok-feed.ensures.stands bounds limits given passed)
+    let passed = front_goes (g.J.Judge.stands bounds) (g.J.Judge.stops bounds) limits given (take n bytes) c.args.reader.now c.pass.new.self c.args.judge.now goes passes.0 c.pass.ensures.parser passes.1 in
+    subst (λ (bs : List ℕ). GoesOnAfter (g.J.Judge.stands bounds) limits bs c.feed.new.self c.feed.new.judge) whole
+    (c.in_ok-feed.ensures.stands bounds limits (given ++ take n bytes) passed)

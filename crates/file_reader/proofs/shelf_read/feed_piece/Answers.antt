@@ -1,4 +1,4 @@
-use Rattle.std.proofs.Common.{◌≡◌, ◌≤◌, ◌+◌, ◌++◌, [], List, ℕ, ap, subst, sym, ◌∙◌, length, take, drop, arith}
+use Rattle.std.proofs.Common.{◌≡◌, ◌≤◌, ◌+◌, ◌++◌, [], List, ℕ, ap, refl, subst, sym, ◌∙◌, length, take, drop, arith}
 use Rattle.std.proofs.lemmas.List.{append-nil, append_assoc, take_all, take-append-drop}
 use Rattle.std.proofs.lemmas.Result.{err_from_is_err_and}
 use Rattle.std.proofs.Math.Seq.{take-add}
@@ -8,6 +8,7 @@ use Rattle.file_reader.proofs.shelf_read.feed_piece.Goals as goal
 pub loop-at-init : goal.loop-at-init
 loop-at-init g c = record {
   within = omega arith;
+  fixed = refl;
   ready = c.requires.ready;
   stands = λ bounds limits given goes. subst (λ (l : List ℕ). GoesOnAfter (g.J.Judge.stands bounds) limits l c.args.reader.now c.args.judge.now) (sym (append-nil given)) goes;
 }
@@ -24,6 +25,7 @@ returns-in_err-at-clause-stands g c = λ bounds limits given goes.
 pub loop-at-preserved : goal.loop-at-preserved
 loop-at-preserved g c = record {
   within = let a = c.in_ok-at.ensures.within in let b = c.split_at.ensures.back_len in omega (arith, a, b);
+  fixed = c.feed_front.ensures.fixed ∙ c.loop-at.invariant.fixed;
   ready = c.in_ok-at.ensures.ready;
   stands = λ bounds limits given goes.
       subst (λ (l : List ℕ). GoesOnAfter (g.J.Judge.stands bounds) limits l c.feed_front.new.reader c.feed_front.new.judge)

@@ -6,6 +6,7 @@ use Rattle.file_reader.proofs.shelf_read.read_book.Goals as goal
 pub pieces-init : goal.pieces-init
 pieces-init g c = record {
   buf = refl;
+  fixed = refl;
   ready = c.requires.ready;
   read = λ bounds limits bytes lexer parser behind left. given_none (g.J.Judge.stands bounds) (g.J.Judge.stops bounds) limits bytes _ c.args.reader.now c.args.judge.now lexer parser behind left;
   books = refl;
@@ -35,6 +36,7 @@ returns-in-Err-feed_piece-clause-ends g c = λ bounds limits bytes lexer parser 
 pub pieces-preserved : goal.pieces-preserved
 pieces-preserved g c = record {
   buf = c.if-count-eq0.array_long;
+  fixed = c.feed_piece.ensures.fixed ∙ c.pieces.invariant.fixed;
   ready = c.in_default.ensures.ready;
   read = λ bounds limits bytes lexer parser behind left.
       given_more (g.J.Judge.stands bounds) (g.J.Judge.stops bounds) limits bytes (c.pieces.invariant.read bounds limits bytes lexer parser behind left) c.read.new.buf c.in-Ok.count c.feed_piece.new.reader c.feed_piece.new.judge c.in-Ok.ensures.bytes

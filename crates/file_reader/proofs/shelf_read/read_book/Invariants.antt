@@ -9,6 +9,7 @@ use Rattle.file_reader.proofs.shelf_read.read_book.Given as goal
 abbrev pub invariant-pieces : goal.invariant-pieces
 invariant-pieces g l = record {
   buf : length l.buf ≡ 4096;
+  fixed : g.J.Judge.fixed l.judge ≡ g.J.Judge.fixed l.initial.judge;
   ready : g.J.Judge.ready l.judge;
   read : (bounds : _) (limits : Limits) (bytes : List ℕ) → l.initial.reader.lexer ≡ lexer_after limits [] → parsing l.initial.reader.parser ≡ parsing_after limits []
       → g.J.Judge.stands bounds l.initial.judge [] → g.H.Shelf.left l.initial.shelf ≡ Some bytes

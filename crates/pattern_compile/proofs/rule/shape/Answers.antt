@@ -31,4 +31,4 @@ returns c =
     let b = rw (c.as_slice-2.ensures.value, c.as_slice-3.ensures) at c.if-not-is_covered.ensures in
     let n = rw c.as_slice-4.ensures at c.in_ok-copied.ensures in
     shaped r c.in-Sym.symbol (sym c.head.ensures.value ∙ ap plain_left c.in-Sym.is) (plain_patterns c.in-Some.pats) e c.in_ok-marks.marks.items m (sym b)
-    ∙ ap Ok (rule_is r c.in-Sym.symbol c.in-Some.pats c.pats.inside.items.items _ _ c.pats.view_is n c.in_ok-copy.ensures)
+    ∙ ap Ok (rule_is r c.in-Sym.symbol c.in-Some.pats c.pats.inside.items.items _ _ c.pats.view_is n c.in_ok-copied-2.ensures)

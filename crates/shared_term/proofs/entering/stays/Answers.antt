@@ -1,9 +1,12 @@
 -- What the summary shows of each change.
-use Rattle.std.proofs.Common.{arith}
+use Rattle.std.proofs.Common.{◌∙◌, sym, arith}
 use Rattle.std.proofs.lemmas.Bool.{not-true}
 use Rattle.std.proofs.lemmas.Bool.Decides.{nat_tests}
-use Rattle.shared_term.proofs.Unchanged.{unchanged_shift, unchanged_substitute, unchanged_erase, unchanged_fill, unchanged_rename, unchanged_raise}
+use Rattle.shared_term.proofs.Unchanged.{unchanged_shift, unchanged_shift_none, unchanged_substitute, unchanged_erase, unchanged_fill, unchanged_rename, unchanged_raise}
 use Rattle.shared_term.proofs.entering.stays.Goals as goal
+
+pub returns-in-Shift-eq0 : goal.returns-in-Shift-eq0
+returns-in-Shift-eq0 c = λ h. unchanged_shift_none c.args.nodes.now c.args.given.now c.args.goal c.summary-summary.result c.summary-summary.ensures c.in-Shift-eq0.field-0 c.in-Shift-eq0.is (sym c.in-Shift-eq0.field-0-is ∙ c.in-Shift-eq0.field-0-test)
 
 pub returns-in-Shift : goal.returns-in-Shift
 returns-in-Shift c = λ h. unchanged_shift c.args.nodes.now c.args.given.now c.args.goal c.summary-summary.result c.summary-summary.ensures _ c.in-Shift.is (grind (arith, nat_tests))

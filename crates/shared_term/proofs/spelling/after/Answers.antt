@@ -16,8 +16,8 @@ returns-in_ok-push-in-First c =
     let ns = c.args.nodes.now.items in
     let ws = c.args.waiting.now.items in
     let P : Waiting (Bor Term) TermId → Type 0 = λ w. AreThere (length ns) (ws ++ w ∷ []) in record {
-      turns = rw (c.in_ok-push-in-First.ensures.items, c.in-First.is)
-          (second_turn ns c.requires.spelt ws c.in-First.pair c.in-First.second c.args.id (subst P c.in-First.is c.requires.there) c.requires.id);
+      turns = λ z. rw (c.in_ok-push-in-First.ensures.items, c.in-First.is)
+          (second_turn z ns c.requires.spelt ws c.in-First.pair c.in-First.second c.args.id (subst P c.in-First.is c.requires.there) c.requires.id);
     }
 
 pub shared-requires-clause-within : goal.shared-requires-clause-within
@@ -34,8 +34,8 @@ returns-in_ok-shared-in-Second c =
     let ws = c.args.waiting.now.items in
     let r = c.in_ok-shared-in-Second in
     let P : Waiting (Bor Term) TermId → Type 0 = λ w. AreThere (length ns) (ws ++ w ∷ []) in record {
-      turns = rw c.in-Second.is
-          (made_turn ns c.shared.new.nodes.items r.ensures.keeps r.ensures.spelt ws (Second c.in-Second.pair c.in-Second.first) c.args.id r.field-0 (subst P c.in-Second.is c.requires.there) (omega arith)
+      turns = λ z. rw c.in-Second.is
+          (made_turn z ns c.shared.new.nodes.items r.ensures.keeps r.ensures.spelt ws (Second c.in-Second.pair c.in-Second.first) c.args.id r.field-0 (subst P c.in-Second.is c.requires.there) (omega arith)
           r.ensures.there (r.ensures.is ∙ ap (denoted (terms ns)) c.joined.ensures ∙ joined_denotes ns c.in-Second.pair c.in-Second.first c.args.id));
     }
 
@@ -45,6 +45,6 @@ returns-in_ok-shared-in-Body c =
     let ws = c.args.waiting.now.items in
     let r = c.in_ok-shared-in-Body in
     let P : Waiting (Bor Term) TermId → Type 0 = λ w. AreThere (length ns) (ws ++ w ∷ []) in record {
-      turns = rw c.in-Body.is
-          (made_turn ns c.shared-in-Body.new.nodes.items r.ensures.keeps r.ensures.spelt ws Body c.args.id r.field-0 (subst P c.in-Body.is c.requires.there) (omega arith) r.ensures.there r.ensures.is);
+      turns = λ z. rw c.in-Body.is
+          (made_turn z ns c.shared-in-Body.new.nodes.items r.ensures.keeps r.ensures.spelt ws Body c.args.id r.field-0 (subst P c.in-Body.is c.requires.there) (omega arith) r.ensures.there r.ensures.is);
     }

@@ -36,7 +36,7 @@ invariant_of-self g c = let e = c.in_default-make_place.ensures.err in record {
 pub let_wait-job-requires : goal.let_wait-job-requires
 let_wait-job-requires g c = let k = c.self.invariant.keeps in let count = length-map c.self.inside.jobs.items posted in let marks = count_marks (jobs_in c.self.inside.jobs.items) in
     let e = c.make_place.ensures in let jobs = ap length e.jobs in let waiting = ap length e.waiting in let w = few_wait k in let m = count_waiting c.self.inside.waiting.items in
-    (has_place (vec_len c.make_place.new.jobs) (deque_len c.make_place.new.waiting) _ _ _ _ c.in-Ok-make_place.ensures.ok (omega (arith, jobs, waiting, w, m, marks, count))).1
+    (has_place (vec_len c.make_place.new.jobs) (deque_len c.make_place.new.waiting) _ _ _ _ c.in-Ok.ensures.ok (omega (arith, jobs, waiting, w, m, marks, count))).1
 
 pub invariant_of-self-2 : goal.invariant_of-self-2
 invariant_of-self-2 g c = let e = c.make_place.ensures in let k = c.self.invariant.keeps in let items = c.self.inside.jobs.items in let es = c.self.inside.history.items in let job = c.args.offer.job in let settled = c.args.offer.settled in
@@ -46,12 +46,12 @@ invariant_of-self-2 g c = let e = c.make_place.ensures in let k = c.self.invaria
     let count : length (jobs_in items) ≡ length items = length-map items posted in
     let same = ap length e.jobs in
     let number : c.len.result + 1 ≡ length (jobs_in items) + 1 = omega (arith, c.len.ensures, same, count) in
-    let place = has_place (vec_len c.make_place.new.jobs) 0 _ _ _ _ c.in-Ok-make_place.ensures.ok (omega arith) in
+    let place = has_place (vec_len c.make_place.new.jobs) 0 _ _ _ _ c.in-Ok.ensures.ok (omega arith) in
     let more : 3 * (length (jobs_in items) + 1) + 1 ≤ vec_capacity c.make_place.new.history = (let r = place.3 in omega (arith, r, same, count)) in
     let t = put_holds (jobs_in items) (waiters_in c.self.inside.waiting.items) k c.self.invariant.own (vec_capacity c.make_place.new.history) (c.len.result + 1) (arc_value job) settled number more few unsealed good
     (jobs_in c.push_reserved.new.self.items) (waiters_in c.let_wait-job.new.waiting.items) c.push_reserved-2.new.self.items c.push_reserved-3.new.self.items
-    (ap jobs_in (c.push_reserved.ensures.items ∙ ap (λ l. l ++ record { job = c.in-Ok.share; settled = settled } ∷ []) e.jobs) ∙ map-append posted items (record { job = c.in-Ok.share; settled = settled } ∷ [])
-    ∙ ap (λ v. jobs_in items ++ (v, settled) ∷ []) c.in-Ok.ensures)
+    (ap jobs_in (c.push_reserved.ensures.items ∙ ap (λ l. l ++ record { job = c.of-past.result; settled = settled } ∷ []) e.jobs) ∙ map-append posted items (record { job = c.of-past.result; settled = settled } ∷ [])
+    ∙ ap (λ v. jobs_in items ++ (v, settled) ∷ []) (c.of-past.ensures ∙ c.deref.ensures))
     (c.let_wait-job.ensures.items ∙ (λ i. waiters_in (e.waiting i) ++ newcomers (c.len.result + 1) (arc_value job) settled))
     (c.push_reserved-2.ensures.items ∙ ap (λ l. l ++ None ∷ []) e.verdicts)
     (c.push_reserved-3.ensures.items ∙ ap (λ l. l ++ Put (c.len.result + 1) ∷ []) e.history) in
@@ -59,5 +59,5 @@ invariant_of-self-2 g c = let e = c.make_place.ensures in let k = c.self.invaria
       keeps = rw c.push_reserved-3.ensures.capacity t.0;
       own = t.1;
       wide = let longer = c.push_reserved.ensures.len in subst (λ n. IsWide n (vec_capacity c.push_reserved.new.self) (deque_capacity c.let_wait-job.new.waiting) (vec_capacity c.push_reserved-2.new.self) (vec_capacity c.push_reserved-3.new.self)) (sym longer)
-          (rw (c.push_reserved.ensures.capacity, c.let_wait-job.ensures.capacity, c.push_reserved-2.ensures.capacity, c.push_reserved-3.ensures.capacity) c.in-Ok-make_place.ensures.ok);
+          (rw (c.push_reserved.ensures.capacity, c.let_wait-job.ensures.capacity, c.push_reserved-2.ensures.capacity, c.push_reserved-3.ensures.capacity) c.in-Ok.ensures.ok);
     }

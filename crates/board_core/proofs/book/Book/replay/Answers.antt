@@ -2,7 +2,6 @@ use Rattle.std.proofs.Common.{arith, ◌≡◌, length, sym, subst, ◌∙◌, a
 use Rattle.board_core.specs.Machine.{IsLawful, marks_of}
 use Rattle.board_core.specs.declared.event.Event.TheVariants.{Put}
 use Rattle.std.specs.Arc.{arc_value}
-use Rattle.board_core.specs.Events.{puts}
 use Rattle.board_core.specs.Shown.{Shown, blanks}
 use Rattle.board_core.proofs.Reading.{count_blanks, marks_blanks}
 use Rattle.board_core.proofs.Replaying.{part_own, next_lawful, next_within, part_step, part_end}

@@ -19,7 +19,7 @@ use Rattle.conversion.specs.Pausing.{plain, ArePauses, Await}
 use Rattle.conversion.specs.Reducers.{IsValue}
 use Rattle.conversion.specs.Selections.{step_cell}
 use Rattle.conversion.proofs.Winding.{extends_more, extends_none}
-use Rattle.conversion.proofs.Serving.{value_made, values_put, loaded_grown, values_grown, normals_grown, answers_grown, answers_put, answer_made, normals_put, normal_made}
+use Rattle.conversion.proofs.Serving.{value_made, values_put, loaded_grown, heads_grown, values_grown, normals_grown, answers_grown, answers_put, answer_made, normals_put, normal_made}
 use Rattle.conversion.proofs.Growing.{columns_set, columns_within, columns_taken, columns_dropped, column_within, captures_within, captures_grown}
 use Rattle.conversion.proofs.Choosing.{row_fails, row_takes, row_ends, no_column, row_asks, no_choice, got_either, past_end, among_item}
 use Rattle.conversion.proofs.Passing.{row_goes, row_misses, row_stops, row_ended, guard_goes, guard_misses, guard_stops, guards_ended, cell_misses, cell_caught, cell_given, recorded_new, recorded_before, set_past, guard_compared, captures_begun, guards_begun, row_misses_all, row_ends_all, guards_miss_all, guards_end_all, row_takes_all}
@@ -112,12 +112,12 @@ cell_captures-returns-in_ok-part-in-Captures-clause-gives t c =
 
 pub evaluate-returns-then-left-found-clause-gives : goal.evaluate-returns-then-left-found-clause-gives
 evaluate-returns-then-left-found-clause-gives t c =
-    let h : IsValue (entries_of c.args.version.now) c.args.self.now.pool c.args.whole.0 c.in-Some.found = c.requires.serves.values.each c.args.whole.0 0 c.in-Some.found (rw c.number-key.ensures at c.in-Some.ensures) in
+    let h : IsValue (entries_of c.args.version.now) c.args.self.now.pool c.args.whole.0 c.in-Some.found = c.in-Some.ensures in
     (h.takes.ends c.args.left.now c.if-left-found.true, refl)
 
 pub evaluate-returns-in-Some-clause-gives : goal.evaluate-returns-in-Some-clause-gives
 evaluate-returns-in-Some-clause-gives t c =
-    let h : IsValue (entries_of c.args.version.now) c.args.self.now.pool c.args.whole.0 c.in-Some.found = c.requires.serves.values.each c.args.whole.0 0 c.in-Some.found (rw c.number-key.ensures at c.in-Some.ensures) in
+    let h : IsValue (entries_of c.args.version.now) c.args.self.now.pool c.args.whole.0 c.in-Some.found = c.in-Some.ensures in
     (h.takes.suffices c.args.left.now (omega (arith, c.if-left-found.false)), h.gives)
 
 pub evaluate-returns-clause-serves : goal.evaluate-returns-clause-serves
@@ -126,11 +126,12 @@ evaluate-returns-clause-serves t c =
     let g = c.in_ok-id.ensures.gives in
     record {
       loaded = s.loaded;
+      heads = s.heads;
       values = values_put (entries_of c.args.version.now) c.evaluated.new.self.pool c.evaluated.new.self.values c.put.new.self c.args.whole.0 0 (record { id = c.in_ok-id.id; units = c.args.left.now - c.evaluated.new.left }) s.values
           (value_made (entries_of c.args.version.now) c.args.self.now.pool c.evaluated.new.self.pool c.args.whole
           (record { id = c.in_ok-id.id; units = c.args.left.now - c.evaluated.new.left }) c.args.left.now c.evaluated.new.left
           c.in_ok-id.ensures.keeps c.requires.whole g.1 g.0 refl)
-          (rw c.number-key.ensures at c.put.ensures);
+          (rw c.number.ensures at c.put.ensures);
       normals = s.normals;
       answers = s.answers;
     }
@@ -237,6 +238,7 @@ evaluated-returns-in_err-closed-in-Some-clause-serves t c =
     let s = c.in_ok-term.ensures.serves in
     record {
       loaded = loaded_grown S c.turn.new.self.pool c.wind.new.pool c.turn.new.self.loaded y s.loaded;
+      heads = heads_grown S c.turn.new.self.pool c.wind.new.pool c.turn.new.self.heads y s.heads;
       values = values_put S c.wind.new.pool c.turn.new.self.values c.put.new.self c.in-Some.pause.asked.0 0 (record { id = c.in_ok-value-in-Stands.value; units = c.in-Some.pause.start - c.turn.new.left })
           (values_grown S c.turn.new.self.pool c.wind.new.pool c.turn.new.self.values y s.values)
           (awaited_value S c.wind.new.pool c.in-Some.pause c.in_ok-value-in-Stands.value c.turn.new.left p.asked c.in_ok-value-in-Stands.ensures.there e)
@@ -270,6 +272,7 @@ evaluated-loop-stack-preserved t c =
       keeps = extends_more c.args.self.now.pool c.loop-stack.self.pool c.wind.new.pool c.loop-stack.invariant.keeps x;
       serves = record {
         loaded = loaded_grown S c.turn.new.self.pool c.wind.new.pool c.turn.new.self.loaded y s.loaded;
+        heads = heads_grown S c.turn.new.self.pool c.wind.new.pool c.turn.new.self.heads y s.heads;
         values = values_put S c.wind.new.pool c.turn.new.self.values c.put.new.self c.in-Some.pause.asked.0 0 (record { id = c.in_ok-value-in-Stands.value; units = c.in-Some.pause.start - c.turn.new.left })
             (values_grown S c.turn.new.self.pool c.wind.new.pool c.turn.new.self.values y s.values)
             (awaited_value S c.wind.new.pool c.in-Some.pause c.in_ok-value-in-Stands.value c.turn.new.left p.asked c.in_ok-value-in-Stands.ensures.there e)
@@ -285,11 +288,11 @@ evaluated-loop-stack-preserved t c =
 abbrev first_column : Column
 first_column = record { depth = 0; term = record { 0 = 0 } }
 
-pub guard_holds-returns-in_ok-guard-in-Guards-clause-gives : goal.guard_holds-returns-in_ok-guard-in-Guards-clause-gives
-guard_holds-returns-in_ok-guard-in-Guards-clause-gives t c =
+pub guard_holds-returns-in_ok-self-in-Guards-clause-gives : goal.guard_holds-returns-in_ok-self-in-Guards-clause-gives
+guard_holds-returns-in_ok-self-in-Guards-clause-gives t c =
     let S : PlainSignature = entries_of c.args.version.now in
-    guard_compared (comparison_of S) c.args.cell.now c.step_of.result c.in-Guards.guard.now c.args.self.now.pool c.guard_under.new.pool c.args.column.now c.in_ok-guard-in-Guards.guard c.args.left.now c.compare.new.left
-    (captured_terms c.args.self.now.pool c.args.captures.now) c.compare.result c.step_of.ensures (ap step_cell c.in-Guards.is) c.in_ok-guard-in-Guards.ensures.keeps c.requires.column c.in_ok-guard-in-Guards.ensures.is c.compare.ensures.gives
+    guard_compared (comparison_of S) c.args.cell.now c.step_of.result c.in-Guards.guard.now c.args.self.now.pool c.guard_under.new.pool c.args.column.now c.in_ok-guard-in-Guards.guard c.args.left.now c.compare-alike.new.left
+    (captured_terms c.args.self.now.pool c.args.captures.now) c.compare-alike.result c.step_of.ensures (ap step_cell c.in-Guards.is) c.in_ok-guard-in-Guards.ensures.keeps c.requires.column c.in_ok-guard-in-Guards.ensures.is c.compare-alike.ensures.gives
 
 pub guards_hold-loop-i-preserved : goal.guards_hold-loop-i-preserved
 guards_hold-loop-i-preserved t c =
@@ -349,10 +352,10 @@ record-returns-else-variable-len-clause-gives t c =
     recorded_new (comparison_of (entries_of c.args.version.now)) c.args.left.now c.args.self.now.pool c.args.captures.now.items c.args.variable c.args.part (flip (rw c.as_slice.ensures.value at c.in-None.ensures))
     ∙ ap (λ l. Some (Some (captured_terms c.args.self.now.pool l), c.args.left.now)) (set_past c.args.captures.now.items c.args.variable (Some c.args.part) past)
 
-pub record-returns-in-Some-clause-gives : goal.record-returns-in-Some-clause-gives
-record-returns-in-Some-clause-gives t c =
-    recorded_before (comparison_of (entries_of c.args.version.now)) c.args.left.now c.args.self.now.pool c.args.captures.now.items c.args.variable c.args.part c.in-Some.earlier c.compare.new.self.pool c.compare.result c.compare.new.left
-    (flip (rw c.as_slice.ensures.value at c.in-Some.ensures)) c.compare.ensures.keeps c.requires.captures c.compare.ensures.gives
+pub record-returns-in_ok-self-in-Some-clause-gives : goal.record-returns-in_ok-self-in-Some-clause-gives
+record-returns-in_ok-self-in-Some-clause-gives t c =
+    recorded_before (comparison_of (entries_of c.args.version.now)) c.args.left.now c.args.self.now.pool c.args.captures.now.items c.args.variable c.args.part c.in-Some.earlier c.compare-alike.new.self.pool c.compare-alike.result c.compare-alike.new.left
+    (flip (rw c.as_slice.ensures.value at c.in-Some.ensures)) c.compare-alike.ensures.keeps c.requires.captures c.compare-alike.ensures.gives
 
 -- a row
 
@@ -574,6 +577,7 @@ compare-loop-step-preserved t c =
       keeps = i.keeps;
       serves = record {
         loaded = i.serves.loaded;
+        heads = i.serves.heads;
         values = i.serves.values;
         normals = i.serves.normals;
         answers = answers_put _ _ _ _ c.in-Conclude.first.0 c.in-Conclude.second.0 _ i.serves.answers
@@ -763,6 +767,7 @@ resume-returns-in-Conclude-clause-serves t c =
     let i = subst (IsFrame (length c.args.self.now.pool)) c.in-Conclude.is c.requires.frame in
     record {
       loaded = c.requires.serves.loaded;
+      heads = c.requires.serves.heads;
       values = c.requires.serves.values;
       normals = normals_put _ _ _ _ c.in-Conclude.whole.0 0 _ c.requires.serves.normals
           (normal_made S c.args.self.now.pool c.args.self.now.pool c.in-Conclude.whole (record { id = c.args.value; units = c.in-Conclude.before - c.args.left.now })

@@ -5,7 +5,7 @@ use Rattle.dk_model.specs.Trees.{Tree}
 use Rattle.dk_model.specs.SymbolRules.{rules_of}
 use Rattle.signature_log.specs.Versions.{entries_of}
 use Rattle.conversion.specs.Rules.{plain_rule_of}
-use Rattle.conversion.proofs.Serving.{loaded_grown, values_grown, normals_grown, answers_grown, loaded_put}
+use Rattle.conversion.proofs.Serving.{loaded_grown, heads_grown, values_grown, normals_grown, answers_grown, loaded_put}
 use Rattle.conversion.proofs.Selecting.{right_is}
 use Rattle.conversion.proofs.state.PoolReducer.brought.Goals as goal
 
@@ -24,6 +24,7 @@ returns-clause-serves c =
             there = c.in_ok-right.ensures.within;
             is = right_is (entries_of c.args.version.now) c.args.symbol c.args.at (plain_rule_of c.rule_at-rule.result) at ∙ ap (λ (t : Tree). Some t) (flip (c.in_ok-right.ensures.denotes ∙ c.right.ensures));
           }) c.put.ensures;
+      heads = heads_grown (entries_of c.args.version.now) c.args.self.now.pool c.load.new.self c.args.self.now.heads k c.requires.serves.heads;
       values = values_grown (entries_of c.args.version.now) c.args.self.now.pool c.load.new.self c.args.self.now.values k c.requires.serves.values;
       normals = normals_grown (entries_of c.args.version.now) c.args.self.now.pool c.load.new.self c.args.self.now.normals k c.requires.serves.normals;
       answers = answers_grown (entries_of c.args.version.now) c.args.self.now.pool c.load.new.self c.args.self.now.answers k c.requires.serves.answers;

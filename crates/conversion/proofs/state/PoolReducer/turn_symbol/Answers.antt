@@ -1,39 +1,25 @@
--- A symbol without rules, one with a body, and one whose rules are selected from.
-use Rattle.std.proofs.Common.{◌≡◌, ◌∙◌, ap, sym as flip, Some, None}
-use Rattle.std.specs.Prelude.{slice_get}
-use Rattle.dk_model.specs.Trees.{Tree}
-use Rattle.dk_model.specs.SymbolRules.{rules_of}
+-- A symbol of which it is remembered that it has no rules, or a body.
+use Rattle.std.proofs.Common.{refl}
 use Rattle.shared_term.specs.Pools.{term}
-use Rattle.shared_term.specs.Storage.{stored_term}
-use Rattle.signature_log.specs.Rows.{row_rules}
 use Rattle.signature_log.specs.Versions.{entries_of}
-use Rattle.conversion.proofs.Unfolding.{unfolding_rule}
-use Rattle.conversion.proofs.Selecting.{right_is, same_some}
-use Rattle.conversion.proofs.Turning.{symbol_stands, symbol_unfolds, symbol_matrix, matrix_within}
+use Rattle.conversion.specs.declared.state.Head.TheVariants.{Stands, Unfolds}
+use Rattle.conversion.specs.Reducers.{IsHead}
+use Rattle.conversion.proofs.Winding.{extends_none}
+use Rattle.conversion.proofs.Turning.{symbol_stands, symbol_unfolds}
 use Rattle.conversion.proofs.state.PoolReducer.turn_symbol.Goals as goal
 
-pub returns-in-None-clause-gives : goal.returns-in-None-clause-gives
-returns-in-None-clause-gives c = λ n.
-    let q : slice_get (rules_of (entries_of c.args.version.now) c.args.symbol) 0 ≡ None = ap (λ l. slice_get l 0) (flip c.rules_of-rules.ensures) ∙ flip (c.in-None.ensures c.args.symbol) in
-    (symbol_stands (entries_of c.args.version.now) n c.args.symbol c.args.self.now.pool c.args.stack.now c.args.head c.requires.symbol q, c.requires.head)
+pub returns-in-Some-Stands-clause-gives : goal.returns-in-Some-Stands-clause-gives
+returns-in-Some-Stands-clause-gives c =
+    let h : IsHead (entries_of c.args.version.now) c.args.self.now.pool c.args.symbol Stands =
+    c.requires.serves.heads.each c.args.symbol 0 Stands (rw c.in-Some-Stands.field-0-is at c.in-Some-Stands.ensures) in
+    λ n. (symbol_stands (entries_of c.args.version.now) n c.args.symbol c.args.self.now.pool c.args.stack.now c.args.head c.requires.symbol h, c.requires.head)
 
-pub returns-in_ok-brought-in-Some-Body-clause-gives : goal.returns-in_ok-brought-in-Some-Body-clause-gives
-returns-in_ok-brought-in-Some-Body-clause-gives c = λ n.
-    let b : Tree = stored_term c.in-Some-Body.field-0-0.now in
-    let q : slice_get (rules_of (entries_of c.args.version.now) c.args.symbol) 0 ≡ Some (unfolding_rule c.args.symbol b) =
-    ap (λ l. slice_get l 0) (flip c.rules_of-rules.ensures) ∙ flip (rw c.in-Some-Body.field-0-is at (c.in-Some-Body.ensures c.args.symbol)) in
-    let l = c.in_ok-brought-in-Some-Body.ensures.gives in
-    let is : b ≡ term c.brought.new.self.pool c.in_ok-brought-in-Some-Body.field-0 =
-    same_some b (term c.brought.new.self.pool c.in_ok-brought-in-Some-Body.field-0) (flip (right_is (entries_of c.args.version.now) c.args.symbol 0 (unfolding_rule c.args.symbol b) q) ∙ l.is) in (
-      symbol_unfolds (entries_of c.args.version.now) n c.args.symbol c.args.self.now.pool c.brought.new.self.pool c.args.stack.now b c.in_ok-brought-in-Some-Body.field-0 q is
-          c.in_ok-brought-in-Some-Body.ensures.keeps c.requires.stack,
-      l.there,
+pub returns-in-Some-Unfolds-clause-gives : goal.returns-in-Some-Unfolds-clause-gives
+returns-in-Some-Unfolds-clause-gives c =
+    let pool = c.args.self.now.pool in
+    let h : IsHead (entries_of c.args.version.now) pool c.args.symbol (Unfolds c.in-Some-Unfolds.body) =
+    c.requires.serves.heads.each c.args.symbol 0 (Unfolds c.in-Some-Unfolds.body) (rw c.in-Some-Unfolds.field-0-is at c.in-Some-Unfolds.ensures) in
+    λ n. (
+      symbol_unfolds (entries_of c.args.version.now) n c.args.symbol pool pool c.args.stack.now (term pool c.in-Some-Unfolds.body) c.in-Some-Unfolds.body h.1 refl (extends_none pool) c.requires.stack,
+      h.0,
     )
-
-pub returns-in_ok-matrix_of-in-Some-Rule-clause-gives : goal.returns-in_ok-matrix_of-in-Some-Rule-clause-gives
-returns-in_ok-matrix_of-in-Some-Rule-clause-gives c = λ n. (
-  symbol_matrix (entries_of c.args.version.now) c.args.self.now.pool c.args.stack.now c.args.symbol (row_rules c.args.symbol c.rules_of-rules.result) c.in_ok-matrix_of-in-Some-Rule.field-0
-      c.rules_of-rules.ensures c.in_ok-matrix_of-in-Some-Rule.ensures.symbol n c.in_ok-matrix_of-in-Some-Rule.ensures.columns c.in_ok-matrix_of-in-Some-Rule.ensures.rows,
-  matrix_within (entries_of c.args.version.now) c.args.self.now.pool c.args.stack.now c.args.symbol (row_rules c.args.symbol c.rules_of-rules.result) c.in_ok-matrix_of-in-Some-Rule.field-0
-      c.rules_of-rules.ensures c.in_ok-matrix_of-in-Some-Rule.ensures.symbol c.in_ok-matrix_of-in-Some-Rule.ensures.columns c.in_ok-matrix_of-in-Some-Rule.ensures.among c.requires.stack,
-)

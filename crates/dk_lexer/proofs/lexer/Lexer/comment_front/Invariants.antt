@@ -1,4 +1,4 @@
-use Rattle.std.proofs.Common.{◌≡◌, ℕ, take}
+use Rattle.std.proofs.Common.{◌≡◌, ◌+◌, take}
 use Rattle.dk_lexer.specs.declared.part.Part.TheVariants as part
 use Rattle.dk_lexer.specs.Fronts.{Passes, with_part}
 use Rattle.dk_lexer.proofs.lexer.Lexer.comment_front.Given as goal
@@ -6,5 +6,7 @@ use Rattle.dk_lexer.proofs.lexer.Lexer.comment_front.Given as goal
 abbrev pub invariant-loop-byte : goal.invariant-loop-byte
 invariant-loop-byte l = record {
   count : l.count ≡ l.byte-index;
-  passes : (depth : ℕ) → Passes (with_part l.initial.self (part.Comment depth l.initial.last)) (take l.byte-index l.bytes) (with_part l.self (part.Comment depth l.last));
+  same : l.self ≡ l.fn.self;
+  offset : l.here.offset ≡ l.fn.self.here.offset + l.byte-index;
+  passes : Passes (with_part l.fn.self (part.Comment l.fn.depth l.fn.last)) (take l.byte-index l.byte-items) (record l.fn.self { part = part.Comment l.inside.0 l.inside.1; here = l.here });
 }

@@ -25,16 +25,16 @@ loop-pass-init g c = let m = c.make_room.ensures in let r = c.in-Ok.ensures in l
   handles_room = let a = r.handles_room in omega (arith, a, n);
 }
 
-pub spawn_with-requires-clause-runs : goal.spawn_with-requires-clause-runs
-spawn_with-requires-clause-runs g c κs h = let t = all_take (λ p. (p.seat.table_id ≡ c.captures.board.now) × IsIdle p.seat.me.0) _ _ _ c.in-Some.ensures.items c.loop-pass.invariant.waiting in (t.1.0, t.1.1)
+pub spawn_scoped_with-requires-clause-runs : goal.spawn_scoped_with-requires-clause-runs
+spawn_scoped_with-requires-clause-runs g c κs h = let t = all_take (λ p. (p.seat.table_id ≡ c.captures.board.now) × IsIdle p.seat.me.0) _ _ _ c.in-Some.ensures.items c.loop-pass.invariant.waiting in (t.1.0, t.1.1)
 
-pub loop-pass-preserved-in-Ok-spawn_with : goal.loop-pass-preserved-in-Ok-spawn_with
-loop-pass-preserved-in-Ok-spawn_with g c = let i = c.loop-pass.invariant in let e = c.push_reserved.ensures in let p = c.in-Some.ensures in
+pub loop-pass-preserved-in-Ok-spawn_scoped_with : goal.loop-pass-preserved-in-Ok-spawn_scoped_with
+loop-pass-preserved-in-Ok-spawn_scoped_with g c = let i = c.loop-pass.invariant in let e = c.push_reserved.ensures in let p = c.in-Some.ensures in
     let t = all_take (λ p. (p.seat.table_id ≡ c.captures.board.now) × IsIdle p.seat.me.0) _ _ _ p.items i.waiting in record {
       waiting = t.0;
       refused = i.refused;
       started = all_put (λ h. h.promise.given.value.seat.table_id ≡ c.captures.board.now) _ _ _ e.items i.started
-          (ap (λ p. p.given.value.seat.table_id) c.in-Ok-spawn_with.ensures.ok ∙ (ap (λ p. p.seat.table_id) c.of-given.ensures ∙ t.1.0));
+          (ap (λ p. p.given.value.seat.table_id) c.in-Ok-spawn_scoped_with.ensures.ok ∙ (ap (λ p. p.seat.table_id) c.of-given.ensures ∙ t.1.0));
       count = let a = p.len in let b = e.len in let d = i.count in omega (arith, a, b, d);
       room = let a = p.capacity in let d = i.room in omega (arith, a, d);
       late_room = i.late_room;
@@ -54,12 +54,12 @@ loop-pass-preserved g c = let i = c.loop-pass.invariant in let e = c.push_reserv
       handles_room = i.handles_room;
     }
 
-pub spawn_with-requires-in-Some-pop : goal.spawn_with-requires-in-Some-pop
-spawn_with-requires-in-Some-pop g c κs h = let t = all_take (λ f. (f.1.now ≡ c.captures.board.now) × (f.2.seat.table_id ≡ c.captures.board.now) × IsIdle f.2.seat.me.0) _ _ _ c.in-Some-pop.ensures.items c.loop-worker.invariant.refused in
-    (h.0, (h.1.0, (h.1.1.0, (h.1.1.1, (t.1.1 ∙ sym t.1.0, t.1.2)))))
+pub spawn_scoped_with-requires-in-Some-pop : goal.spawn_scoped_with-requires-in-Some-pop
+spawn_scoped_with-requires-in-Some-pop g c κs h = let t = all_take (λ f. (f.1.now ≡ c.captures.board.now) × (f.2.seat.table_id ≡ c.captures.board.now) × IsIdle f.2.seat.me.0) _ _ _ c.in-Some-pop.ensures.items c.loop-worker.invariant.refused in
+    (h.0, (h.1.0, (h.1.1.0, (h.1.1.1.0, (h.1.1.1.1, (t.1.1 ∙ sym t.1.0, t.1.2))))))
 
 pub loop-worker-preserved : goal.loop-worker-preserved
-loop-worker-preserved g c = let i = c.loop-worker.invariant in let e = c.push_reserved-in-Some-pop.ensures in let p = c.in-Some-pop.ensures in let r = c.spawn_with-in-Some-pop.ensures in
+loop-worker-preserved g c = let i = c.loop-worker.invariant in let e = c.push_reserved-in-Some-pop.ensures in let p = c.in-Some-pop.ensures in let r = c.spawn_scoped_with-in-Some-pop.ensures in
     let t = all_take (λ f. (f.1.now ≡ c.captures.board.now) × (f.2.seat.table_id ≡ c.captures.board.now) × IsIdle f.2.seat.me.0) _ _ _ p.items i.refused in record {
       refused = t.0;
       over = all_put (λ p. (p.seat.table_id ≡ c.captures.board.now) × IsIdle p.seat.me.0 × IsOver p.seat.me.0) _ _ _ e.items i.over (r.0 ∙ t.1.1, r.1, r.2);

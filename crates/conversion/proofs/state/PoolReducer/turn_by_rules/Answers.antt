@@ -1,0 +1,74 @@
+-- A symbol without rules, one with a body, and one whose rules are selected from.
+use Rattle.std.proofs.Common.{◌≡◌, ◌∙◌, ap, sym as flip, Some, None}
+use Rattle.std.specs.Prelude.{slice_get}
+use Rattle.dk_model.specs.Trees.{Tree}
+use Rattle.dk_model.specs.Signatures.{PlainSignature}
+use Rattle.dk_model.specs.SymbolRules.{rules_of}
+use Rattle.shared_term.specs.Pools.{term}
+use Rattle.shared_term.specs.Storage.{stored_term}
+use Rattle.signature_log.specs.Rows.{row_rules}
+use Rattle.signature_log.specs.Versions.{entries_of}
+use Rattle.conversion.specs.declared.state.Head.TheVariants.{Stands, Unfolds}
+use Rattle.conversion.specs.Reducers.{unfolding_rule}
+use Rattle.conversion.proofs.Serving.{heads_put}
+use Rattle.conversion.proofs.Selecting.{right_is, same_some}
+use Rattle.conversion.proofs.Turning.{symbol_stands, symbol_unfolds, symbol_matrix, matrix_within}
+use Rattle.conversion.proofs.state.PoolReducer.turn_by_rules.Goals as goal
+
+pub returns-in-None-clause-gives : goal.returns-in-None-clause-gives
+returns-in-None-clause-gives c = λ n.
+    let q : slice_get (rules_of (entries_of c.args.version.now) c.args.symbol) 0 ≡ None = ap (λ l. slice_get l 0) (flip c.rules_of-rules.ensures) ∙ flip (c.in-None.ensures c.args.symbol) in
+    (symbol_stands (entries_of c.args.version.now) n c.args.symbol c.args.self.now.pool c.args.stack.now c.args.head c.requires.symbol q, c.requires.head)
+
+pub returns-in_ok-body-in-Some-Body-clause-gives : goal.returns-in_ok-body-in-Some-Body-clause-gives
+returns-in_ok-body-in-Some-Body-clause-gives c = λ n.
+    let b : Tree = stored_term c.in-Some-Body.field-0-0.now in
+    let q : slice_get (rules_of (entries_of c.args.version.now) c.args.symbol) 0 ≡ Some (unfolding_rule c.args.symbol b) =
+    ap (λ l. slice_get l 0) (flip c.rules_of-rules.ensures) ∙ flip (rw c.in-Some-Body.field-0-is at (c.in-Some-Body.ensures c.args.symbol)) in
+    let l = c.in_ok-body-in-Some-Body.ensures.gives in
+    let is : b ≡ term c.brought.new.self.pool c.in_ok-body-in-Some-Body.body =
+    same_some b (term c.brought.new.self.pool c.in_ok-body-in-Some-Body.body) (flip (right_is (entries_of c.args.version.now) c.args.symbol 0 (unfolding_rule c.args.symbol b) q) ∙ l.is) in (
+      symbol_unfolds (entries_of c.args.version.now) n c.args.symbol c.args.self.now.pool c.brought.new.self.pool c.args.stack.now b c.in_ok-body-in-Some-Body.body q is
+          c.in_ok-body-in-Some-Body.ensures.keeps c.requires.stack,
+      l.there,
+    )
+
+pub returns-in_ok-matrix_of-in-Some-Rule-clause-gives : goal.returns-in_ok-matrix_of-in-Some-Rule-clause-gives
+returns-in_ok-matrix_of-in-Some-Rule-clause-gives c = λ n. (
+  symbol_matrix (entries_of c.args.version.now) c.args.self.now.pool c.args.stack.now c.args.symbol (row_rules c.args.symbol c.rules_of-rules.result) c.in_ok-matrix_of-in-Some-Rule.field-0
+      c.rules_of-rules.ensures c.in_ok-matrix_of-in-Some-Rule.ensures.symbol n c.in_ok-matrix_of-in-Some-Rule.ensures.columns c.in_ok-matrix_of-in-Some-Rule.ensures.rows,
+  matrix_within (entries_of c.args.version.now) c.args.self.now.pool c.args.stack.now c.args.symbol (row_rules c.args.symbol c.rules_of-rules.result) c.in_ok-matrix_of-in-Some-Rule.field-0
+      c.rules_of-rules.ensures c.in_ok-matrix_of-in-Some-Rule.ensures.symbol c.in_ok-matrix_of-in-Some-Rule.ensures.columns c.in_ok-matrix_of-in-Some-Rule.ensures.among c.requires.stack,
+)
+
+pub returns-in-None-clause-serves : goal.returns-in-None-clause-serves
+returns-in-None-clause-serves c =
+    let S : PlainSignature = entries_of c.args.version.now in
+    let s = c.requires.serves in
+    let q : slice_get (rules_of S c.args.symbol) 0 ≡ None = ap (λ l. slice_get l 0) (flip c.rules_of-rules.ensures) ∙ flip (c.in-None.ensures c.args.symbol) in
+    record {
+      loaded = s.loaded;
+      heads = heads_put S c.args.self.now.pool c.args.self.now.heads c.put.new.self c.args.symbol 0 Stands s.heads q c.put.ensures;
+      values = s.values;
+      normals = s.normals;
+      answers = s.answers;
+    }
+
+pub returns-in_ok-body-in-Some-Body-clause-serves : goal.returns-in_ok-body-in-Some-Body-clause-serves
+returns-in_ok-body-in-Some-Body-clause-serves c =
+    let S : PlainSignature = entries_of c.args.version.now in
+    let b : Tree = stored_term c.in-Some-Body.field-0-0.now in
+    let q : slice_get (rules_of S c.args.symbol) 0 ≡ Some (unfolding_rule c.args.symbol b) =
+    ap (λ l. slice_get l 0) (flip c.rules_of-rules.ensures) ∙ flip (rw c.in-Some-Body.field-0-is at (c.in-Some-Body.ensures c.args.symbol)) in
+    let l = c.in_ok-body-in-Some-Body.ensures.gives in
+    let is : b ≡ term c.brought.new.self.pool c.in_ok-body-in-Some-Body.body =
+    same_some b (term c.brought.new.self.pool c.in_ok-body-in-Some-Body.body) (flip (right_is S c.args.symbol 0 (unfolding_rule c.args.symbol b) q) ∙ l.is) in
+    let s = c.in_ok-body-in-Some-Body.ensures.serves in
+    record {
+      loaded = s.loaded;
+      heads = heads_put S c.brought.new.self.pool c.brought.new.self.heads c.put-in-Some-Body.new.self c.args.symbol 0 (Unfolds c.in_ok-body-in-Some-Body.body) s.heads
+          (l.there, q ∙ ap (λ (t : Tree). Some (unfolding_rule c.args.symbol t)) is) c.put-in-Some-Body.ensures;
+      values = s.values;
+      normals = s.normals;
+      answers = s.answers;
+    }
