@@ -82,22 +82,48 @@ fn gives_theorem(step: &Result<Step, ParseFault>, text: &[u8], line: u32) -> boo
     }
 }
 
-// Feeds words that blanks and lines part.
-fn read(alloc: Global, text: &str) -> Result<Outcome, NoMemory> {
-    let mut parser = Parser::new(alloc, Limits::standard());
+// Feeds a word, and says whether it ended a command. What was at fault is asked at the end.
+fn feed(alloc: Global, parser: &mut Parser, word: &str, line: u32) -> Result<bool, NoMemory> {
+    match parser.feed(alloc, token(alloc, word, line)?) {
+        Ok(Step::Command(_)) => Ok(true),
+        Err(ParseFault::NoMemory) => Err(NoMemory),
+        _ => Ok(false),
+    }
+}
+
+// Feeds words that blanks part, so many times, and gives the number of commands that they ended.
+fn feed_times(
+    alloc: Global,
+    parser: &mut Parser,
+    words: &str,
+    line: u32,
+    times: u32,
+) -> Result<u32, NoMemory> {
+    let mut commands: u32 = 0;
+    for _ in 0..times {
+        for word in words.split_whitespace() {
+            let ended = feed(alloc, parser, word, line)?;
+            commands = commands.saturating_add(u32::from(ended));
+        }
+    }
+    Ok(commands)
+}
+
+// Feeds the words of each line.
+fn feed_lines(alloc: Global, parser: &mut Parser, text: &str) -> Result<u32, NoMemory> {
     let mut commands: u32 = 0;
     let mut line: u32 = 0;
     for row in text.lines() {
         line = line.saturating_add(1);
-        for word in row.split_whitespace() {
-            match parser.feed(alloc, token(alloc, word, line)?) {
-                Ok(Step::More) => {}
-                Ok(Step::Command(_)) => commands = commands.saturating_add(1),
-                Err(ParseFault::Refused(_)) => {}
-                Err(ParseFault::NoMemory) => return Err(NoMemory),
-            }
-        }
+        commands = commands.saturating_add(feed_times(alloc, parser, row, line, 1)?);
     }
+    Ok(commands)
+}
+
+// Reads words that blanks and lines part.
+fn read(alloc: Global, text: &str) -> Result<Outcome, NoMemory> {
+    let mut parser = Parser::new(alloc, Limits::standard());
+    let commands = feed_lines(alloc, &mut parser, text)?;
     Ok(Outcome {
         commands,
         fault: parser.finish().err(),
@@ -260,37 +286,34 @@ fn refuses_what_is_no_rule(rt: HostRuntime) -> Result<(), Fail> {
     Ok(())
 }
 
+// Whether these words and a dot a line below are read as a theorem with this name, at the line of
+// the words.
+fn ends_theorem(alloc: Global, words: &str, name: &[u8], line: u32) -> Result<bool, NoMemory> {
+    let dot = token(alloc, ".", line.saturating_add(1))?;
+    let mut parser = Parser::new(alloc, Limits::standard());
+    let _ended = feed_times(alloc, &mut parser, words, line, 1)?;
+    Ok(gives_theorem(&parser.feed(alloc, dot), name, line))
+}
+
 #[test]
 fn gives_the_command_as_written(rt: HostRuntime) -> Result<(), Fail> {
-    let alloc = rt.alloc();
-    let mut parser = Parser::new(alloc, Limits::standard());
-    for word in ["thm", "t", ":", "nat", ":=", "z"] {
-        assert!(rt;
-            parser.feed(alloc, token(alloc, word, 7)?).is_ok(),
-            "at {word}"
-        );
-    }
-    let step = parser.feed(alloc, token(alloc, ".", 8)?);
-    assert!(rt; gives_theorem(&step, b"t", 7));
+    assert!(rt; ends_theorem(rt.alloc(), "thm t : nat := z", b"t", 7)?);
     Ok(())
 }
 
-// Feeds some words so many times, whatever the parser answers.
-fn feed_times(alloc: Global, parser: &mut Parser, words: &str, count: u32) -> Result<(), NoMemory> {
-    for _ in 0..count {
-        for word in words.split_whitespace() {
-            match parser.feed(alloc, token(alloc, word, 1)?) {
-                Err(ParseFault::NoMemory) => return Err(NoMemory),
-                _ => {}
-            }
-        }
+// What the end answers where words were fed so many times each, with so many levels.
+fn end_of(alloc: Global, levels: u32, parts: &[(&str, u32)]) -> Result<Option<Code>, NoMemory> {
+    let mut limits = Limits::standard();
+    limits.levels = levels;
+    let mut parser = Parser::new(alloc, limits);
+    for (words, times) in parts {
+        let _commands = feed_times(alloc, &mut parser, words, 1, *times)?;
     }
-    Ok(())
+    Ok(parser.finish().err())
 }
 
 #[test]
 fn ends_levels_and_arguments_at_the_limit(rt: HostRuntime) -> Result<(), Fail> {
-    let alloc = rt.alloc();
     for (words, count, code) in [
         ("(", 1_000, Code::E03),
         ("(", 1_001, Code::E04),
@@ -301,21 +324,10 @@ fn ends_levels_and_arguments_at_the_limit(rt: HostRuntime) -> Result<(), Fail> {
         ("( a )", 1_000, Code::E03),
         ("( a )", 1_001, Code::E04),
     ] {
-        let mut parser = Parser::new(alloc, Limits::standard());
-        feed_times(alloc, &mut parser, "x : a", 1)?;
-        feed_times(alloc, &mut parser, words, count)?;
-        assert_eq!(rt; parser.finish(), Err(code), "at {count} of {words}");
+        let end = end_of(rt.alloc(), 1_000, &[("x : a", 1), (words, count)])?;
+        assert_eq!(rt; end, Some(code), "at {count} of {words}");
     }
     Ok(())
-}
-
-// What the end answers where these words are read with so many levels.
-fn read_within(alloc: Global, words: &str, levels: u32) -> Result<Option<Code>, NoMemory> {
-    let mut limits = Limits::standard();
-    limits.levels = levels;
-    let mut parser = Parser::new(alloc, limits);
-    feed_times(alloc, &mut parser, words, 1)?;
-    Ok(parser.finish().err())
 }
 
 #[test]
@@ -327,9 +339,9 @@ fn counts_parameters_as_levels(rt: HostRuntime) -> Result<(), Fail> {
         ("def c ( x : A ) := y => y .", 2),
         ("def c ( x : A ) := y . def d ( x : A ) := y .", 1),
     ] {
-        let code = read_within(rt.alloc(), words, levels)?;
+        let code = end_of(rt.alloc(), levels, &[(words, 1)])?;
         assert_eq!(rt; code, None, "at {words}");
-        let code = read_within(rt.alloc(), words, levels - 1)?;
+        let code = end_of(rt.alloc(), levels - 1, &[(words, 1)])?;
         assert_eq!(rt; code, Some(Code::E04), "at {words}");
     }
     Ok(())
@@ -346,9 +358,9 @@ fn counts_the_levels_of_rules(rt: HostRuntime) -> Result<(), Fail> {
         ("[ ] f ( a ) { b } --> c .", 2),
         ("[ x : ( a ) ] f --> c .", 1),
     ] {
-        let code = read_within(rt.alloc(), words, levels)?;
+        let code = end_of(rt.alloc(), levels, &[(words, 1)])?;
         assert_eq!(rt; code, None, "at {words}");
-        let code = read_within(rt.alloc(), words, levels - 1)?;
+        let code = end_of(rt.alloc(), levels - 1, &[(words, 1)])?;
         assert_eq!(rt; code, Some(Code::E04), "at {words}");
     }
     Ok(())
@@ -356,13 +368,13 @@ fn counts_the_levels_of_rules(rt: HostRuntime) -> Result<(), Fail> {
 
 #[test]
 fn reads_a_thousand_brackets(rt: HostRuntime) -> Result<(), Fail> {
-    let alloc = rt.alloc();
-    let mut parser = Parser::new(alloc, Limits::standard());
-    feed_times(alloc, &mut parser, "x :", 1)?;
-    feed_times(alloc, &mut parser, "(", 1_000)?;
-    feed_times(alloc, &mut parser, "Type", 1)?;
-    feed_times(alloc, &mut parser, ")", 1_000)?;
-    feed_times(alloc, &mut parser, ".", 1)?;
-    assert_eq!(rt; parser.finish(), Ok(()));
+    let command = [
+        ("x :", 1),
+        ("(", 1_000),
+        ("Type", 1),
+        (")", 1_000),
+        (".", 1),
+    ];
+    assert_eq!(rt; end_of(rt.alloc(), 1_000, &command)?, None);
     Ok(())
 }
