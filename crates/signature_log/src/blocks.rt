@@ -84,7 +84,7 @@ pub fn with<T: Share, L: Ledger>(
     ensures counted { OnOk result (steps.new ≡ steps.old + (length places.now + 1)) }
     ensures cost { steps.new ≤ steps.old + (length places.now + 1) }
 {
-    let mut all = Vec::with_capacity(alloc, places.len())?;
+    let mut all = Vec::with_capacity(alloc, places.len().saturating_add(1))?;
     for place in places {
         steps.tick();
         all.push(place.share()?)?;

@@ -50,7 +50,8 @@ pub fn with_cell<T: Share>(
 ) -> Result<Vec<Option<T>>, NoMemory>
     ensures { IfOk result (λ v. IsPut (cell_at cells.now) (cell_at v.items) number value) }
 {
-    let mut all = Vec::new(alloc);
+    let count = cells.len().max(number.saturating_add(1));
+    let mut all = Vec::with_capacity(alloc, count)?;
     for at in 0..number {
         all.push(shared_cell(cells, at)?)?;
     }
