@@ -599,3 +599,397 @@ inference::infer_taken-infer_node-requires g t c =
     let s = ap size c.in_ok-node.ensures.node.0 in
     let h = context_moved r o k x x c.requires.context refl in
     search rules
+
+-- what each end keeps
+
+pub checking::check_annotated-returns-in_err-erased-clause-keeps : goal.checking::check_annotated-returns-in_err-erased-clause-keeps
+checking::check_annotated-returns-in_err-erased-clause-keeps g t c =
+    let r = c.args.r.now in
+    let q = c.into_product.new.r in
+    let kp = c.in_ok-function.ensures.keeps in
+    keeps_further r q c.erase.new.self kp c.in_err-erased.ensures.keeps
+
+pub checking::check_annotated-returns-in_err-erased-clause-serves : goal.checking::check_annotated-returns-in_err-erased-clause-serves
+checking::check_annotated-returns-in_err-erased-clause-serves g t c =
+    c.in_err-erased.ensures.serves (entries_of c.args.v.now) c.in_ok-function.ensures.serves
+
+pub checking::check_annotated-returns-in_err-infer_domain-clause-keeps : goal.checking::check_annotated-returns-in_err-infer_domain-clause-keeps
+checking::check_annotated-returns-in_err-infer_domain-clause-keeps g t c =
+    let r = c.args.r.now in
+    let q = c.into_product.new.r in
+    let kp = c.in_ok-function.ensures.keeps in
+    let e = c.erase.new.self in
+    let ke = keeps_further r q e kp c.in_ok-erased.ensures.keeps in
+    keeps_further r e c.infer_domain.new.r ke c.in_err-infer_domain.ensures.keeps
+
+pub checking::check_annotated-returns-in_err-infer_domain-clause-serves : goal.checking::check_annotated-returns-in_err-infer_domain-clause-serves
+checking::check_annotated-returns-in_err-infer_domain-clause-serves g t c =
+    c.in_err-infer_domain.ensures.serves
+
+pub checking::check_annotated-returns-in_err-infer_domain-clause-kept : goal.checking::check_annotated-returns-in_err-infer_domain-clause-kept
+checking::check_annotated-returns-in_err-infer_domain-clause-kept g t c =
+    c.in_err-infer_domain.ensures.kept
+
+pub checking::check_annotated-as_same-requires-clause-own : goal.checking::check_annotated-as_same-requires-clause-own
+checking::check_annotated-as_same-requires-clause-own g t c =
+    c.in_ok-infer_domain.ensures.keeps.own c.in_ok-erased.erased c.in_ok-erased.ensures.makes.1
+
+pub checking::check_annotated-as_same-requires-clause-other : goal.checking::check_annotated-as_same-requires-clause-other
+checking::check_annotated-as_same-requires-clause-other g t c =
+    c.in_ok-infer_domain.ensures.keeps.own c.in_ok-function.function.domain (c.in_ok-erased.ensures.keeps.own c.in_ok-function.function.domain c.in_ok-function.ensures.gives.1)
+
+pub checking::check_annotated-as_same-requires-clause-serves : goal.checking::check_annotated-as_same-requires-clause-serves
+checking::check_annotated-as_same-requires-clause-serves g t c =
+    c.in_ok-infer_domain.ensures.serves
+
+pub checking::check_annotated-returns-in_err-as_same-clause-keeps : goal.checking::check_annotated-returns-in_err-as_same-clause-keeps
+checking::check_annotated-returns-in_err-as_same-clause-keeps g t c =
+    let r = c.args.r.now in
+    let q = c.into_product.new.r in
+    let kp = c.in_ok-function.ensures.keeps in
+    let e = c.erase.new.self in
+    let ke = keeps_further r q e kp c.in_ok-erased.ensures.keeps in
+    let i = c.infer_domain.new.r in
+    let ki = keeps_further r e i ke c.in_ok-infer_domain.ensures.keeps in
+    keeps_further r i c.as_same.new.r ki c.in_err-as_same.ensures.keeps
+
+pub checking::check_annotated-returns-in_err-as_same-clause-serves : goal.checking::check_annotated-returns-in_err-as_same-clause-serves
+checking::check_annotated-returns-in_err-as_same-clause-serves g t c =
+    c.in_err-as_same.ensures.serves
+
+pub checking::check_annotated-returns-in_err-as_same-clause-kept : goal.checking::check_annotated-returns-in_err-as_same-clause-kept
+checking::check_annotated-returns-in_err-as_same-clause-kept g t c =
+    c.in_ok-infer_domain.ensures.kept
+
+pub checking::check_annotated-returns-in_err-bind-clause-keeps : goal.checking::check_annotated-returns-in_err-bind-clause-keeps
+checking::check_annotated-returns-in_err-bind-clause-keeps g t c =
+    let r = c.args.r.now in
+    let q = c.into_product.new.r in
+    let kp = c.in_ok-function.ensures.keeps in
+    let e = c.erase.new.self in
+    let ke = keeps_further r q e kp c.in_ok-erased.ensures.keeps in
+    let i = c.infer_domain.new.r in
+    let ki = keeps_further r e i ke c.in_ok-infer_domain.ensures.keeps in
+    let a = c.as_same.new.r in
+    let ka = keeps_further r i a ki c.in_ok-as_same.ensures.keeps in
+    ka
+
+pub checking::check_annotated-returns-in_err-bind-clause-serves : goal.checking::check_annotated-returns-in_err-bind-clause-serves
+checking::check_annotated-returns-in_err-bind-clause-serves g t c =
+    c.in_ok-as_same.ensures.serves
+
+pub checking::check_annotated-returns-in_err-bind-clause-kept : goal.checking::check_annotated-returns-in_err-bind-clause-kept
+checking::check_annotated-returns-in_err-bind-clause-kept g t c =
+    c.in_err-bind.ensures.err ∙ c.in_ok-infer_domain.ensures.kept
+
+pub checking::check_annotated-returns-clause-keeps : goal.checking::check_annotated-returns-clause-keeps
+checking::check_annotated-returns-clause-keeps g t c =
+    let r = c.args.r.now in
+    let q = c.into_product.new.r in
+    let kp = c.in_ok-function.ensures.keeps in
+    let e = c.erase.new.self in
+    let ke = keeps_further r q e kp c.in_ok-erased.ensures.keeps in
+    let i = c.infer_domain.new.r in
+    let ki = keeps_further r e i ke c.in_ok-infer_domain.ensures.keeps in
+    let a = c.as_same.new.r in
+    let ka = keeps_further r i a ki c.in_ok-as_same.ensures.keeps in
+    keeps_further r a c.check_taken-fits.new.r ka c.check_taken-fits.ensures.keeps
+
+pub checking::check_annotated-returns-clause-serves : goal.checking::check_annotated-returns-clause-serves
+checking::check_annotated-returns-clause-serves g t c =
+    c.check_taken-fits.ensures.serves
+
+pub checking::check_annotated-returns-clause-kept : goal.checking::check_annotated-returns-clause-kept
+checking::check_annotated-returns-clause-kept g t c =
+    let bound = c.in_ok-bind.ensures.ok ∙ ap (λ y. with_bound y c.in_ok-function.function.domain) c.in_ok-infer_domain.ensures.kept in
+    (c.leave-domain.ensures c.args.context.now c.in_ok-function.function.domain (c.check_taken-fits.ensures.kept ∙ bound)).0
+
+pub checking::check_bare-returns-in_err-bind-clause-keeps : goal.checking::check_bare-returns-in_err-bind-clause-keeps
+checking::check_bare-returns-in_err-bind-clause-keeps g t c =
+    c.in_ok-function.ensures.keeps
+
+pub checking::check_bare-returns-in_err-bind-clause-serves : goal.checking::check_bare-returns-in_err-bind-clause-serves
+checking::check_bare-returns-in_err-bind-clause-serves g t c =
+    c.in_ok-function.ensures.serves
+
+pub checking::check_bare-returns-in_err-bind-clause-kept : goal.checking::check_bare-returns-in_err-bind-clause-kept
+checking::check_bare-returns-in_err-bind-clause-kept g t c =
+    c.in_err-bind.ensures.err
+
+pub checking::check_bare-returns-clause-keeps : goal.checking::check_bare-returns-clause-keeps
+checking::check_bare-returns-clause-keeps g t c =
+    keeps_further c.args.r.now c.into_product.new.r c.check_taken-fits.new.r c.in_ok-function.ensures.keeps c.check_taken-fits.ensures.keeps
+
+pub checking::check_bare-returns-clause-serves : goal.checking::check_bare-returns-clause-serves
+checking::check_bare-returns-clause-serves g t c =
+    c.check_taken-fits.ensures.serves
+
+pub checking::check_bare-returns-clause-kept : goal.checking::check_bare-returns-clause-kept
+checking::check_bare-returns-clause-kept g t c =
+    (c.leave-domain.ensures c.args.context.now c.in_ok-function.function.domain (c.check_taken-fits.ensures.kept ∙ c.in_ok-bind.ensures.ok)).0
+
+pub inference::apply-returns-in_err-found-clause-keeps : goal.inference::apply-returns-in_err-found-clause-keeps
+inference::apply-returns-in_err-found-clause-keeps g t c =
+    keeps_further c.args.r.now c.into_product.new.r c.put_erased_in.new.self c.in_ok-function.ensures.keeps c.in_err-found.ensures.keeps
+
+pub inference::apply-returns-in_err-found-clause-serves : goal.inference::apply-returns-in_err-found-clause-serves
+inference::apply-returns-in_err-found-clause-serves g t c =
+    c.in_err-found.ensures.serves (entries_of c.args.v.now) c.in_ok-function.ensures.serves
+
+pub inference::apply-returns-in_err-check_taken-clause-keeps : goal.inference::apply-returns-in_err-check_taken-clause-keeps
+inference::apply-returns-in_err-check_taken-clause-keeps g t c =
+    let k = keeps_further c.args.r.now c.into_product.new.r c.put_erased_in.new.self c.in_ok-function.ensures.keeps c.in_ok-found.ensures.keeps in
+    keeps_further c.args.r.now c.put_erased_in.new.self c.check_taken.new.r k c.in_err-check_taken.ensures.keeps
+
+pub inference::apply-returns-in_err-check_taken-clause-serves : goal.inference::apply-returns-in_err-check_taken-clause-serves
+inference::apply-returns-in_err-check_taken-clause-serves g t c =
+    c.in_err-check_taken.ensures.serves
+
+pub inference::apply-returns-in_err-check_taken-clause-kept : goal.inference::apply-returns-in_err-check_taken-clause-kept
+inference::apply-returns-in_err-check_taken-clause-kept g t c =
+    c.in_err-check_taken.ensures.kept
+
+pub inference::apply-returns-clause-keeps : goal.inference::apply-returns-clause-keeps
+inference::apply-returns-clause-keeps g t c =
+    let k = keeps_further c.args.r.now c.into_product.new.r c.put_erased_in.new.self c.in_ok-function.ensures.keeps c.in_ok-found.ensures.keeps in
+    keeps_further c.args.r.now c.put_erased_in.new.self c.check_taken.new.r k c.in_ok-check_taken.ensures.keeps
+
+pub inference::apply-returns-clause-serves : goal.inference::apply-returns-clause-serves
+inference::apply-returns-clause-serves g t c =
+    c.in_ok-check_taken.ensures.serves
+
+pub inference::apply-returns-clause-kept : goal.inference::apply-returns-clause-kept
+inference::apply-returns-clause-kept g t c =
+    c.in_ok-check_taken.ensures.kept
+
+pub inference::infer_abstraction-returns-in_err-infer_domain-clause-keeps : goal.inference::infer_abstraction-returns-in_err-infer_domain-clause-keeps
+inference::infer_abstraction-returns-in_err-infer_domain-clause-keeps g t c =
+    let r = c.args.r.now in
+    let e = c.erase.new.self in
+    let ke = c.in_ok-erased.ensures.keeps in
+    keeps_further r e c.infer_domain.new.r ke c.in_err-infer_domain.ensures.keeps
+
+pub inference::infer_abstraction-returns-in_err-infer_domain-clause-serves : goal.inference::infer_abstraction-returns-in_err-infer_domain-clause-serves
+inference::infer_abstraction-returns-in_err-infer_domain-clause-serves g t c =
+    c.in_err-infer_domain.ensures.serves
+
+pub inference::infer_abstraction-returns-in_err-infer_domain-clause-kept : goal.inference::infer_abstraction-returns-in_err-infer_domain-clause-kept
+inference::infer_abstraction-returns-in_err-infer_domain-clause-kept g t c =
+    c.in_err-infer_domain.ensures.kept
+
+pub inference::infer_abstraction-returns-in_err-bind-clause-keeps : goal.inference::infer_abstraction-returns-in_err-bind-clause-keeps
+inference::infer_abstraction-returns-in_err-bind-clause-keeps g t c =
+    let r = c.args.r.now in
+    let e = c.erase.new.self in
+    let ke = c.in_ok-erased.ensures.keeps in
+    let i = c.infer_domain.new.r in
+    let ki = keeps_further r e i ke c.in_ok-infer_domain.ensures.keeps in
+    ki
+
+pub inference::infer_abstraction-returns-in_err-bind-clause-serves : goal.inference::infer_abstraction-returns-in_err-bind-clause-serves
+inference::infer_abstraction-returns-in_err-bind-clause-serves g t c =
+    c.in_ok-infer_domain.ensures.serves
+
+pub inference::infer_abstraction-returns-in_err-bind-clause-kept : goal.inference::infer_abstraction-returns-in_err-bind-clause-kept
+inference::infer_abstraction-returns-in_err-bind-clause-kept g t c =
+    c.in_err-bind.ensures.err ∙ c.in_ok-infer_domain.ensures.kept
+
+pub inference::infer_abstraction-returns-in_err-found-clause-keeps : goal.inference::infer_abstraction-returns-in_err-found-clause-keeps
+inference::infer_abstraction-returns-in_err-found-clause-keeps g t c =
+    let r = c.args.r.now in
+    let e = c.erase.new.self in
+    let ke = c.in_ok-erased.ensures.keeps in
+    let i = c.infer_domain.new.r in
+    let ki = keeps_further r e i ke c.in_ok-infer_domain.ensures.keeps in
+    keeps_further r i c.infer_taken-found.new.r ki c.in_err-found.ensures.keeps
+
+pub inference::infer_abstraction-returns-in_err-found-clause-serves : goal.inference::infer_abstraction-returns-in_err-found-clause-serves
+inference::infer_abstraction-returns-in_err-found-clause-serves g t c =
+    c.in_err-found.ensures.serves
+
+pub inference::infer_abstraction-returns-in_err-found-clause-kept : goal.inference::infer_abstraction-returns-in_err-found-clause-kept
+inference::infer_abstraction-returns-in_err-found-clause-kept g t c =
+    let bound = c.in_ok-bind.ensures.ok ∙ ap (λ y. with_bound y c.in_ok-erased.erased) c.in_ok-infer_domain.ensures.kept in
+    (c.leave-domain.ensures c.args.context.now c.in_ok-erased.erased (c.infer_taken-found.ensures.kept ∙ bound)).0
+
+pub inference::infer_abstraction-not_kind-requires : goal.inference::infer_abstraction-not_kind-requires
+inference::infer_abstraction-not_kind-requires g t c =
+    c.in_ok-found.ensures.gives.1
+
+pub inference::infer_abstraction-returns-in_err-codomain-clause-keeps : goal.inference::infer_abstraction-returns-in_err-codomain-clause-keeps
+inference::infer_abstraction-returns-in_err-codomain-clause-keeps g t c =
+    let r = c.args.r.now in
+    let e = c.erase.new.self in
+    let ke = c.in_ok-erased.ensures.keeps in
+    let i = c.infer_domain.new.r in
+    let ki = keeps_further r e i ke c.in_ok-infer_domain.ensures.keeps in
+    let f = c.infer_taken-found.new.r in
+    let kf = keeps_further r i f ki c.in_ok-found.ensures.keeps in
+    keeps_further r f c.not_kind.new.r kf c.in_err-codomain.ensures.keeps
+
+pub inference::infer_abstraction-returns-in_err-codomain-clause-serves : goal.inference::infer_abstraction-returns-in_err-codomain-clause-serves
+inference::infer_abstraction-returns-in_err-codomain-clause-serves g t c =
+    c.in_err-codomain.ensures.serves (entries_of c.args.v.now) c.in_ok-found.ensures.serves
+
+pub inference::infer_abstraction-returns-in_err-codomain-clause-kept : goal.inference::infer_abstraction-returns-in_err-codomain-clause-kept
+inference::infer_abstraction-returns-in_err-codomain-clause-kept g t c =
+    let bound = c.in_ok-bind.ensures.ok ∙ ap (λ y. with_bound y c.in_ok-erased.erased) c.in_ok-infer_domain.ensures.kept in
+    (c.leave-domain.ensures c.args.context.now c.in_ok-erased.erased (c.infer_taken-found.ensures.kept ∙ bound)).0
+
+pub inference::infer_abstraction-returns-in_err-build-clause-keeps : goal.inference::infer_abstraction-returns-in_err-build-clause-keeps
+inference::infer_abstraction-returns-in_err-build-clause-keeps g t c =
+    let r = c.args.r.now in
+    let e = c.erase.new.self in
+    let ke = c.in_ok-erased.ensures.keeps in
+    let i = c.infer_domain.new.r in
+    let ki = keeps_further r e i ke c.in_ok-infer_domain.ensures.keeps in
+    let f = c.infer_taken-found.new.r in
+    let kf = keeps_further r i f ki c.in_ok-found.ensures.keeps in
+    let n = c.not_kind.new.r in
+    let kn = keeps_further r f n kf c.in_ok-codomain.ensures.keeps in
+    keeps_further r n c.build.new.self kn c.in_err-build.ensures.keeps
+
+pub inference::infer_abstraction-returns-in_err-build-clause-serves : goal.inference::infer_abstraction-returns-in_err-build-clause-serves
+inference::infer_abstraction-returns-in_err-build-clause-serves g t c =
+    c.in_err-build.ensures.serves (entries_of c.args.v.now) (c.in_ok-codomain.ensures.serves (entries_of c.args.v.now) c.in_ok-found.ensures.serves)
+
+pub inference::infer_abstraction-returns-in_err-build-clause-kept : goal.inference::infer_abstraction-returns-in_err-build-clause-kept
+inference::infer_abstraction-returns-in_err-build-clause-kept g t c =
+    let bound = c.in_ok-bind.ensures.ok ∙ ap (λ y. with_bound y c.in_ok-erased.erased) c.in_ok-infer_domain.ensures.kept in
+    (c.leave-domain.ensures c.args.context.now c.in_ok-erased.erased (c.infer_taken-found.ensures.kept ∙ bound)).0
+
+pub inference::infer_abstraction-returns-clause-keeps : goal.inference::infer_abstraction-returns-clause-keeps
+inference::infer_abstraction-returns-clause-keeps g t c =
+    let r = c.args.r.now in
+    let e = c.erase.new.self in
+    let ke = c.in_ok-erased.ensures.keeps in
+    let i = c.infer_domain.new.r in
+    let ki = keeps_further r e i ke c.in_ok-infer_domain.ensures.keeps in
+    let f = c.infer_taken-found.new.r in
+    let kf = keeps_further r i f ki c.in_ok-found.ensures.keeps in
+    let n = c.not_kind.new.r in
+    let kn = keeps_further r f n kf c.in_ok-codomain.ensures.keeps in
+    keeps_further r n c.build.new.self kn c.in_ok-build.ensures.keeps
+
+pub inference::infer_abstraction-returns-clause-serves : goal.inference::infer_abstraction-returns-clause-serves
+inference::infer_abstraction-returns-clause-serves g t c =
+    c.in_ok-build.ensures.serves (entries_of c.args.v.now) (c.in_ok-codomain.ensures.serves (entries_of c.args.v.now) c.in_ok-found.ensures.serves)
+
+pub inference::infer_abstraction-returns-clause-kept : goal.inference::infer_abstraction-returns-clause-kept
+inference::infer_abstraction-returns-clause-kept g t c =
+    let bound = c.in_ok-bind.ensures.ok ∙ ap (λ y. with_bound y c.in_ok-erased.erased) c.in_ok-infer_domain.ensures.kept in
+    (c.leave-domain.ensures c.args.context.now c.in_ok-erased.erased (c.infer_taken-found.ensures.kept ∙ bound)).0
+
+pub inference::infer_product-returns-in_err-infer_domain-clause-keeps : goal.inference::infer_product-returns-in_err-infer_domain-clause-keeps
+inference::infer_product-returns-in_err-infer_domain-clause-keeps g t c =
+    let r = c.args.r.now in
+    let e = c.erase.new.self in
+    let ke = c.in_ok-erased.ensures.keeps in
+    keeps_further r e c.infer_domain.new.r ke c.in_err-infer_domain.ensures.keeps
+
+pub inference::infer_product-returns-in_err-infer_domain-clause-serves : goal.inference::infer_product-returns-in_err-infer_domain-clause-serves
+inference::infer_product-returns-in_err-infer_domain-clause-serves g t c =
+    c.in_err-infer_domain.ensures.serves
+
+pub inference::infer_product-returns-in_err-infer_domain-clause-kept : goal.inference::infer_product-returns-in_err-infer_domain-clause-kept
+inference::infer_product-returns-in_err-infer_domain-clause-kept g t c =
+    c.in_err-infer_domain.ensures.kept
+
+pub inference::infer_product-returns-in_err-bind-clause-keeps : goal.inference::infer_product-returns-in_err-bind-clause-keeps
+inference::infer_product-returns-in_err-bind-clause-keeps g t c =
+    let r = c.args.r.now in
+    let e = c.erase.new.self in
+    let ke = c.in_ok-erased.ensures.keeps in
+    let i = c.infer_domain.new.r in
+    let ki = keeps_further r e i ke c.in_ok-infer_domain.ensures.keeps in
+    ki
+
+pub inference::infer_product-returns-in_err-bind-clause-serves : goal.inference::infer_product-returns-in_err-bind-clause-serves
+inference::infer_product-returns-in_err-bind-clause-serves g t c =
+    c.in_ok-infer_domain.ensures.serves
+
+pub inference::infer_product-returns-in_err-bind-clause-kept : goal.inference::infer_product-returns-in_err-bind-clause-kept
+inference::infer_product-returns-in_err-bind-clause-kept g t c =
+    c.in_err-bind.ensures.err ∙ c.in_ok-infer_domain.ensures.kept
+
+pub inference::infer_product-returns-in_err-found-clause-keeps : goal.inference::infer_product-returns-in_err-found-clause-keeps
+inference::infer_product-returns-in_err-found-clause-keeps g t c =
+    let r = c.args.r.now in
+    let e = c.erase.new.self in
+    let ke = c.in_ok-erased.ensures.keeps in
+    let i = c.infer_domain.new.r in
+    let ki = keeps_further r e i ke c.in_ok-infer_domain.ensures.keeps in
+    keeps_further r i c.infer_taken-found.new.r ki c.in_err-found.ensures.keeps
+
+pub inference::infer_product-returns-in_err-found-clause-serves : goal.inference::infer_product-returns-in_err-found-clause-serves
+inference::infer_product-returns-in_err-found-clause-serves g t c =
+    c.in_err-found.ensures.serves
+
+pub inference::infer_product-returns-in_err-found-clause-kept : goal.inference::infer_product-returns-in_err-found-clause-kept
+inference::infer_product-returns-in_err-found-clause-kept g t c =
+    let bound = c.in_ok-bind.ensures.ok ∙ ap (λ y. with_bound y c.in_ok-erased.erased) c.in_ok-infer_domain.ensures.kept in
+    (c.leave-domain.ensures c.args.context.now c.in_ok-erased.erased (c.infer_taken-found.ensures.kept ∙ bound)).0
+
+pub inference::infer_product-as_sort-requires-clause-own : goal.inference::infer_product-as_sort-requires-clause-own
+inference::infer_product-as_sort-requires-clause-own g t c =
+    c.in_ok-found.ensures.gives.1
+
+pub inference::infer_product-as_sort-requires-clause-serves : goal.inference::infer_product-as_sort-requires-clause-serves
+inference::infer_product-as_sort-requires-clause-serves g t c =
+    c.in_ok-found.ensures.serves
+
+pub inference::infer_product-returns-clause-keeps : goal.inference::infer_product-returns-clause-keeps
+inference::infer_product-returns-clause-keeps g t c =
+    let r = c.args.r.now in
+    let e = c.erase.new.self in
+    let ke = c.in_ok-erased.ensures.keeps in
+    let i = c.infer_domain.new.r in
+    let ki = keeps_further r e i ke c.in_ok-infer_domain.ensures.keeps in
+    let f = c.infer_taken-found.new.r in
+    let kf = keeps_further r i f ki c.in_ok-found.ensures.keeps in
+    keeps_further r f c.as_sort.new.r kf c.as_sort.ensures.keeps
+
+pub inference::infer_product-returns-clause-serves : goal.inference::infer_product-returns-clause-serves
+inference::infer_product-returns-clause-serves g t c =
+    c.as_sort.ensures.serves
+
+pub inference::infer_product-returns-clause-kept : goal.inference::infer_product-returns-clause-kept
+inference::infer_product-returns-clause-kept g t c =
+    let bound = c.in_ok-bind.ensures.ok ∙ ap (λ y. with_bound y c.in_ok-erased.erased) c.in_ok-infer_domain.ensures.kept in
+    (c.leave-domain.ensures c.args.context.now c.in_ok-erased.erased (c.infer_taken-found.ensures.kept ∙ bound)).0
+
+pub inference::infer_node-returns-in_err-typ-clause-keeps : goal.inference::infer_node-returns-in_err-typ-clause-keeps
+inference::infer_node-returns-in_err-typ-clause-keeps g t c =
+    keeps_further c.args.r.now c.unwind.new.r c.infer_head.new.r c.in_ok-spine.ensures.keeps c.in_err-typ.ensures.keeps
+
+pub inference::infer_node-returns-in_err-typ-clause-serves : goal.inference::infer_node-returns-in_err-typ-clause-serves
+inference::infer_node-returns-in_err-typ-clause-serves g t c =
+    c.in_err-typ.ensures.serves
+
+pub inference::infer_node-returns-in_err-typ-clause-kept : goal.inference::infer_node-returns-in_err-typ-clause-kept
+inference::infer_node-returns-in_err-typ-clause-kept g t c =
+    c.in_err-typ.ensures.kept
+
+pub inference::infer_node-returns-in_err-typ-2-clause-keeps : goal.inference::infer_node-returns-in_err-typ-2-clause-keeps
+inference::infer_node-returns-in_err-typ-2-clause-keeps g t c =
+    keeps_further c.args.r.now c.loop-argument.r c.apply.new.r c.loop-argument.invariant.keeps c.in_err-typ-2.ensures.keeps
+
+pub inference::infer_node-returns-in_err-typ-2-clause-serves : goal.inference::infer_node-returns-in_err-typ-2-clause-serves
+inference::infer_node-returns-in_err-typ-2-clause-serves g t c =
+    c.in_err-typ-2.ensures.serves
+
+pub inference::infer_node-returns-in_err-typ-2-clause-kept : goal.inference::infer_node-returns-in_err-typ-2-clause-kept
+inference::infer_node-returns-in_err-typ-2-clause-kept g t c =
+    c.in_err-typ-2.ensures.kept ∙ c.loop-argument.invariant.kept
+
+pub inference::infer_node-returns-clause-keeps : goal.inference::infer_node-returns-clause-keeps
+inference::infer_node-returns-clause-keeps g t c =
+    c.loop-argument.invariant.keeps
+
+pub inference::infer_node-returns-clause-serves : goal.inference::infer_node-returns-clause-serves
+inference::infer_node-returns-clause-serves g t c =
+    c.loop-argument.invariant.serves
+
+pub inference::infer_node-returns-clause-kept : goal.inference::infer_node-returns-clause-kept
+inference::infer_node-returns-clause-kept g t c =
+    c.loop-argument.invariant.kept
