@@ -11,10 +11,11 @@ use Rattle.shared_term.specs.Pools.{Node, term, terms, Extends}
 use Rattle.conversion.specs.declared.table.Table.{Table}
 use Rattle.conversion.specs.declared.state.Value.{Value}
 use Rattle.conversion.specs.declared.state.Answer.{Answer}
+use Rattle.conversion.specs.declared.state.PoolReducer.{PoolReducer}
 use Rattle.conversion.specs.declared.state.Head.{Head}
 use Rattle.conversion.specs.declared.state.Head.TheVariants.{Stands, Unfolds}
 use Rattle.conversion.specs.Tables.{Remembers, IsBlank}
-use Rattle.conversion.specs.Reducers.{unfolding_rule, IsLoaded, AreLoaded, IsHead, AreHeads, IsValue, AreValues, IsNormal, AreNormals, IsAnswer, AreAnswers}
+use Rattle.conversion.specs.Reducers.{unfolding_rule, IsLoaded, AreLoaded, IsHead, AreHeads, IsValue, AreValues, IsNormal, AreNormals, IsAnswer, AreAnswers, Serves}
 
 -- a larger pool
 
@@ -74,6 +75,20 @@ answer_grown S old new i j a e h =
 
 pub answers_grown : (S : PlainSignature) (old new : List Node) (t : Table Answer) → Extends old new → AreAnswers S old t → AreAnswers S new t
 answers_grown S old new t e h = record { each = λ i j a r. answer_grown S old new i j a e (h.each i j a r) }
+
+-- all of it, in a larger pool, and in one that is as it was
+
+pub serves_grown : (S : PlainSignature) (r : PoolReducer) (ns : List Node) (n : ℕ) → Extends r.pool ns → Serves S r → Serves S (record r { pool = ns; nested = n })
+serves_grown S r ns n e h = record {
+  loaded = loaded_grown S r.pool ns r.loaded e h.loaded;
+  heads = heads_grown S r.pool ns r.heads e h.heads;
+  values = values_grown S r.pool ns r.values e h.values;
+  normals = normals_grown S r.pool ns r.normals e h.normals;
+  answers = answers_grown S r.pool ns r.answers e h.answers;
+}
+
+pub serves_again : (S : PlainSignature) (r : PoolReducer) (n : ℕ) → Serves S r → Serves S (record r { nested = n })
+serves_again S r n h = record { loaded = h.loaded; heads = h.heads; values = h.values; normals = h.normals; answers = h.answers }
 
 -- one more entry
 

@@ -19,7 +19,7 @@ use Rattle.conversion.specs.Pausing.{plain, ArePauses, Await}
 use Rattle.conversion.specs.Reducers.{IsValue}
 use Rattle.conversion.specs.Selections.{step_cell}
 use Rattle.conversion.proofs.Winding.{extends_more, extends_none}
-use Rattle.conversion.proofs.Serving.{value_made, values_put, loaded_grown, heads_grown, values_grown, normals_grown, answers_grown, answers_put, answer_made, normals_put, normal_made}
+use Rattle.conversion.proofs.Serving.{value_made, values_put, loaded_grown, heads_grown, values_grown, normals_grown, answers_grown, serves_grown, serves_again, answers_put, answer_made, normals_put, normal_made}
 use Rattle.conversion.proofs.Growing.{columns_set, columns_within, columns_taken, columns_dropped, column_within, captures_within, captures_grown}
 use Rattle.conversion.proofs.Choosing.{row_fails, row_takes, row_ends, no_column, row_asks, no_choice, got_either, past_end, among_item}
 use Rattle.conversion.proofs.Passing.{row_goes, row_misses, row_stops, row_ended, guard_goes, guard_misses, guard_stops, guards_ended, cell_misses, cell_caught, cell_given, recorded_new, recorded_before, set_past, guard_compared, captures_begun, guards_begun, row_misses_all, row_ends_all, guards_miss_all, guards_end_all, row_takes_all}
@@ -836,3 +836,602 @@ descend-loop-left-preserved t c =
       serves = c.in_ok-value.ensures.serves;
       less = omega (arith, c.loop-left.invariant.less, c.in_ok-value.ensures.spent);
     }
+
+-- what each end keeps
+
+pub captures_of_row-returns-clause-keeps : goal.captures_of_row-returns-clause-keeps
+captures_of_row-returns-clause-keeps t c = c.loop-i.invariant.keeps
+
+pub captures_of_row-returns-clause-serves : goal.captures_of_row-returns-clause-serves
+captures_of_row-returns-clause-serves t c = c.loop-i.invariant.serves
+
+pub captures_of_row-returns-in-Err-clause-keeps : goal.captures_of_row-returns-in-Err-clause-keeps
+captures_of_row-returns-in-Err-clause-keeps t c = extends_more c.args.self.now.pool c.loop-i.self.pool c.cell_captures.new.self.pool c.loop-i.invariant.keeps c.in-Err.ensures.keeps
+
+pub captures_of_row-returns-in-Err-clause-serves : goal.captures_of_row-returns-in-Err-clause-serves
+captures_of_row-returns-in-Err-clause-serves t c = c.in-Err.ensures.serves
+
+pub captures_of_row-returns-in-Ok-false-clause-keeps : goal.captures_of_row-returns-in-Ok-false-clause-keeps
+captures_of_row-returns-in-Ok-false-clause-keeps t c = extends_more c.args.self.now.pool c.loop-i.self.pool c.cell_captures.new.self.pool c.loop-i.invariant.keeps c.in-Ok-false.ensures.keeps
+
+pub captures_of_row-returns-in-Ok-false-clause-serves : goal.captures_of_row-returns-in-Ok-false-clause-serves
+captures_of_row-returns-in-Ok-false-clause-serves t c = c.in-Ok-false.ensures.serves
+
+pub captures_of_row-returns-clause-captures : goal.captures_of_row-returns-clause-captures
+captures_of_row-returns-clause-captures t c = c.loop-i.invariant.captures
+
+pub captures_of_row-returns-clause-columns : goal.captures_of_row-returns-clause-columns
+captures_of_row-returns-clause-columns t c = c.loop-i.invariant.columns
+
+pub captures_of_row-returns-in-Ok-false-clause-captures : goal.captures_of_row-returns-in-Ok-false-clause-captures
+captures_of_row-returns-in-Ok-false-clause-captures t c = c.in-Ok-false.ensures.captures
+
+pub cell_captures-returns-in-Guards-clause-keeps : goal.cell_captures-returns-in-Guards-clause-keeps
+cell_captures-returns-in-Guards-clause-keeps t c = extends_none c.args.self.now.pool
+
+pub cell_captures-returns-in-Guards-clause-serves : goal.cell_captures-returns-in-Guards-clause-serves
+cell_captures-returns-in-Guards-clause-serves t c = c.requires.serves
+
+pub cell_captures-returns-in-Guards-clause-captures : goal.cell_captures-returns-in-Guards-clause-captures
+cell_captures-returns-in-Guards-clause-captures t c = c.requires.captures
+
+pub cell_captures-returns-in-Guards-clause-column : goal.cell_captures-returns-in-Guards-clause-column
+cell_captures-returns-in-Guards-clause-column t c = c.requires.column
+
+pub cell_captures-returns-in-Passes-clause-keeps : goal.cell_captures-returns-in-Passes-clause-keeps
+cell_captures-returns-in-Passes-clause-keeps t c = extends_none c.args.self.now.pool
+
+pub cell_captures-returns-in-Passes-clause-serves : goal.cell_captures-returns-in-Passes-clause-serves
+cell_captures-returns-in-Passes-clause-serves t c = c.requires.serves
+
+pub cell_captures-returns-in-Passes-clause-captures : goal.cell_captures-returns-in-Passes-clause-captures
+cell_captures-returns-in-Passes-clause-captures t c = c.requires.captures
+
+pub cell_captures-returns-in-Passes-clause-column : goal.cell_captures-returns-in-Passes-clause-column
+cell_captures-returns-in-Passes-clause-column t c = c.requires.column
+
+pub cell_captures-returns-in_err-part_at-in-Captures-clause-keeps : goal.cell_captures-returns-in_err-part_at-in-Captures-clause-keeps
+cell_captures-returns-in_err-part_at-in-Captures-clause-keeps t c = c.in_err-part_at-in-Captures.ensures.keeps
+
+pub cell_captures-returns-in_err-part_at-in-Captures-clause-serves : goal.cell_captures-returns-in_err-part_at-in-Captures-clause-serves
+cell_captures-returns-in_err-part_at-in-Captures-clause-serves t c = c.in_err-part_at-in-Captures.ensures.serves
+
+pub cell_captures-returns-then-not-branch-clause-keeps : goal.cell_captures-returns-then-not-branch-clause-keeps
+cell_captures-returns-then-not-branch-clause-keeps t c = c.in_ok-part_at-in-Captures.ensures.keeps
+
+pub cell_captures-returns-then-not-branch-clause-serves : goal.cell_captures-returns-then-not-branch-clause-serves
+cell_captures-returns-then-not-branch-clause-serves t c = c.in_ok-part_at-in-Captures.ensures.serves
+
+pub cell_captures-returns-then-not-branch-clause-captures : goal.cell_captures-returns-then-not-branch-clause-captures
+cell_captures-returns-then-not-branch-clause-captures t c = captures_within c.args.self.now.pool c.part_at.new.self.pool c.args.captures.now.items c.in_ok-part_at-in-Captures.ensures.keeps c.requires.captures
+
+pub cell_captures-returns-then-not-branch-clause-column : goal.cell_captures-returns-then-not-branch-clause-column
+cell_captures-returns-then-not-branch-clause-column t c = c.in_ok-part_at-in-Captures.ensures.column
+
+pub cell_captures-returns-in_err-part-in-Captures-clause-keeps : goal.cell_captures-returns-in_err-part-in-Captures-clause-keeps
+cell_captures-returns-in_err-part-in-Captures-clause-keeps t c = extends_more c.args.self.now.pool c.part_at.new.self.pool c.captured.new.pool c.in_ok-part_at-in-Captures.ensures.keeps c.in_err-part-in-Captures.ensures.keeps
+
+pub cell_captures-returns-in_err-part-in-Captures-clause-serves : goal.cell_captures-returns-in_err-part-in-Captures-clause-serves
+cell_captures-returns-in_err-part-in-Captures-clause-serves t c = serves_grown (entries_of c.args.version.now) c.part_at.new.self c.captured.new.pool c.part_at.new.self.nested c.in_err-part-in-Captures.ensures.keeps c.in_ok-part_at-in-Captures.ensures.serves
+
+pub cell_captures-returns-in_ok-part-in-Captures-clause-keeps : goal.cell_captures-returns-in_ok-part-in-Captures-clause-keeps
+cell_captures-returns-in_ok-part-in-Captures-clause-keeps t c = extends_more c.args.self.now.pool c.captured.new.pool c.record.new.self.pool (extends_more c.args.self.now.pool c.part_at.new.self.pool c.captured.new.pool c.in_ok-part_at-in-Captures.ensures.keeps c.in_ok-part-in-Captures.ensures.keeps) c.record.ensures.keeps
+
+pub cell_captures-returns-in_ok-part-in-Captures-clause-serves : goal.cell_captures-returns-in_ok-part-in-Captures-clause-serves
+cell_captures-returns-in_ok-part-in-Captures-clause-serves t c = c.record.ensures.serves
+
+pub cell_captures-returns-in_ok-part-in-Captures-clause-captures : goal.cell_captures-returns-in_ok-part-in-Captures-clause-captures
+cell_captures-returns-in_ok-part-in-Captures-clause-captures t c = c.record.ensures.captures
+
+pub part_at-returns-then-not-branch-clause-keeps : goal.part_at-returns-then-not-branch-clause-keeps
+part_at-returns-then-not-branch-clause-keeps t c = c.in_ok-mentions_others.ensures.keeps
+
+pub part_at-returns-then-not-branch-clause-serves : goal.part_at-returns-then-not-branch-clause-serves
+part_at-returns-then-not-branch-clause-serves t c = serves_grown (entries_of c.args.version.now) c.args.self.now c.mentions_others.new.pool c.args.self.now.nested c.in_ok-mentions_others.ensures.keeps c.requires.serves
+
+pub part_at-returns-in_err-mentions_others-clause-keeps : goal.part_at-returns-in_err-mentions_others-clause-keeps
+part_at-returns-in_err-mentions_others-clause-keeps t c = c.in_err-mentions_others.ensures.keeps
+
+pub part_at-returns-in_err-mentions_others-clause-serves : goal.part_at-returns-in_err-mentions_others-clause-serves
+part_at-returns-in_err-mentions_others-clause-serves t c = serves_grown (entries_of c.args.version.now) c.args.self.now c.mentions_others.new.pool c.args.self.now.nested c.in_err-mentions_others.ensures.keeps c.requires.serves
+
+pub part_at-returns-in_err-self-clause-keeps : goal.part_at-returns-in_err-self-clause-keeps
+part_at-returns-in_err-self-clause-keeps t c = c.in_ok-mentions_others.ensures.keeps
+
+pub part_at-returns-in_err-self-clause-serves : goal.part_at-returns-in_err-self-clause-serves
+part_at-returns-in_err-self-clause-serves t c = serves_grown (entries_of c.args.version.now) c.args.self.now c.mentions_others.new.pool c.args.self.now.nested c.in_ok-mentions_others.ensures.keeps c.requires.serves
+
+pub part_at-returns-in_err-column-clause-keeps : goal.part_at-returns-in_err-column-clause-keeps
+part_at-returns-in_err-column-clause-keeps t c = extends_more c.args.self.now.pool c.mentions_others.new.pool c.normalise-normal.new.self.pool c.in_ok-mentions_others.ensures.keeps c.normalise-normal.ensures.keeps
+
+pub part_at-returns-in_err-column-clause-serves : goal.part_at-returns-in_err-column-clause-serves
+part_at-returns-in_err-column-clause-serves t c = serves_again (entries_of c.args.version.now) c.normalise-normal.new.self c.args.self.now.nested c.normalise-normal.ensures.serves
+
+pub part_at-returns-in_err-others-clause-keeps : goal.part_at-returns-in_err-others-clause-keeps
+part_at-returns-in_err-others-clause-keeps t c = extends_more c.args.self.now.pool c.normalise-normal.new.self.pool c.mentions_others-2.new.pool (extends_more c.args.self.now.pool c.mentions_others.new.pool c.normalise-normal.new.self.pool c.in_ok-mentions_others.ensures.keeps c.normalise-normal.ensures.keeps) c.in_err-others.ensures.keeps
+
+pub part_at-returns-in_err-others-clause-serves : goal.part_at-returns-in_err-others-clause-serves
+part_at-returns-in_err-others-clause-serves t c = serves_grown (entries_of c.args.version.now) c.normalise-normal.new.self c.mentions_others-2.new.pool c.args.self.now.nested c.in_err-others.ensures.keeps c.normalise-normal.ensures.serves
+
+pub part_at-returns-clause-keeps : goal.part_at-returns-clause-keeps
+part_at-returns-clause-keeps t c = extends_more c.args.self.now.pool c.normalise-normal.new.self.pool c.mentions_others-2.new.pool (extends_more c.args.self.now.pool c.mentions_others.new.pool c.normalise-normal.new.self.pool c.in_ok-mentions_others.ensures.keeps c.normalise-normal.ensures.keeps) c.in_ok-others.ensures.keeps
+
+pub part_at-returns-clause-serves : goal.part_at-returns-clause-serves
+part_at-returns-clause-serves t c = serves_grown (entries_of c.args.version.now) c.normalise-normal.new.self c.mentions_others-2.new.pool c.args.self.now.nested c.in_ok-others.ensures.keeps c.normalise-normal.ensures.serves
+
+pub record-returns-then-variable-len-clause-keeps : goal.record-returns-then-variable-len-clause-keeps
+record-returns-then-variable-len-clause-keeps t c = extends_none c.args.self.now.pool
+
+pub record-returns-then-variable-len-clause-serves : goal.record-returns-then-variable-len-clause-serves
+record-returns-then-variable-len-clause-serves t c = c.requires.serves
+
+pub record-returns-else-variable-len-clause-keeps : goal.record-returns-else-variable-len-clause-keeps
+record-returns-else-variable-len-clause-keeps t c = extends_none c.args.self.now.pool
+
+pub record-returns-else-variable-len-clause-serves : goal.record-returns-else-variable-len-clause-serves
+record-returns-else-variable-len-clause-serves t c = c.requires.serves
+
+pub record-returns-in_err-self-in-Some-clause-keeps : goal.record-returns-in_err-self-in-Some-clause-keeps
+record-returns-in_err-self-in-Some-clause-keeps t c = extends_none c.args.self.now.pool
+
+pub record-returns-in_err-self-in-Some-clause-serves : goal.record-returns-in_err-self-in-Some-clause-serves
+record-returns-in_err-self-in-Some-clause-serves t c = c.requires.serves
+
+pub record-returns-in_ok-self-in-Some-clause-keeps : goal.record-returns-in_ok-self-in-Some-clause-keeps
+record-returns-in_ok-self-in-Some-clause-keeps t c = c.compare-alike.ensures.keeps
+
+pub record-returns-in_ok-self-in-Some-clause-serves : goal.record-returns-in_ok-self-in-Some-clause-serves
+record-returns-in_ok-self-in-Some-clause-serves t c = serves_again (entries_of c.args.version.now) c.compare-alike.new.self c.args.self.now.nested c.compare-alike.ensures.serves
+
+pub guard_holds-returns-in-Captures-clause-keeps : goal.guard_holds-returns-in-Captures-clause-keeps
+guard_holds-returns-in-Captures-clause-keeps t c = extends_none c.args.self.now.pool
+
+pub guard_holds-returns-in-Captures-clause-serves : goal.guard_holds-returns-in-Captures-clause-serves
+guard_holds-returns-in-Captures-clause-serves t c = c.requires.serves
+
+pub guard_holds-returns-in-Passes-clause-keeps : goal.guard_holds-returns-in-Passes-clause-keeps
+guard_holds-returns-in-Passes-clause-keeps t c = extends_none c.args.self.now.pool
+
+pub guard_holds-returns-in-Passes-clause-serves : goal.guard_holds-returns-in-Passes-clause-serves
+guard_holds-returns-in-Passes-clause-serves t c = c.requires.serves
+
+pub guard_holds-returns-in_err-guard-in-Guards-clause-keeps : goal.guard_holds-returns-in_err-guard-in-Guards-clause-keeps
+guard_holds-returns-in_err-guard-in-Guards-clause-keeps t c = c.in_err-guard-in-Guards.ensures.keeps
+
+pub guard_holds-returns-in_err-guard-in-Guards-clause-serves : goal.guard_holds-returns-in_err-guard-in-Guards-clause-serves
+guard_holds-returns-in_err-guard-in-Guards-clause-serves t c = serves_grown (entries_of c.args.version.now) c.args.self.now c.guard_under.new.pool c.args.self.now.nested c.in_err-guard-in-Guards.ensures.keeps c.requires.serves
+
+pub guard_holds-returns-in_err-self-in-Guards-clause-keeps : goal.guard_holds-returns-in_err-self-in-Guards-clause-keeps
+guard_holds-returns-in_err-self-in-Guards-clause-keeps t c = c.in_ok-guard-in-Guards.ensures.keeps
+
+pub guard_holds-returns-in_err-self-in-Guards-clause-serves : goal.guard_holds-returns-in_err-self-in-Guards-clause-serves
+guard_holds-returns-in_err-self-in-Guards-clause-serves t c = serves_grown (entries_of c.args.version.now) c.args.self.now c.guard_under.new.pool c.args.self.now.nested c.in_ok-guard-in-Guards.ensures.keeps c.requires.serves
+
+pub guard_holds-returns-in_ok-self-in-Guards-clause-keeps : goal.guard_holds-returns-in_ok-self-in-Guards-clause-keeps
+guard_holds-returns-in_ok-self-in-Guards-clause-keeps t c = extends_more c.args.self.now.pool c.guard_under.new.pool c.compare-alike.new.self.pool c.in_ok-guard-in-Guards.ensures.keeps c.compare-alike.ensures.keeps
+
+pub guard_holds-returns-in_ok-self-in-Guards-clause-serves : goal.guard_holds-returns-in_ok-self-in-Guards-clause-serves
+guard_holds-returns-in_ok-self-in-Guards-clause-serves t c = serves_again (entries_of c.args.version.now) c.compare-alike.new.self c.args.self.now.nested c.compare-alike.ensures.serves
+
+pub guards_hold-returns-clause-keeps : goal.guards_hold-returns-clause-keeps
+guards_hold-returns-clause-keeps t c = c.loop-i.invariant.keeps
+
+pub guards_hold-returns-clause-serves : goal.guards_hold-returns-clause-serves
+guards_hold-returns-clause-serves t c = c.loop-i.invariant.serves
+
+pub guards_hold-returns-in-Err-clause-keeps : goal.guards_hold-returns-in-Err-clause-keeps
+guards_hold-returns-in-Err-clause-keeps t c = extends_more c.args.self.now.pool c.loop-i.self.pool c.guard_holds.new.self.pool c.loop-i.invariant.keeps c.in-Err.ensures.keeps
+
+pub guards_hold-returns-in-Err-clause-serves : goal.guards_hold-returns-in-Err-clause-serves
+guards_hold-returns-in-Err-clause-serves t c = c.in-Err.ensures.serves
+
+pub guards_hold-returns-in-Ok-false-clause-keeps : goal.guards_hold-returns-in-Ok-false-clause-keeps
+guards_hold-returns-in-Ok-false-clause-keeps t c = extends_more c.args.self.now.pool c.loop-i.self.pool c.guard_holds.new.self.pool c.loop-i.invariant.keeps c.in-Ok-false.ensures.keeps
+
+pub guards_hold-returns-in-Ok-false-clause-serves : goal.guards_hold-returns-in-Ok-false-clause-serves
+guards_hold-returns-in-Ok-false-clause-serves t c = c.in-Ok-false.ensures.serves
+
+pub row_taken-returns-in_err-captures-clause-keeps : goal.row_taken-returns-in_err-captures-clause-keeps
+row_taken-returns-in_err-captures-clause-keeps t c = extends_none c.args.self.now.pool
+
+pub row_taken-returns-in_err-captures-clause-serves : goal.row_taken-returns-in_err-captures-clause-serves
+row_taken-returns-in_err-captures-clause-serves t c = c.requires.serves
+
+pub row_taken-returns-in-Ok-false-clause-keeps : goal.row_taken-returns-in-Ok-false-clause-keeps
+row_taken-returns-in-Ok-false-clause-keeps t c = c.in-Ok-false.ensures.keeps
+
+pub row_taken-returns-in-Ok-false-clause-serves : goal.row_taken-returns-in-Ok-false-clause-serves
+row_taken-returns-in-Ok-false-clause-serves t c = c.in-Ok-false.ensures.serves
+
+pub row_taken-returns-in-Err-clause-keeps : goal.row_taken-returns-in-Err-clause-keeps
+row_taken-returns-in-Err-clause-keeps t c = c.in-Err.ensures.keeps
+
+pub row_taken-returns-in-Err-clause-serves : goal.row_taken-returns-in-Err-clause-serves
+row_taken-returns-in-Err-clause-serves t c = c.in-Err.ensures.serves
+
+pub row_taken-returns-in-Ok-false-clause-columns : goal.row_taken-returns-in-Ok-false-clause-columns
+row_taken-returns-in-Ok-false-clause-columns t c = c.in-Ok-false.ensures.columns
+
+pub row_taken-returns-in-Ok-false-guards_hold-clause-keeps : goal.row_taken-returns-in-Ok-false-guards_hold-clause-keeps
+row_taken-returns-in-Ok-false-guards_hold-clause-keeps t c = extends_more c.args.self.now.pool c.captures_of_row.new.self.pool c.guards_hold.new.self.pool c.in-Ok-true.ensures.keeps c.in-Ok-false-guards_hold.ensures.keeps
+
+pub row_taken-returns-in-Ok-false-guards_hold-clause-serves : goal.row_taken-returns-in-Ok-false-guards_hold-clause-serves
+row_taken-returns-in-Ok-false-guards_hold-clause-serves t c = c.in-Ok-false-guards_hold.ensures.serves
+
+pub row_taken-returns-in-Ok-false-guards_hold-clause-columns : goal.row_taken-returns-in-Ok-false-guards_hold-clause-columns
+row_taken-returns-in-Ok-false-guards_hold-clause-columns t c = columns_within c.captures_of_row.new.self.pool c.guards_hold.new.self.pool c.captures_of_row.new.columns.items c.in-Ok-false-guards_hold.ensures.keeps c.in-Ok-true.ensures.columns
+
+pub row_taken-returns-in-Ok-true-guards_hold-clause-keeps : goal.row_taken-returns-in-Ok-true-guards_hold-clause-keeps
+row_taken-returns-in-Ok-true-guards_hold-clause-keeps t c = extends_more c.args.self.now.pool c.captures_of_row.new.self.pool c.guards_hold.new.self.pool c.in-Ok-true.ensures.keeps c.in-Ok-true-guards_hold.ensures.keeps
+
+pub row_taken-returns-in-Ok-true-guards_hold-clause-serves : goal.row_taken-returns-in-Ok-true-guards_hold-clause-serves
+row_taken-returns-in-Ok-true-guards_hold-clause-serves t c = c.in-Ok-true-guards_hold.ensures.serves
+
+pub row_taken-returns-in-Ok-true-guards_hold-clause-columns : goal.row_taken-returns-in-Ok-true-guards_hold-clause-columns
+row_taken-returns-in-Ok-true-guards_hold-clause-columns t c = columns_within c.captures_of_row.new.self.pool c.guards_hold.new.self.pool c.captures_of_row.new.columns.items c.in-Ok-true-guards_hold.ensures.keeps c.in-Ok-true.ensures.columns
+
+pub row_taken-returns-in-Err-guards_hold-clause-keeps : goal.row_taken-returns-in-Err-guards_hold-clause-keeps
+row_taken-returns-in-Err-guards_hold-clause-keeps t c = extends_more c.args.self.now.pool c.captures_of_row.new.self.pool c.guards_hold.new.self.pool c.in-Ok-true.ensures.keeps c.in-Err-guards_hold.ensures.keeps
+
+pub row_taken-returns-in-Err-guards_hold-clause-serves : goal.row_taken-returns-in-Err-guards_hold-clause-serves
+row_taken-returns-in-Err-guards_hold-clause-serves t c = c.in-Err-guards_hold.ensures.serves
+
+pub select-returns-clause-keeps : goal.select-returns-clause-keeps
+select-returns-clause-keeps t c = c.loop-tried.invariant.keeps
+
+pub select-returns-clause-serves : goal.select-returns-clause-serves
+select-returns-clause-serves t c = c.loop-tried.invariant.serves
+
+pub select-returns-in-Some-clause-keeps : goal.select-returns-in-Some-clause-keeps
+select-returns-in-Some-clause-keeps t c = c.loop-tried.invariant.keeps
+
+pub select-returns-in-Some-clause-serves : goal.select-returns-in-Some-clause-serves
+select-returns-in-Some-clause-serves t c = c.loop-tried.invariant.serves
+
+pub select-returns-in_err-gap-in-Some-clause-keeps : goal.select-returns-in_err-gap-in-Some-clause-keeps
+select-returns-in_err-gap-in-Some-clause-keeps t c = c.loop-tried.invariant.keeps
+
+pub select-returns-in_err-gap-in-Some-clause-serves : goal.select-returns-in_err-gap-in-Some-clause-serves
+select-returns-in_err-gap-in-Some-clause-serves t c = c.loop-tried.invariant.serves
+
+pub select-returns-then-at-len-clause-keeps : goal.select-returns-then-at-len-clause-keeps
+select-returns-then-at-len-clause-keeps t c = c.loop-tried.invariant.keeps
+
+pub select-returns-then-at-len-clause-serves : goal.select-returns-then-at-len-clause-serves
+select-returns-then-at-len-clause-serves t c = c.loop-tried.invariant.serves
+
+pub select-returns-in-Ok-Some-clause-keeps : goal.select-returns-in-Ok-Some-clause-keeps
+select-returns-in-Ok-Some-clause-keeps t c = extends_more c.args.self.now.pool c.loop-tried.self.pool c.row_taken.new.self.pool c.loop-tried.invariant.keeps c.in-Ok-Some.ensures.keeps
+
+pub select-returns-in-Ok-Some-clause-serves : goal.select-returns-in-Ok-Some-clause-serves
+select-returns-in-Ok-Some-clause-serves t c = c.in-Ok-Some.ensures.serves
+
+pub select-returns-in-Err-clause-keeps : goal.select-returns-in-Err-clause-keeps
+select-returns-in-Err-clause-keeps t c = extends_more c.args.self.now.pool c.loop-tried.self.pool c.row_taken.new.self.pool c.loop-tried.invariant.keeps c.in-Err.ensures.keeps
+
+pub select-returns-in-Err-clause-serves : goal.select-returns-in-Err-clause-serves
+select-returns-in-Err-clause-serves t c = c.in-Err.ensures.serves
+
+pub turn-returns-in-Selection-clause-keeps : goal.turn-returns-in-Selection-clause-keeps
+turn-returns-in-Selection-clause-keeps t c = c.turn_matrix.ensures.keeps
+
+pub turn-returns-in-Selection-clause-serves : goal.turn-returns-in-Selection-clause-serves
+turn-returns-in-Selection-clause-serves t c = c.turn_matrix.ensures.serves
+
+pub turn-returns-in_ok-head-in-Whole-clause-keeps : goal.turn-returns-in_ok-head-in-Whole-clause-keeps
+turn-returns-in_ok-head-in-Whole-clause-keeps t c = c.turn_head.ensures.keeps
+
+pub turn-returns-in_ok-head-in-Whole-clause-serves : goal.turn-returns-in_ok-head-in-Whole-clause-serves
+turn-returns-in_ok-head-in-Whole-clause-serves t c = c.turn_head.ensures.serves
+
+pub turn-returns-in_err-head-in-Whole-clause-keeps : goal.turn-returns-in_err-head-in-Whole-clause-keeps
+turn-returns-in_err-head-in-Whole-clause-keeps t c = extends_none c.args.self.now.pool
+
+pub turn-returns-in_err-head-in-Whole-clause-serves : goal.turn-returns-in_err-head-in-Whole-clause-serves
+turn-returns-in_err-head-in-Whole-clause-serves t c = c.requires.serves
+
+pub turn_matrix-returns-in_err-captures-clause-keeps : goal.turn_matrix-returns-in_err-captures-clause-keeps
+turn_matrix-returns-in_err-captures-clause-keeps t c = c.in_err-captures.ensures.keeps
+
+pub turn_matrix-returns-in_err-captures-clause-serves : goal.turn_matrix-returns-in_err-captures-clause-serves
+turn_matrix-returns-in_err-captures-clause-serves t c = c.in_err-captures.ensures.serves
+
+pub turn_matrix-returns-in_ok-next-in-Taken-clause-keeps : goal.turn_matrix-returns-in_ok-next-in-Taken-clause-keeps
+turn_matrix-returns-in_ok-next-in-Taken-clause-keeps t c = extends_more c.args.self.now.pool c.select.new.self.pool c.put_right.new.self.pool c.in_ok-captures.ensures.keeps c.in_ok-next-in-Taken.ensures.keeps
+
+pub turn_matrix-returns-in_ok-next-in-Taken-clause-serves : goal.turn_matrix-returns-in_ok-next-in-Taken-clause-serves
+turn_matrix-returns-in_ok-next-in-Taken-clause-serves t c = c.in_ok-next-in-Taken.ensures.serves
+
+pub turn_matrix-returns-in_err-next-in-Taken-clause-keeps : goal.turn_matrix-returns-in_err-next-in-Taken-clause-keeps
+turn_matrix-returns-in_err-next-in-Taken-clause-keeps t c = extends_more c.args.self.now.pool c.select.new.self.pool c.put_right.new.self.pool c.in_ok-captures.ensures.keeps c.in_err-next-in-Taken.ensures.keeps
+
+pub turn_matrix-returns-in_err-next-in-Taken-clause-serves : goal.turn_matrix-returns-in_err-next-in-Taken-clause-serves
+turn_matrix-returns-in_err-next-in-Taken-clause-serves t c = c.in_err-next-in-Taken.ensures.serves
+
+pub turn_matrix-returns-in_ok-next-in-Taken-clause-stack : goal.turn_matrix-returns-in_ok-next-in-Taken-clause-stack
+turn_matrix-returns-in_ok-next-in-Taken-clause-stack t c = c.in_ok-next-in-Taken.ensures.stack
+
+pub turn_matrix-returns-in_ok-head-in-Nothing-clause-keeps : goal.turn_matrix-returns-in_ok-head-in-Nothing-clause-keeps
+turn_matrix-returns-in_ok-head-in-Nothing-clause-keeps t c = extends_more c.args.self.now.pool c.select.new.self.pool c.intern.new.self c.in_ok-captures.ensures.keeps c.in_ok-head-in-Nothing.ensures.keeps
+
+pub turn_matrix-returns-in_ok-head-in-Nothing-clause-serves : goal.turn_matrix-returns-in_ok-head-in-Nothing-clause-serves
+turn_matrix-returns-in_ok-head-in-Nothing-clause-serves t c = serves_grown (entries_of c.args.version.now) c.select.new.self c.intern.new.self c.select.new.self.nested c.in_ok-head-in-Nothing.ensures.keeps c.in_ok-captures.ensures.serves
+
+pub turn_matrix-returns-in_err-head-in-Nothing-clause-keeps : goal.turn_matrix-returns-in_err-head-in-Nothing-clause-keeps
+turn_matrix-returns-in_err-head-in-Nothing-clause-keeps t c = extends_more c.args.self.now.pool c.select.new.self.pool c.intern.new.self c.in_ok-captures.ensures.keeps c.in_err-head-in-Nothing.ensures.keeps
+
+pub turn_matrix-returns-in_err-head-in-Nothing-clause-serves : goal.turn_matrix-returns-in_err-head-in-Nothing-clause-serves
+turn_matrix-returns-in_err-head-in-Nothing-clause-serves t c = serves_grown (entries_of c.args.version.now) c.select.new.self c.intern.new.self c.select.new.self.nested c.in_err-head-in-Nothing.ensures.keeps c.in_ok-captures.ensures.serves
+
+pub turn_matrix-returns-in-Asks-clause-keeps : goal.turn_matrix-returns-in-Asks-clause-keeps
+turn_matrix-returns-in-Asks-clause-keeps t c = c.in_ok-captures.ensures.keeps
+
+pub turn_matrix-returns-in-Asks-clause-serves : goal.turn_matrix-returns-in-Asks-clause-serves
+turn_matrix-returns-in-Asks-clause-serves t c = c.in_ok-captures.ensures.serves
+
+pub compare-returns-clause-keeps : goal.compare-returns-clause-keeps
+compare-returns-clause-keeps t c = c.loop-step.invariant.keeps
+
+pub compare-returns-clause-serves : goal.compare-returns-clause-serves
+compare-returns-clause-serves t c = c.loop-step.invariant.serves
+
+pub compare-returns-in_err-alike-clause-keeps : goal.compare-returns-in_err-alike-clause-keeps
+compare-returns-in_err-alike-clause-keeps t c = c.in_err-alike.ensures.keeps
+
+pub compare-returns-in_err-alike-clause-serves : goal.compare-returns-in_err-alike-clause-serves
+compare-returns-in_err-alike-clause-serves t c = c.in_err-alike.ensures.serves
+
+pub compare-returns-in_err-alike-in-Pair-clause-keeps : goal.compare-returns-in_err-alike-in-Pair-clause-keeps
+compare-returns-in_err-alike-in-Pair-clause-keeps t c = extends_more c.args.self.now.pool c.loop-step.self.pool c.compare_pair-then-alike.new.self.pool c.loop-step.invariant.keeps c.in_err-alike-in-Pair.ensures.keeps
+
+pub compare-returns-in_err-alike-in-Pair-clause-serves : goal.compare-returns-in_err-alike-in-Pair-clause-serves
+compare-returns-in_err-alike-in-Pair-clause-serves t c = c.in_err-alike-in-Pair.ensures.serves
+
+pub compare_pair-returns-then-left-eq0-clause-keeps : goal.compare_pair-returns-then-left-eq0-clause-keeps
+compare_pair-returns-then-left-eq0-clause-keeps t c = extends_none c.args.self.now.pool
+
+pub compare_pair-returns-then-left-eq0-clause-serves : goal.compare_pair-returns-then-left-eq0-clause-serves
+compare_pair-returns-then-left-eq0-clause-serves t c = c.requires.serves
+
+pub compare_pair-returns-then-same-clause-keeps : goal.compare_pair-returns-then-same-clause-keeps
+compare_pair-returns-then-same-clause-keeps t c = extends_none c.args.self.now.pool
+
+pub compare_pair-returns-then-same-clause-serves : goal.compare_pair-returns-then-same-clause-serves
+compare_pair-returns-then-same-clause-serves t c = c.requires.serves
+
+pub compare_pair-returns-then-left-found-clause-keeps : goal.compare_pair-returns-then-left-found-clause-keeps
+compare_pair-returns-then-left-found-clause-keeps t c = extends_none c.args.self.now.pool
+
+pub compare_pair-returns-then-left-found-clause-serves : goal.compare_pair-returns-then-left-found-clause-serves
+compare_pair-returns-then-left-found-clause-serves t c = c.requires.serves
+
+pub compare_pair-returns-in-Some-clause-keeps : goal.compare_pair-returns-in-Some-clause-keeps
+compare_pair-returns-in-Some-clause-keeps t c = extends_none c.args.self.now.pool
+
+pub compare_pair-returns-in-Some-clause-serves : goal.compare_pair-returns-in-Some-clause-serves
+compare_pair-returns-in-Some-clause-serves t c = c.requires.serves
+
+pub compare_pair-returns-in_err-x-clause-keeps : goal.compare_pair-returns-in_err-x-clause-keeps
+compare_pair-returns-in_err-x-clause-keeps t c = c.in_err-x.ensures.keeps
+
+pub compare_pair-returns-in_err-x-clause-serves : goal.compare_pair-returns-in_err-x-clause-serves
+compare_pair-returns-in_err-x-clause-serves t c = c.in_err-x.ensures.serves
+
+pub compare_pair-returns-in_err-y-clause-keeps : goal.compare_pair-returns-in_err-y-clause-keeps
+compare_pair-returns-in_err-y-clause-keeps t c = extends_more c.args.self.now.pool c.evaluate.new.self.pool c.evaluate-2.new.self.pool c.in_ok-x.ensures.keeps c.in_err-y.ensures.keeps
+
+pub compare_pair-returns-in_err-y-clause-serves : goal.compare_pair-returns-in_err-y-clause-serves
+compare_pair-returns-in_err-y-clause-serves t c = c.in_err-y.ensures.serves
+
+pub compare_pair-returns-clause-keeps : goal.compare_pair-returns-clause-keeps
+compare_pair-returns-clause-keeps t c = extends_more c.args.self.now.pool c.evaluate.new.self.pool c.evaluate-2.new.self.pool c.in_ok-x.ensures.keeps c.in_ok-y.ensures.keeps
+
+pub compare_pair-returns-clause-serves : goal.compare_pair-returns-clause-serves
+compare_pair-returns-clause-serves t c = c.in_ok-y.ensures.serves
+
+pub compare_pair-returns-in_err-push_step-clause-keeps : goal.compare_pair-returns-in_err-push_step-clause-keeps
+compare_pair-returns-in_err-push_step-clause-keeps t c = extends_more c.args.self.now.pool c.evaluate.new.self.pool c.evaluate-2.new.self.pool c.in_ok-x.ensures.keeps c.in_ok-y.ensures.keeps
+
+pub compare_pair-returns-in_err-push_step-clause-serves : goal.compare_pair-returns-in_err-push_step-clause-serves
+compare_pair-returns-in_err-push_step-clause-serves t c = c.in_ok-y.ensures.serves
+
+pub compare_pair-returns-in_err-alike-clause-keeps : goal.compare_pair-returns-in_err-alike-clause-keeps
+compare_pair-returns-in_err-alike-clause-keeps t c = extends_more c.args.self.now.pool c.evaluate.new.self.pool c.evaluate-2.new.self.pool c.in_ok-x.ensures.keeps c.in_ok-y.ensures.keeps
+
+pub compare_pair-returns-in_err-alike-clause-serves : goal.compare_pair-returns-in_err-alike-clause-serves
+compare_pair-returns-in_err-alike-clause-serves t c = c.in_ok-y.ensures.serves
+
+pub descend-returns-then-left-eq0-clause-keeps : goal.descend-returns-then-left-eq0-clause-keeps
+descend-returns-then-left-eq0-clause-keeps t c = c.loop-left.invariant.keeps
+
+pub descend-returns-then-left-eq0-clause-serves : goal.descend-returns-then-left-eq0-clause-serves
+descend-returns-then-left-eq0-clause-serves t c = c.loop-left.invariant.serves
+
+pub descend-returns-then-left-found-clause-keeps : goal.descend-returns-then-left-found-clause-keeps
+descend-returns-then-left-found-clause-keeps t c = c.loop-left.invariant.keeps
+
+pub descend-returns-then-left-found-clause-serves : goal.descend-returns-then-left-found-clause-serves
+descend-returns-then-left-found-clause-serves t c = c.loop-left.invariant.serves
+
+pub descend-returns-in-Some-clause-keeps : goal.descend-returns-in-Some-clause-keeps
+descend-returns-in-Some-clause-keeps t c = c.loop-left.invariant.keeps
+
+pub descend-returns-in-Some-clause-serves : goal.descend-returns-in-Some-clause-serves
+descend-returns-in-Some-clause-serves t c = c.loop-left.invariant.serves
+
+pub descend-returns-in_err-value-clause-keeps : goal.descend-returns-in_err-value-clause-keeps
+descend-returns-in_err-value-clause-keeps t c = extends_more c.args.self.now.pool c.loop-left.self.pool c.evaluate.new.self.pool c.loop-left.invariant.keeps c.in_err-value.ensures.keeps
+
+pub descend-returns-in_err-value-clause-serves : goal.descend-returns-in_err-value-clause-serves
+descend-returns-in_err-value-clause-serves t c = c.in_err-value.ensures.serves
+
+pub descend-returns-in_err-push_frame-clause-keeps : goal.descend-returns-in_err-push_frame-clause-keeps
+descend-returns-in_err-push_frame-clause-keeps t c = extends_more c.args.self.now.pool c.loop-left.self.pool c.evaluate.new.self.pool c.loop-left.invariant.keeps c.in_ok-value.ensures.keeps
+
+pub descend-returns-in_err-push_frame-clause-serves : goal.descend-returns-in_err-push_frame-clause-serves
+descend-returns-in_err-push_frame-clause-serves t c = c.in_ok-value.ensures.serves
+
+pub descend-returns-in_err-next-clause-keeps : goal.descend-returns-in_err-next-clause-keeps
+descend-returns-in_err-next-clause-keeps t c = extends_more c.args.self.now.pool c.loop-left.self.pool c.evaluate.new.self.pool c.loop-left.invariant.keeps c.in_ok-value.ensures.keeps
+
+pub descend-returns-in_err-next-clause-serves : goal.descend-returns-in_err-next-clause-serves
+descend-returns-in_err-next-clause-serves t c = c.in_ok-value.ensures.serves
+
+pub descend-returns-in-Head-clause-keeps : goal.descend-returns-in-Head-clause-keeps
+descend-returns-in-Head-clause-keeps t c = extends_more c.args.self.now.pool c.loop-left.self.pool c.evaluate.new.self.pool c.loop-left.invariant.keeps c.in_ok-value.ensures.keeps
+
+pub descend-returns-in-Head-clause-serves : goal.descend-returns-in-Head-clause-serves
+descend-returns-in-Head-clause-serves t c = c.in_ok-value.ensures.serves
+
+pub evaluate-returns-then-left-found-clause-keeps : goal.evaluate-returns-then-left-found-clause-keeps
+evaluate-returns-then-left-found-clause-keeps t c = extends_none c.args.self.now.pool
+
+pub evaluate-returns-then-left-found-clause-serves : goal.evaluate-returns-then-left-found-clause-serves
+evaluate-returns-then-left-found-clause-serves t c = c.requires.serves
+
+pub evaluate-returns-in-Some-clause-keeps : goal.evaluate-returns-in-Some-clause-keeps
+evaluate-returns-in-Some-clause-keeps t c = extends_none c.args.self.now.pool
+
+pub evaluate-returns-in-Some-clause-serves : goal.evaluate-returns-in-Some-clause-serves
+evaluate-returns-in-Some-clause-serves t c = c.requires.serves
+
+pub evaluate-returns-in_err-id-clause-keeps : goal.evaluate-returns-in_err-id-clause-keeps
+evaluate-returns-in_err-id-clause-keeps t c = c.in_err-id.ensures.keeps
+
+pub evaluate-returns-in_err-id-clause-serves : goal.evaluate-returns-in_err-id-clause-serves
+evaluate-returns-in_err-id-clause-serves t c = c.in_err-id.ensures.serves
+
+pub evaluate-returns-clause-keeps : goal.evaluate-returns-clause-keeps
+evaluate-returns-clause-keeps t c = c.in_ok-id.ensures.keeps
+
+pub evaluated-returns-in_err-term-clause-keeps : goal.evaluated-returns-in_err-term-clause-keeps
+evaluated-returns-in_err-term-clause-keeps t c = extends_more c.args.self.now.pool c.loop-stack.self.pool c.turn.new.self.pool c.loop-stack.invariant.keeps c.in_err-term.ensures.keeps
+
+pub evaluated-returns-in_err-term-clause-serves : goal.evaluated-returns-in_err-term-clause-serves
+evaluated-returns-in_err-term-clause-serves t c = c.in_err-term.ensures.serves
+
+pub evaluated-returns-in_err-push_pause-in-Asks-clause-keeps : goal.evaluated-returns-in_err-push_pause-in-Asks-clause-keeps
+evaluated-returns-in_err-push_pause-in-Asks-clause-keeps t c = extends_more c.args.self.now.pool c.loop-stack.self.pool c.turn.new.self.pool c.loop-stack.invariant.keeps c.in_ok-term.ensures.keeps
+
+pub evaluated-returns-in_err-push_pause-in-Asks-clause-serves : goal.evaluated-returns-in_err-push_pause-in-Asks-clause-serves
+evaluated-returns-in_err-push_pause-in-Asks-clause-serves t c = c.in_ok-term.ensures.serves
+
+pub evaluated-returns-in-None-clause-keeps : goal.evaluated-returns-in-None-clause-keeps
+evaluated-returns-in-None-clause-keeps t c = extends_more c.args.self.now.pool c.turn.new.self.pool c.wind.new.pool (extends_more c.args.self.now.pool c.loop-stack.self.pool c.turn.new.self.pool c.loop-stack.invariant.keeps c.in_ok-term.ensures.keeps) c.in_ok-value-in-Stands.ensures.keeps
+
+pub evaluated-returns-in-None-clause-serves : goal.evaluated-returns-in-None-clause-serves
+evaluated-returns-in-None-clause-serves t c = serves_grown (entries_of c.args.version.now) c.turn.new.self c.wind.new.pool c.turn.new.self.nested c.in_ok-value-in-Stands.ensures.keeps c.in_ok-term.ensures.serves
+
+pub evaluated-returns-in_err-value-in-Stands-clause-keeps : goal.evaluated-returns-in_err-value-in-Stands-clause-keeps
+evaluated-returns-in_err-value-in-Stands-clause-keeps t c = extends_more c.args.self.now.pool c.turn.new.self.pool c.wind.new.pool (extends_more c.args.self.now.pool c.loop-stack.self.pool c.turn.new.self.pool c.loop-stack.invariant.keeps c.in_ok-term.ensures.keeps) c.in_err-value-in-Stands.ensures.keeps
+
+pub evaluated-returns-in_err-value-in-Stands-clause-serves : goal.evaluated-returns-in_err-value-in-Stands-clause-serves
+evaluated-returns-in_err-value-in-Stands-clause-serves t c = serves_grown (entries_of c.args.version.now) c.turn.new.self c.wind.new.pool c.turn.new.self.nested c.in_err-value-in-Stands.ensures.keeps c.in_ok-term.ensures.serves
+
+pub evaluated-returns-in_err-closed-in-Some-clause-keeps : goal.evaluated-returns-in_err-closed-in-Some-clause-keeps
+evaluated-returns-in_err-closed-in-Some-clause-keeps t c = extends_more c.args.self.now.pool c.turn.new.self.pool c.wind.new.pool (extends_more c.args.self.now.pool c.loop-stack.self.pool c.turn.new.self.pool c.loop-stack.invariant.keeps c.in_ok-term.ensures.keeps) c.in_ok-value-in-Stands.ensures.keeps
+
+pub normalise-returns-clause-keeps : goal.normalise-returns-clause-keeps
+normalise-returns-clause-keeps t c = c.loop-frame.invariant.keeps
+
+pub normalise-returns-clause-serves : goal.normalise-returns-clause-serves
+normalise-returns-clause-serves t c = c.loop-frame.invariant.serves
+
+pub normalise-returns-in_err-value-clause-keeps : goal.normalise-returns-in_err-value-clause-keeps
+normalise-returns-in_err-value-clause-keeps t c = c.in_err-value.ensures.keeps
+
+pub normalise-returns-in_err-value-clause-serves : goal.normalise-returns-in_err-value-clause-serves
+normalise-returns-in_err-value-clause-serves t c = c.in_err-value.ensures.serves
+
+pub normalise-returns-in_err-value-2-clause-keeps : goal.normalise-returns-in_err-value-2-clause-keeps
+normalise-returns-in_err-value-2-clause-keeps t c = extends_more c.args.self.now.pool c.loop-frame.self.pool c.resume.new.self.pool c.loop-frame.invariant.keeps c.in_err-value-2.ensures.keeps
+
+pub normalise-returns-in_err-value-2-clause-serves : goal.normalise-returns-in_err-value-2-clause-serves
+normalise-returns-in_err-value-2-clause-serves t c = c.in_err-value-2.ensures.serves
+
+pub resume-returns-in-Conclude-clause-keeps : goal.resume-returns-in-Conclude-clause-keeps
+resume-returns-in-Conclude-clause-keeps t c = extends_none c.args.self.now.pool
+
+pub resume-returns-in_err-push_frame-in-Argument-clause-keeps : goal.resume-returns-in_err-push_frame-in-Argument-clause-keeps
+resume-returns-in_err-push_frame-in-Argument-clause-keeps t c = extends_none c.args.self.now.pool
+
+pub resume-returns-in_err-push_frame-in-Argument-clause-serves : goal.resume-returns-in_err-push_frame-in-Argument-clause-serves
+resume-returns-in_err-push_frame-in-Argument-clause-serves t c = c.requires.serves
+
+pub resume-returns-in_ok-push_frame-in-Argument-clause-keeps : goal.resume-returns-in_ok-push_frame-in-Argument-clause-keeps
+resume-returns-in_ok-push_frame-in-Argument-clause-keeps t c = c.descend.ensures.keeps
+
+pub resume-returns-in_ok-push_frame-in-Argument-clause-serves : goal.resume-returns-in_ok-push_frame-in-Argument-clause-serves
+resume-returns-in_ok-push_frame-in-Argument-clause-serves t c = c.descend.ensures.serves
+
+pub resume-returns-in_err-push_frame-in-Annotation-clause-keeps : goal.resume-returns-in_err-push_frame-in-Annotation-clause-keeps
+resume-returns-in_err-push_frame-in-Annotation-clause-keeps t c = extends_none c.args.self.now.pool
+
+pub resume-returns-in_err-push_frame-in-Annotation-clause-serves : goal.resume-returns-in_err-push_frame-in-Annotation-clause-serves
+resume-returns-in_err-push_frame-in-Annotation-clause-serves t c = c.requires.serves
+
+pub resume-returns-in_ok-push_frame-in-Annotation-clause-keeps : goal.resume-returns-in_ok-push_frame-in-Annotation-clause-keeps
+resume-returns-in_ok-push_frame-in-Annotation-clause-keeps t c = c.descend-in-Annotation.ensures.keeps
+
+pub resume-returns-in_ok-push_frame-in-Annotation-clause-serves : goal.resume-returns-in_ok-push_frame-in-Annotation-clause-serves
+resume-returns-in_ok-push_frame-in-Annotation-clause-serves t c = c.descend-in-Annotation.ensures.serves
+
+pub resume-returns-in_err-push_frame-in-Domain-clause-keeps : goal.resume-returns-in_err-push_frame-in-Domain-clause-keeps
+resume-returns-in_err-push_frame-in-Domain-clause-keeps t c = extends_none c.args.self.now.pool
+
+pub resume-returns-in_err-push_frame-in-Domain-clause-serves : goal.resume-returns-in_err-push_frame-in-Domain-clause-serves
+resume-returns-in_err-push_frame-in-Domain-clause-serves t c = c.requires.serves
+
+pub resume-returns-in_ok-push_frame-in-Domain-clause-keeps : goal.resume-returns-in_ok-push_frame-in-Domain-clause-keeps
+resume-returns-in_ok-push_frame-in-Domain-clause-keeps t c = c.descend-in-Domain.ensures.keeps
+
+pub resume-returns-in_ok-push_frame-in-Domain-clause-serves : goal.resume-returns-in_ok-push_frame-in-Domain-clause-serves
+resume-returns-in_ok-push_frame-in-Domain-clause-serves t c = c.descend-in-Domain.ensures.serves
+
+pub resume-returns-in_err-intern-in-Function-clause-keeps : goal.resume-returns-in_err-intern-in-Function-clause-keeps
+resume-returns-in_err-intern-in-Function-clause-keeps t c = c.in_err-intern-in-Function.ensures.keeps
+
+pub resume-returns-in_err-intern-in-Function-clause-serves : goal.resume-returns-in_err-intern-in-Function-clause-serves
+resume-returns-in_err-intern-in-Function-clause-serves t c = serves_grown (entries_of c.args.version.now) c.args.self.now c.intern.new.self c.args.self.now.nested c.in_err-intern-in-Function.ensures.keeps c.requires.serves
+
+pub resume-returns-in_ok-intern-in-Function-clause-keeps : goal.resume-returns-in_ok-intern-in-Function-clause-keeps
+resume-returns-in_ok-intern-in-Function-clause-keeps t c = c.in_ok-intern-in-Function.ensures.keeps
+
+pub resume-returns-in_ok-intern-in-Function-clause-serves : goal.resume-returns-in_ok-intern-in-Function-clause-serves
+resume-returns-in_ok-intern-in-Function-clause-serves t c = serves_grown (entries_of c.args.version.now) c.args.self.now c.intern.new.self c.args.self.now.nested c.in_ok-intern-in-Function.ensures.keeps c.requires.serves
+
+pub resume-returns-in_err-intern-in-Body-clause-keeps : goal.resume-returns-in_err-intern-in-Body-clause-keeps
+resume-returns-in_err-intern-in-Body-clause-keeps t c = c.in_err-intern-in-Body.ensures.keeps
+
+pub resume-returns-in_err-intern-in-Body-clause-serves : goal.resume-returns-in_err-intern-in-Body-clause-serves
+resume-returns-in_err-intern-in-Body-clause-serves t c = serves_grown (entries_of c.args.version.now) c.args.self.now c.intern-in-Body.new.self c.args.self.now.nested c.in_err-intern-in-Body.ensures.keeps c.requires.serves
+
+pub resume-returns-in_ok-intern-in-Body-clause-keeps : goal.resume-returns-in_ok-intern-in-Body-clause-keeps
+resume-returns-in_ok-intern-in-Body-clause-keeps t c = c.in_ok-intern-in-Body.ensures.keeps
+
+pub resume-returns-in_ok-intern-in-Body-clause-serves : goal.resume-returns-in_ok-intern-in-Body-clause-serves
+resume-returns-in_ok-intern-in-Body-clause-serves t c = serves_grown (entries_of c.args.version.now) c.args.self.now c.intern-in-Body.new.self c.args.self.now.nested c.in_ok-intern-in-Body.ensures.keeps c.requires.serves
+
+pub resume-returns-in_err-intern-in-Annotated-clause-keeps : goal.resume-returns-in_err-intern-in-Annotated-clause-keeps
+resume-returns-in_err-intern-in-Annotated-clause-keeps t c = c.in_err-intern-in-Annotated.ensures.keeps
+
+pub resume-returns-in_err-intern-in-Annotated-clause-serves : goal.resume-returns-in_err-intern-in-Annotated-clause-serves
+resume-returns-in_err-intern-in-Annotated-clause-serves t c = serves_grown (entries_of c.args.version.now) c.args.self.now c.intern-in-Annotated.new.self c.args.self.now.nested c.in_err-intern-in-Annotated.ensures.keeps c.requires.serves
+
+pub resume-returns-in_ok-intern-in-Annotated-clause-keeps : goal.resume-returns-in_ok-intern-in-Annotated-clause-keeps
+resume-returns-in_ok-intern-in-Annotated-clause-keeps t c = c.in_ok-intern-in-Annotated.ensures.keeps
+
+pub resume-returns-in_ok-intern-in-Annotated-clause-serves : goal.resume-returns-in_ok-intern-in-Annotated-clause-serves
+resume-returns-in_ok-intern-in-Annotated-clause-serves t c = serves_grown (entries_of c.args.version.now) c.args.self.now c.intern-in-Annotated.new.self c.args.self.now.nested c.in_ok-intern-in-Annotated.ensures.keeps c.requires.serves
+
+pub resume-returns-in_err-intern-in-Codomain-clause-keeps : goal.resume-returns-in_err-intern-in-Codomain-clause-keeps
+resume-returns-in_err-intern-in-Codomain-clause-keeps t c = c.in_err-intern-in-Codomain.ensures.keeps
+
+pub resume-returns-in_err-intern-in-Codomain-clause-serves : goal.resume-returns-in_err-intern-in-Codomain-clause-serves
+resume-returns-in_err-intern-in-Codomain-clause-serves t c = serves_grown (entries_of c.args.version.now) c.args.self.now c.intern-in-Codomain.new.self c.args.self.now.nested c.in_err-intern-in-Codomain.ensures.keeps c.requires.serves
+
+pub resume-returns-in_ok-intern-in-Codomain-clause-keeps : goal.resume-returns-in_ok-intern-in-Codomain-clause-keeps
+resume-returns-in_ok-intern-in-Codomain-clause-keeps t c = c.in_ok-intern-in-Codomain.ensures.keeps
+
+pub resume-returns-in_ok-intern-in-Codomain-clause-serves : goal.resume-returns-in_ok-intern-in-Codomain-clause-serves
+resume-returns-in_ok-intern-in-Codomain-clause-serves t c = serves_grown (entries_of c.args.version.now) c.args.self.now c.intern-in-Codomain.new.self c.args.self.now.nested c.in_ok-intern-in-Codomain.ensures.keeps c.requires.serves
