@@ -271,3 +271,149 @@ walk_spine-loop-argument-preserved g t c =
       serves = c.in_ok-walked.ensures.serves;
       smaller = others_smaller p c.loop-argument.rest.now c.in-Some.others.now (patterns_size (plain_patterns c.args.arguments.now)) c.in-Some.ensures.cases.0 i.smaller;
     }
+
+-- what each end keeps
+
+pub walk-returns-in_ok-head-in-Sym-clause-keeps : goal.walk-returns-in_ok-head-in-Sym-clause-keeps
+walk-returns-in_ok-head-in-Sym-clause-keeps g t c = keeps_further c.args.r.now c.symbol_head.new.r c.walk_headed.new.r c.in_ok-head-in-Sym.ensures.keeps c.walk_headed.ensures.keeps
+
+pub walk-returns-in_ok-head-in-Sym-clause-serves : goal.walk-returns-in_ok-head-in-Sym-clause-serves
+walk-returns-in_ok-head-in-Sym-clause-serves g t c = c.walk_headed.ensures.serves
+
+pub walk-returns-in_ok-head-in-Sym-clause-kept : goal.walk-returns-in_ok-head-in-Sym-clause-kept
+walk-returns-in_ok-head-in-Sym-clause-kept g t c = c.walk_headed.ensures.kept
+
+pub walk-returns-in_err-head-in-Sym-clause-keeps : goal.walk-returns-in_err-head-in-Sym-clause-keeps
+walk-returns-in_err-head-in-Sym-clause-keeps g t c = c.in_err-head-in-Sym.ensures.keeps
+
+pub walk-returns-in_err-head-in-Sym-clause-serves : goal.walk-returns-in_err-head-in-Sym-clause-serves
+walk-returns-in_err-head-in-Sym-clause-serves g t c = c.in_err-head-in-Sym.ensures.serves (entries_of c.args.v.now) c.requires.serves
+
+pub walk-returns-in_ok-head-in-Var-clause-keeps : goal.walk-returns-in_ok-head-in-Var-clause-keeps
+walk-returns-in_ok-head-in-Var-clause-keeps g t c = keeps_further c.args.r.now c.variable_head.new.r c.walk_headed-in-Var.new.r c.in_ok-head-in-Var.ensures.keeps c.walk_headed-in-Var.ensures.keeps
+
+pub walk-returns-in_ok-head-in-Var-clause-serves : goal.walk-returns-in_ok-head-in-Var-clause-serves
+walk-returns-in_ok-head-in-Var-clause-serves g t c = c.walk_headed-in-Var.ensures.serves
+
+pub walk-returns-in_ok-head-in-Var-clause-kept : goal.walk-returns-in_ok-head-in-Var-clause-kept
+walk-returns-in_ok-head-in-Var-clause-kept g t c = c.walk_headed-in-Var.ensures.kept
+
+pub walk-returns-in_err-head-in-Var-clause-keeps : goal.walk-returns-in_err-head-in-Var-clause-keeps
+walk-returns-in_err-head-in-Var-clause-keeps g t c = c.in_err-head-in-Var.ensures.keeps
+
+pub walk-returns-in_err-head-in-Var-clause-serves : goal.walk-returns-in_err-head-in-Var-clause-serves
+walk-returns-in_err-head-in-Var-clause-serves g t c = c.in_err-head-in-Var.ensures.serves (entries_of c.args.v.now) c.requires.serves
+
+pub walk_abstraction-returns-in_err-bind-clause-keeps : goal.walk_abstraction-returns-in_err-bind-clause-keeps
+walk_abstraction-returns-in_err-bind-clause-keeps g t c = c.in_ok-function.ensures.keeps
+
+pub walk_abstraction-returns-in_err-bind-clause-serves : goal.walk_abstraction-returns-in_err-bind-clause-serves
+walk_abstraction-returns-in_err-bind-clause-serves g t c = c.in_ok-function.ensures.serves
+
+pub walk_abstraction-returns-in_err-bind-clause-kept : goal.walk_abstraction-returns-in_err-bind-clause-kept
+walk_abstraction-returns-in_err-bind-clause-kept g t c = c.in_err-bind.ensures.err
+
+pub walk_abstraction-returns-in_err-body-clause-keeps : goal.walk_abstraction-returns-in_err-body-clause-keeps
+walk_abstraction-returns-in_err-body-clause-keeps g t c = keeps_further c.args.r.now c.as_product.new.r c.walk-body.new.r c.in_ok-function.ensures.keeps c.in_err-body.ensures.keeps
+
+pub walk_abstraction-returns-in_err-body-clause-serves : goal.walk_abstraction-returns-in_err-body-clause-serves
+walk_abstraction-returns-in_err-body-clause-serves g t c = c.in_err-body.ensures.serves
+
+pub walk_abstraction-returns-in_err-body-clause-kept : goal.walk_abstraction-returns-in_err-body-clause-kept
+walk_abstraction-returns-in_err-body-clause-kept g t c = (c.leave-domain.ensures c.args.context.now c.in_ok-function.function.domain (c.walk-body.ensures.kept ∙ c.in_ok-bind.ensures.ok)).0
+
+pub walk_abstraction-returns-in_err-build-clause-keeps : goal.walk_abstraction-returns-in_err-build-clause-keeps
+walk_abstraction-returns-in_err-build-clause-keeps g t c = keeps_further c.args.r.now c.walk-body.new.r c.build.new.self (keeps_further c.args.r.now c.as_product.new.r c.walk-body.new.r c.in_ok-function.ensures.keeps c.in_ok-body.ensures.keeps) c.in_err-build.ensures.keeps
+
+pub walk_abstraction-returns-in_err-build-clause-serves : goal.walk_abstraction-returns-in_err-build-clause-serves
+walk_abstraction-returns-in_err-build-clause-serves g t c = c.in_err-build.ensures.serves (entries_of c.args.v.now) c.in_ok-body.ensures.serves
+
+pub walk_abstraction-returns-in_err-build-clause-kept : goal.walk_abstraction-returns-in_err-build-clause-kept
+walk_abstraction-returns-in_err-build-clause-kept g t c = (c.leave-domain.ensures c.args.context.now c.in_ok-function.function.domain (c.walk-body.ensures.kept ∙ c.in_ok-bind.ensures.ok)).0
+
+pub walk_abstraction-returns-clause-keeps : goal.walk_abstraction-returns-clause-keeps
+walk_abstraction-returns-clause-keeps g t c = keeps_further c.args.r.now c.walk-body.new.r c.build.new.self (keeps_further c.args.r.now c.as_product.new.r c.walk-body.new.r c.in_ok-function.ensures.keeps c.in_ok-body.ensures.keeps) c.in_ok-build.ensures.keeps
+
+pub walk_abstraction-returns-clause-serves : goal.walk_abstraction-returns-clause-serves
+walk_abstraction-returns-clause-serves g t c = c.in_ok-build.ensures.serves (entries_of c.args.v.now) c.in_ok-body.ensures.serves
+
+pub walk_abstraction-returns-clause-kept : goal.walk_abstraction-returns-clause-kept
+walk_abstraction-returns-clause-kept g t c = (c.leave-domain.ensures c.args.context.now c.in_ok-function.function.domain (c.walk-body.ensures.kept ∙ c.in_ok-bind.ensures.ok)).0
+
+pub walk_argument-returns-in_err-argument-clause-keeps : goal.walk_argument-returns-in_err-argument-clause-keeps
+walk_argument-returns-in_err-argument-clause-keeps g t c = keeps_further c.args.r.now c.into_product.new.r c.walk.new.r c.in_ok-function.ensures.keeps c.in_err-argument.ensures.keeps
+
+pub walk_argument-returns-in_err-argument-clause-serves : goal.walk_argument-returns-in_err-argument-clause-serves
+walk_argument-returns-in_err-argument-clause-serves g t c = c.in_err-argument.ensures.serves
+
+pub walk_argument-returns-in_err-argument-clause-kept : goal.walk_argument-returns-in_err-argument-clause-kept
+walk_argument-returns-in_err-argument-clause-kept g t c = c.in_err-argument.ensures.kept
+
+pub walk_argument-returns-in_err-apply-clause-keeps : goal.walk_argument-returns-in_err-apply-clause-keeps
+walk_argument-returns-in_err-apply-clause-keeps g t c = keeps_further c.args.r.now c.walk.new.r c.apply.new.r (keeps_further c.args.r.now c.into_product.new.r c.walk.new.r c.in_ok-function.ensures.keeps c.in_ok-argument.ensures.keeps) c.in_err-apply.ensures.keeps
+
+pub walk_argument-returns-in_err-apply-clause-serves : goal.walk_argument-returns-in_err-apply-clause-serves
+walk_argument-returns-in_err-apply-clause-serves g t c = c.in_err-apply.ensures.serves (entries_of c.args.v.now) c.in_ok-argument.ensures.serves
+
+pub walk_argument-returns-in_err-apply-clause-kept : goal.walk_argument-returns-in_err-apply-clause-kept
+walk_argument-returns-in_err-apply-clause-kept g t c = c.in_ok-argument.ensures.kept
+
+pub walk_argument-returns-clause-keeps : goal.walk_argument-returns-clause-keeps
+walk_argument-returns-clause-keeps g t c = keeps_further c.args.r.now c.walk.new.r c.apply.new.r (keeps_further c.args.r.now c.into_product.new.r c.walk.new.r c.in_ok-function.ensures.keeps c.in_ok-argument.ensures.keeps) c.in_ok-apply.ensures.keeps
+
+pub walk_argument-returns-clause-serves : goal.walk_argument-returns-clause-serves
+walk_argument-returns-clause-serves g t c = c.in_ok-apply.ensures.serves (entries_of c.args.v.now) c.in_ok-argument.ensures.serves
+
+pub walk_argument-returns-clause-kept : goal.walk_argument-returns-clause-kept
+walk_argument-returns-clause-kept g t c = c.in_ok-argument.ensures.kept
+
+pub walk_argument-apply-requires-clause-term : goal.walk_argument-apply-requires-clause-term
+walk_argument-apply-requires-clause-term g t c = c.in_ok-argument.ensures.keeps.own c.args.head.term (c.in_ok-function.ensures.keeps.own c.args.head.term c.requires.head.term)
+
+pub walk_argument-apply-requires-clause-codomain : goal.walk_argument-apply-requires-clause-codomain
+walk_argument-apply-requires-clause-codomain g t c = c.in_ok-argument.ensures.keeps.own c.in_ok-function.function.codomain c.in_ok-function.ensures.gives.2
+
+pub walk_headed-as_convertible-requires-clause-own : goal.walk_headed-as_convertible-requires-clause-own
+walk_headed-as_convertible-requires-clause-own g t c = c.in_ok-walked.ensures.gives.2
+
+pub walk_headed-as_convertible-requires-clause-other : goal.walk_headed-as_convertible-requires-clause-other
+walk_headed-as_convertible-requires-clause-other g t c = c.in_ok-walked.ensures.keeps.own c.args.expected.now c.requires.expected
+
+pub walk_headed-as_convertible-requires-clause-serves : goal.walk_headed-as_convertible-requires-clause-serves
+walk_headed-as_convertible-requires-clause-serves g t c = c.in_ok-walked.ensures.serves
+
+pub walk_headed-returns-in_err-as_convertible-clause-keeps : goal.walk_headed-returns-in_err-as_convertible-clause-keeps
+walk_headed-returns-in_err-as_convertible-clause-keeps g t c = keeps_further c.args.r.now c.walk_spine.new.r c.as_convertible.new.r c.in_ok-walked.ensures.keeps c.in_err-as_convertible.ensures.keeps
+
+pub walk_headed-returns-in_err-as_convertible-clause-serves : goal.walk_headed-returns-in_err-as_convertible-clause-serves
+walk_headed-returns-in_err-as_convertible-clause-serves g t c = c.in_err-as_convertible.ensures.serves
+
+pub walk_headed-returns-in_err-as_convertible-clause-kept : goal.walk_headed-returns-in_err-as_convertible-clause-kept
+walk_headed-returns-in_err-as_convertible-clause-kept g t c = c.in_ok-walked.ensures.kept
+
+pub walk_headed-returns-clause-keeps : goal.walk_headed-returns-clause-keeps
+walk_headed-returns-clause-keeps g t c = keeps_further c.args.r.now c.walk_spine.new.r c.as_convertible.new.r c.in_ok-walked.ensures.keeps c.in_ok-as_convertible.ensures.keeps
+
+pub walk_headed-returns-clause-serves : goal.walk_headed-returns-clause-serves
+walk_headed-returns-clause-serves g t c = c.in_ok-as_convertible.ensures.serves
+
+pub walk_headed-returns-clause-kept : goal.walk_headed-returns-clause-kept
+walk_headed-returns-clause-kept g t c = c.in_ok-walked.ensures.kept
+
+pub walk_spine-returns-clause-keeps : goal.walk_spine-returns-clause-keeps
+walk_spine-returns-clause-keeps g t c = c.loop-argument.invariant.keeps
+
+pub walk_spine-returns-clause-serves : goal.walk_spine-returns-clause-serves
+walk_spine-returns-clause-serves g t c = c.loop-argument.invariant.serves
+
+pub walk_spine-returns-clause-kept : goal.walk_spine-returns-clause-kept
+walk_spine-returns-clause-kept g t c = c.loop-argument.invariant.kept
+
+pub walk_spine-returns-in_err-walked-clause-keeps : goal.walk_spine-returns-in_err-walked-clause-keeps
+walk_spine-returns-in_err-walked-clause-keeps g t c = keeps_further c.args.r.now c.loop-argument.r c.walk_argument.new.r c.loop-argument.invariant.keeps c.in_err-walked.ensures.keeps
+
+pub walk_spine-returns-in_err-walked-clause-serves : goal.walk_spine-returns-in_err-walked-clause-serves
+walk_spine-returns-in_err-walked-clause-serves g t c = c.in_err-walked.ensures.serves
+
+pub walk_spine-returns-in_err-walked-clause-kept : goal.walk_spine-returns-in_err-walked-clause-kept
+walk_spine-returns-in_err-walked-clause-kept g t c = c.in_err-walked.ensures.kept ∙ c.loop-argument.invariant.kept
