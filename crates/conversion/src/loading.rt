@@ -9,7 +9,8 @@ use dk_model::{NoMemory, NodeOf, Term};
 use shared_term::{Pool, TermId};
 use std::alloc::Global;
 
-/// Brings a boxed term into a pool. It nests with the levels of the term, and not with the length of an application.
+/// Brings a boxed term into a pool. It nests with the levels of the term, and not with the length
+/// of a long application.
 #[tactic(auto, using(crate::proofs::Winding::extends_none, crate::proofs::Winding::extends_more, crate::proofs::References::references_pushed, crate::proofs::References::total_pushed))]
 pub(crate) fn loaded(alloc: Global, pool: &mut Pool, it: &Term) -> Result<TermId, NoMemory>
     ensures there { IfOk result (λ t. t.0 < length pool.new) }
@@ -23,7 +24,7 @@ pub(crate) fn loaded(alloc: Global, pool: &mut Pool, it: &Term) -> Result<TermId
         Term::Var(k) => pool.intern(NodeOf::Var(*k)),
         Term::Rvar(k) => pool.intern(NodeOf::Rvar(*k)),
         Term::App(f, a) => {
-            if !is_application(f) {
+            if !is_long(f) {
                 let function = loaded(alloc, pool, f)?;
                 let argument = loaded(alloc, pool, a)?;
                 return pool.intern(NodeOf::App(function, argument));
@@ -54,7 +55,22 @@ pub(crate) fn loaded(alloc: Global, pool: &mut Pool, it: &Term) -> Result<TermId
     }
 }
 
-/// A function that is none is loaded without a list of arguments.
+/// Whether it is an application to three arguments or more. A function that isn't is loaded without a list of arguments, and
+/// nests by them.
+fn is_long(it: &Term) -> bool {
+    match it {
+        Term::App(f, _) => is_applied_twice(f),
+        _ => false,
+    }
+}
+
+fn is_applied_twice(it: &Term) -> bool {
+    match it {
+        Term::App(f, _) => is_application(f),
+        _ => false,
+    }
+}
+
 fn is_application(it: &Term) -> bool {
     match it {
         Term::App(..) => true,

@@ -135,8 +135,8 @@ impl PoolReducer {
                 self.heads.put(symbol, 0, Head::Stands);
                 Ok(Turn::Stands(head))
             }
-            Some(Row::Body(_)) => {
-                let body = self.brought(version, symbol, 0)?;
+            Some(Row::Body(stored)) => {
+                let body = self.pool.load(stored)?;
                 self.heads.put(symbol, 0, Head::Unfolds(body));
                 Ok(Turn::Goes(body))
             }

@@ -10,8 +10,7 @@ use Rattle.signature_log.specs.Rows.{row_rules}
 use Rattle.signature_log.specs.Versions.{entries_of}
 use Rattle.conversion.specs.declared.state.Head.TheVariants.{Stands, Unfolds}
 use Rattle.conversion.specs.Reducers.{unfolding_rule}
-use Rattle.conversion.proofs.Serving.{heads_put}
-use Rattle.conversion.proofs.Selecting.{right_is, same_some}
+use Rattle.conversion.proofs.Serving.{heads_put, serves_grown}
 use Rattle.conversion.proofs.Turning.{symbol_stands, symbol_unfolds, symbol_matrix, matrix_within}
 use Rattle.conversion.proofs.state.PoolReducer.turn_by_rules.Goals as goal
 
@@ -22,15 +21,14 @@ returns-in-None-clause-gives c = λ n.
 
 pub returns-in_ok-body-in-Some-Body-clause-gives : goal.returns-in_ok-body-in-Some-Body-clause-gives
 returns-in_ok-body-in-Some-Body-clause-gives c = λ n.
-    let b : Tree = stored_term c.in-Some-Body.field-0-0.now in
+    let b : Tree = stored_term c.in-Some-Body.stored.now in
     let q : slice_get (rules_of (entries_of c.args.version.now) c.args.symbol) 0 ≡ Some (unfolding_rule c.args.symbol b) =
     ap (λ l. slice_get l 0) (flip c.rules_of-rules.ensures) ∙ flip (rw c.in-Some-Body.field-0-is at (c.in-Some-Body.ensures c.args.symbol)) in
-    let l = c.in_ok-body-in-Some-Body.ensures.gives in
-    let is : b ≡ term c.brought.new.self.pool c.in_ok-body-in-Some-Body.body =
-    same_some b (term c.brought.new.self.pool c.in_ok-body-in-Some-Body.body) (flip (right_is (entries_of c.args.version.now) c.args.symbol 0 (unfolding_rule c.args.symbol b) q) ∙ l.is) in (
-      symbol_unfolds (entries_of c.args.version.now) n c.args.symbol c.args.self.now.pool c.brought.new.self.pool c.args.stack.now b c.in_ok-body-in-Some-Body.body q is
-          c.in_ok-body-in-Some-Body.ensures.keeps c.requires.stack,
-      l.there,
+    let l = c.in_ok-body-in-Some-Body.ensures in
+    let d = rw c.in-Some-Body.field-0-is at l.denotes in (
+      symbol_unfolds (entries_of c.args.version.now) n c.args.symbol c.args.self.now.pool c.load.new.self c.args.stack.now b c.in_ok-body-in-Some-Body.body q (flip d)
+          l.keeps c.requires.stack,
+      l.within,
     )
 
 pub returns-in_ok-matrix_of-in-Some-Rule-clause-gives : goal.returns-in_ok-matrix_of-in-Some-Rule-clause-gives
@@ -57,17 +55,16 @@ returns-in-None-clause-serves c =
 pub returns-in_ok-body-in-Some-Body-clause-serves : goal.returns-in_ok-body-in-Some-Body-clause-serves
 returns-in_ok-body-in-Some-Body-clause-serves c =
     let S : PlainSignature = entries_of c.args.version.now in
-    let b : Tree = stored_term c.in-Some-Body.field-0-0.now in
+    let b : Tree = stored_term c.in-Some-Body.stored.now in
     let q : slice_get (rules_of S c.args.symbol) 0 ≡ Some (unfolding_rule c.args.symbol b) =
     ap (λ l. slice_get l 0) (flip c.rules_of-rules.ensures) ∙ flip (rw c.in-Some-Body.field-0-is at (c.in-Some-Body.ensures c.args.symbol)) in
-    let l = c.in_ok-body-in-Some-Body.ensures.gives in
-    let is : b ≡ term c.brought.new.self.pool c.in_ok-body-in-Some-Body.body =
-    same_some b (term c.brought.new.self.pool c.in_ok-body-in-Some-Body.body) (flip (right_is S c.args.symbol 0 (unfolding_rule c.args.symbol b) q) ∙ l.is) in
-    let s = c.in_ok-body-in-Some-Body.ensures.serves in
+    let l = c.in_ok-body-in-Some-Body.ensures in
+    let d = rw c.in-Some-Body.field-0-is at l.denotes in
+    let s = serves_grown S c.args.self.now c.load.new.self c.args.self.now.nested l.keeps c.requires.serves in
     record {
       loaded = s.loaded;
-      heads = heads_put S c.brought.new.self.pool c.brought.new.self.heads c.put-in-Some-Body.new.self c.args.symbol 0 (Unfolds c.in_ok-body-in-Some-Body.body) s.heads
-          (l.there, q ∙ ap (λ (t : Tree). Some (unfolding_rule c.args.symbol t)) is) c.put-in-Some-Body.ensures;
+      heads = heads_put S c.load.new.self c.args.self.now.heads c.put-in-Some-Body.new.self c.args.symbol 0 (Unfolds c.in_ok-body-in-Some-Body.body) s.heads
+          (l.within, q ∙ ap (λ (t : Tree). Some (unfolding_rule c.args.symbol t)) (flip d)) c.put-in-Some-Body.ensures;
       values = s.values;
       normals = s.normals;
       answers = s.answers;
