@@ -1,4 +1,5 @@
 pub mod Books
 pub mod Pieces
+pub mod Places
 pub mod Report
 pub mod Stops

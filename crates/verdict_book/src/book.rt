@@ -1,5 +1,5 @@
 //! The report of a board's book: what its jobs and its end come to.
-ghost use Rattle.std.specs.Prelude.{◌≡◌, ◌↔◌, ◌<◌, ◌^◌, true, false, length, IsNone, IsSomeAnd};
+ghost use Rattle.std.specs.Prelude.{◌≡◌, ◌↔◌, ◌<◌, ◌≤◌, ◌^◌, true, false, length, IsNone, IsSomeAnd};
 ghost use Rattle.std.specs.List.{list_any};
 ghost use Rattle.dk_io.specs.Writing.{Wrote};
 ghost use Rattle.dk_io.specs.Causes.{HasCause};
@@ -8,10 +8,12 @@ ghost use Rattle.board_core.specs.Events.{end_of, is_fault, IsFirstFault};
 ghost use Rattle.board_core.specs.Machine.{IsFinished, marks_of};
 ghost use Rattle.verdict_book.specs.Report.{FileReport, ok_lines, report_of};
 ghost use Rattle.verdict_book.specs.Books.{end_outcome, fault_of_end, fault_outcome, IsReportOf, IsWithoutFault, names_of};
+ghost use Rattle.verdict_book.specs.Places.{titled, total};
 ghost use Rattle.verdict_book.specs.Stops.{EndsByItself, IsFault, StopsAtFault};
 
 use crate::report::{put_last, put_ok};
-use crate::{Outcome, Title};
+use crate::title::Place;
+use crate::{Outcome, Titles};
 use board_core::{Book, End};
 use dk_io::{Buffer, Failed, Sink};
 use dk_model::Verdict;
@@ -73,7 +75,7 @@ fn own_outcome(count: u32, end: Option<End>) -> Outcome
 }
 
 /// How the file ends whose jobs have these titles, in order: at the book's first fault, or else as the reader ended.
-pub fn outcome_of<J>(book: &Book<J>, titles: &[Title]) -> Outcome
+pub fn outcome_of<J>(book: &Book<J>, titles: &Titles) -> Outcome
     requires finished { IsFinished (marks_of book.now.jobs) book.now.events }
     requires all { length titles.now ≡ length book.now.jobs }
     ensures value { (report : FileReport) →
@@ -82,39 +84,49 @@ pub fn outcome_of<J>(book: &Book<J>, titles: &[Title]) -> Outcome
 {
     book.history();
     match book.fault() {
-        Some((number, verdict)) => {
-            Outcome::Stopped(number, titles[number as usize - 1].line, verdict)
-        }
+        Some((number, verdict)) => Outcome::Stopped(number, titles.line(number), verdict),
         None => own_outcome(titles.len() as u32, book.end()),
     }
 }
 
-// The titles of the jobs that have an `ok` line: those before the first fault.
-fn shown_titles<'t, J>(book: &Book<J>, titles: &'t [Title]) -> &'t [Title]
-    requires { length titles.now ≡ length book.now.jobs }
-    ensures { (report : FileReport) →
-        IsReportOf titles.now book.now.events report → names_of result.now ≡ report.names }
+// The places of the jobs that have an `ok` line: those before the first fault.
+fn shown_places<'t, J>(book: &Book<J>, names: &[u8], places: &'t [Place]) -> &'t [Place]
+    requires { length places.now ≡ length book.now.jobs }
+    ensures names { (report : FileReport) →
+        IsReportOf (titled names.now places.now) book.now.events report →
+        names_of (titled names.now result.now) ≡ report.names }
+    ensures total { total result.now ≤ total places.now }
 {
+    let _text = names;
     book.history();
     match book.fault() {
         Some((number, _)) => {
-            let (shown, _) = titles.split_at(number as usize - 1);
+            let (shown, _) = places.split_at(number as usize - 1);
             shown
         }
-        None => titles,
+        None => places,
     }
 }
 
-// The `ok` lines of jobs with these titles.
-fn put_titles<K: Sink>(buffer: &mut Buffer, sink: &mut K, titles: &[Title]) -> Result<(), Failed>
-    requires { length titles.now < 2 ^ 63 }
+// The `ok` lines of jobs with these places in the text of their names.
+fn put_titles<K: Sink>(
+    buffer: &mut Buffer,
+    sink: &mut K,
+    names: &[u8],
+    places: &[Place],
+) -> Result<(), Failed>
+    requires few { length places.now < 2 ^ 63 }
+    requires within { total places.now ≤ length names.now }
     ensures put { Gathers (K.taken sink.old) buffer.old (K.taken sink.new) buffer.new
-        (ok_lines 1 (names_of titles.now)) result }
+        (ok_lines 1 (names_of (titled names.now places.now))) result }
     ensures cause { HasCause (K.faults sink.old) (K.faults sink.new) result }
 {
     let mut number = 1;
-    for title in titles {
-        match put_ok(buffer, sink, number, &title.name) {
+    let mut rest = names;
+    for place in places {
+        let (name, behind) = rest.split_at(place.length as usize);
+        rest = behind;
+        match put_ok(buffer, sink, number, name) {
             Ok(()) => number += 1,
             Err(failed) => return Err(failed),
         }
@@ -126,21 +138,23 @@ fn put_titles<K: Sink>(buffer: &mut Buffer, sink: &mut K, titles: &[Title]) -> R
 fn put_lines<K: Sink>(
     buffer: &mut Buffer,
     sink: &mut K,
-    titles: &[Title],
+    names: &[u8],
+    places: &[Place],
     outcome: Outcome,
     budget: u64,
     quiet: bool,
 ) -> Result<(), Failed>
-    requires few { length titles.now < 2 ^ 63 }
+    requires few { length places.now < 2 ^ 63 }
+    requires within { total places.now ≤ length names.now }
     requires fault { StopsAtFault outcome }
     ensures put { Gathers (K.taken sink.old) buffer.old (K.taken sink.new) buffer.new
-        (report_of (names_of titles.now) outcome budget quiet) result }
+        (report_of (names_of (titled names.now places.now)) outcome budget quiet) result }
     ensures cause { HasCause (K.faults sink.old) (K.faults sink.new) result }
 {
     if quiet {
         return put_last(buffer, sink, outcome, budget);
     }
-    match put_titles(buffer, sink, titles) {
+    match put_titles(buffer, sink, names, places) {
         Ok(()) => put_last(buffer, sink, outcome, budget),
         Err(failed) => Err(failed),
     }
@@ -153,7 +167,7 @@ fn put_lines<K: Sink>(
 /// `Failed` the sink has taken a front of the report.
 pub fn write_report<J, K: Sink>(
     book: &Book<J>,
-    titles: &[Title],
+    titles: &Titles,
     budget: u64,
     quiet: bool,
     sink: &mut K,
@@ -166,9 +180,10 @@ pub fn write_report<J, K: Sink>(
     ensures cause { HasCause (K.faults sink.old) (K.faults sink.new) result }
 {
     let outcome = outcome_of(book, titles);
-    let shown = shown_titles(book, titles);
+    let (names, places) = titles.parts();
+    let shown = shown_places(book, names, places);
     let mut buffer = Buffer::new();
-    match put_lines(&mut buffer, sink, shown, outcome, budget, quiet) {
+    match put_lines(&mut buffer, sink, names, shown, outcome, budget, quiet) {
         Ok(()) => buffer.flush(sink),
         Err(failed) => Err(failed),
     }

@@ -12,7 +12,7 @@ pub use book::{first_fault, outcome_of, write_report};
 pub use laws::{history_has_one_report, history_has_report};
 pub use outcome::Outcome;
 pub use pieces::{Piece, put_pieces};
-pub use title::Title;
+pub use title::{Title, Titles};
 
 #[cfg(test)]
 mod tests;

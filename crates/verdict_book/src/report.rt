@@ -6,14 +6,14 @@ ghost use Rattle.verdict_book.specs.Stops.{IsFault, StopsAtFault};
 
 use crate::{Outcome, Piece, put_pieces};
 use dk_io::{Buffer, Failed, Sink};
-use dk_model::{Listed, Verdict};
+use dk_model::Verdict;
 
 /// The line of an accepted command.
 pub fn put_ok<K: Sink>(
     buffer: &mut Buffer,
     sink: &mut K,
     number: u64,
-    name: &Listed<u8>,
+    name: &[u8],
 ) -> Result<(), Failed>
     ensures put { Gathers (K.taken sink.old) buffer.old (K.taken sink.new) buffer.new
         (ok_line number name.now) result }
@@ -26,7 +26,7 @@ pub fn put_ok<K: Sink>(
             Piece::Text(b"ok "),
             Piece::Number(number),
             Piece::Text(b" "),
-            Piece::Text(name.as_slice()),
+            Piece::Text(name),
             Piece::Text(b"\n"),
         ],
     )

@@ -4,7 +4,7 @@ ghost use Rattle.std.specs.List.{list_any};
 ghost use Rattle.board_core.specs.Events.{is_seal};
 ghost use Rattle.board_core.specs.Machine.{Holds, HoldsNone, IsFinished, marks_of};
 
-use crate::{Title, first_fault, outcome_of, write_report};
+use crate::{Title, Titles, first_fault, outcome_of, write_report};
 use board_core::{Book, Claimed, End, Task, finished_when_drained};
 use dk_io::MemSink;
 use dk_model::{Code, Listed, Verdict};
@@ -90,7 +90,7 @@ fn put_jobs<R: Abort>(
     rt: &R,
     alloc: Global,
     jobs: &[(&str, Verdict, bool)],
-    titles: &mut Vec<Title>,
+    titles: &mut Titles,
 ) -> Book<Verdict>
     ensures unsealed { list_any is_seal result.events ≡ false }
     ensures idle { (w : ℕ) → HoldsNone w result.events }
@@ -102,7 +102,7 @@ fn put_jobs<R: Abort>(
         put_job(rt, alloc, &mut book, *verdict, *settled);
         let name = Listed::from_slice(alloc, name.as_bytes()).expect(rt, "memory for a name");
         titles
-            .push(Title { name, line })
+            .push(&Title { name, line })
             .expect(rt, "memory for a title");
         line += 1;
     }
@@ -182,13 +182,13 @@ fn answer_all<R: Abort>(rt: &R, book: &mut Book<Verdict>)
 
 fn assert_reports<R: Abort>(rt: &R, alloc: Global, row: &Row) {
     let text = row.text;
-    let mut titles = Vec::new(alloc);
+    let mut titles = Titles::new(alloc);
     let mut book = put_jobs(rt, alloc, row.jobs, &mut titles);
     seal(rt, &mut book, row.end);
     answer_all(rt, &mut book);
     assert_eq!(rt; titles.len(), book.len(), "at {text}");
     let mut sink = MemSink::new(alloc, 1000, 7, Vec::new(alloc)).expect(rt, "memory for a sink");
-    let wrote = write_report(&book, titles.as_slice(), 7, false, &mut sink);
+    let wrote = write_report(&book, &titles, 7, false, &mut sink);
     assert_eq!(rt; sink.bytes(), text.as_bytes(), "at {text}");
     assert!(rt; wrote.is_ok(), "at {text}");
     assert_eq!(rt; first_fault(&book), row.fault, "at {text}");

@@ -1,4 +1,4 @@
-use Rattle.std.proofs.Common.{arith, ◌-◌, length, sym, ap, subst, ◌∙◌, Some, None}
+use Rattle.std.proofs.Common.{arith, length, sym, ap, subst, ◌∙◌, Some, None}
 use Rattle.board_core.specs.Machine.{marks_of}
 use Rattle.verdict_book.specs.Report.{FileReport}
 use Rattle.verdict_book.specs.Books.{end_outcome}
@@ -6,21 +6,12 @@ use Rattle.verdict_book.specs.Stops.{EndsByItself}
 use Rattle.verdict_book.specs.declared.outcome.Outcome.TheVariants.{Stopped}
 use Rattle.verdict_book.proofs.Answered.{ends_by_itself, first_put}
 use Rattle.verdict_book.proofs.Exists.{report_by}
-use Rattle.verdict_book.proofs.Lines.{line_is}
 use Rattle.verdict_book.proofs.book.outcome_of.Goals as goal
 
-pub overflow_sub-result : goal.overflow_sub-result
-overflow_sub-result g c = (first_put (marks_of c.args.book.now.jobs) c.args.book.now.events c.history.ensures.lawful c.in-Some.number c.in-Some.verdict c.in-Some.ensures.first).0
-
-pub bounds-titles-number : goal.bounds-titles-number
-bounds-titles-number g c =
+pub line-requires : goal.line-requires
+line-requires g c =
     let put = first_put (marks_of c.args.book.now.jobs) c.args.book.now.events c.history.ensures.lawful c.in-Some.number c.in-Some.verdict c.in-Some.ensures.first in
-    omega (arith, put.0, put.1, c.history.ensures.all_put, c.requires.all)
-
-pub bounds-titles-number-in-Some : goal.bounds-titles-number-in-Some
-bounds-titles-number-in-Some g c =
-    let put = first_put (marks_of c.args.book.now.jobs) c.args.book.now.events c.history.ensures.lawful c.in-Some.number c.in-Some.verdict c.in-Some.ensures.first in
-    omega (arith, put.0, put.1, c.history.ensures.all_put, c.requires.all)
+    (put.0, omega (arith, put.1, c.history.ensures.all_put, c.requires.all))
 
 pub own_outcome-requires-clause-own : goal.own_outcome-requires-clause-own
 own_outcome-requires-clause-own g c =
@@ -28,12 +19,12 @@ own_outcome-requires-clause-own g c =
 
 pub returns-in-Some-clause-value : goal.returns-in-Some-clause-value
 returns-in-Some-clause-value g c = λ report is.
-    let put = first_put (marks_of c.args.book.now.jobs) c.args.book.now.events c.history.ensures.lawful c.in-Some.number c.in-Some.verdict c.in-Some.ensures.first in
-    ap (λ l. Stopped c.in-Some.number l c.in-Some.verdict) (sym (line_is c.args.titles.now (c.in-Some.number - 1) c.index-titles-number.result (omega (arith, put.0, put.1, c.history.ensures.all_put, c.requires.all))))
+    ap (λ l. Stopped c.in-Some.number l c.in-Some.verdict) c.line.ensures
     ∙ ap (λ (r : FileReport). r.outcome) (sym (report_by c.args.titles.now c.args.book.now.events report (Some (c.in-Some.number, c.in-Some.verdict)) is c.in-Some.ensures.first))
 
 pub returns-in-None-clause-value : goal.returns-in-None-clause-value
 returns-in-None-clause-value g c = λ report is.
     c.own_outcome.ensures.value
+    ∙ ap (λ n. end_outcome n c.end.result) c.len.ensures
     ∙ ap (end_outcome (length c.args.titles.now)) c.end.ensures
     ∙ ap (λ (r : FileReport). r.outcome) (sym (report_by c.args.titles.now c.args.book.now.events report None is c.in-None.ensures.none))
