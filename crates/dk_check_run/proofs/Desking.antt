@@ -1,9 +1,9 @@
 -- What a step of the desk leaves, and how the board is sealed behind it.
-use Rattle.std.proofs.Common.{◌≡◌, ℕ, zero, ◌+◌, ◌<◌, ◌≤◌, All, Bool, true, false, List, [], ◌∷◌, ◌++◌, length, refl, sym, ap, subst, ◌∙◌, arith, length-append}
+use Rattle.std.proofs.Common.{◌≡◌, ℕ, zero, ◌+◌, ◌<◌, ◌≤◌, All, Bool, false, List, [], ◌∷◌, ◌++◌, length, take, ◌-◌, refl, sym, ap, subst, ◌∙◌, arith, length-append}
 use Rattle.std.specs.Prelude.{Option, Some, None}
 use Rattle.std.specs.List.{Any, list_any}
+use Rattle.std.proofs.Math.Seq.{take-append_seam}
 use Rattle.std.proofs.lemmas.List.{map-append}
-use Rattle.dk_model.specs.Limits.{standard}
 use Rattle.dk_model.specs.declared.limits.Limits.{Limits}
 use Rattle.dk_parser.specs.Written.{WrittenCommand}
 use Rattle.board_core.specs.declared.event.End.{End}
@@ -25,6 +25,14 @@ use Rattle.dk_check_run.specs.declared.desk.Desk.{Desk}
 use Rattle.dk_check_run.specs.declared.job.Job.{Job}
 use Rattle.dk_check_run.specs.Jobs.{job_of}
 use Rattle.dk_check_run.specs.Desks.{IsFresh, IsOver, IsReady, IsSound, MayEndSo, end_by, known_at, seen_at}
+
+-- what stands before the last
+pub before_last : (titles more : List Title) (last : Title) → more ≡ titles ++ last ∷ [] → take (length more - 1) more ≡ titles
+before_last titles more last is = ap (λ ts. take (length ts - 1) ts) is ∙ ap (λ n. take (n - 1) (titles ++ last ∷ [])) (length-append titles (last ∷ [])) ∙ (let n : length titles + 1 - 1 ≡ length titles = omega arith in ap (λ k. take k (titles ++ last ∷ [])) n) ∙ take-append_seam titles (last ∷ [])
+
+pub sound_kept : (limits : Limits) (titles back : List Title) (jobs known : List (Job × Bool)) → IsSound limits titles jobs → back ≡ titles → known ≡ jobs → IsSound limits back known
+sound_kept limits titles back jobs known sound same_titles same_jobs =
+    subst (λ (ts : List Title). IsSound limits ts known) (sym same_titles) (subst (λ (js : List (Job × Bool)). IsSound limits titles js) (sym same_jobs) sound)
 
 -- one job more, with its title
 pub sound_put : (limits : Limits) (titles : List Title) (title : Title) (jobs : List (Job × Bool)) (job : Job) (settled : Bool) → IsSound limits titles jobs → length titles < limits.commands
@@ -83,7 +91,7 @@ left_ends desk (read_end.Halted (NoMemory line)) leaves = refl
 left_ends desk (read_end.Halted Judged) leaves = may_end (seen_at desk) desk.end leaves.ends
 
 -- a desk that was left by reading is sound
-pub sound_left : (desk : Desk) (e : ReadEnd) → LeavesAtEnd IsReady IsOver desk e → IsSound desk.limits desk.titles.items (known_at desk)
+pub sound_left : (desk : Desk) (e : ReadEnd) → LeavesAtEnd IsReady IsOver desk e → IsSound desk.limits desk.titles (known_at desk)
 sound_left desk read_end.Whole leaves = leaves.sound
 sound_left desk read_end.Unread leaves = leaves.sound
 sound_left desk (read_end.Halted (Refused line code)) leaves = leaves.sound

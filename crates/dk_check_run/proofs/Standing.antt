@@ -1,5 +1,5 @@
 -- The desk behind the commands of a file.
-use Rattle.std.proofs.Common.{◌≡◌, inr, inl, ⊎_elim, ℕ, suc, ◌+◌, Bool, List, [], ◌∷◌, ◌++◌, length, refl, sym, ap, subst, ◌∙◌, length-append}
+use Rattle.std.proofs.Common.{◌≡◌, inr, inl, ⊎_elim, suc, ◌+◌, Bool, List, [], ◌∷◌, ◌++◌, length, refl, sym, ap, subst, ◌∙◌, length-append}
 use Rattle.std.specs.Prelude.{Err, Some}
 use Rattle.std.proofs.lemmas.List.{map-append}
 use Rattle.dk_model.specs.declared.code.Verdict.{Verdict}
@@ -56,17 +56,17 @@ module _ (bounds : Bounds) (old new : Desk) (done : List WrittenCommand) (c : Wr
     jobs = jobs_taken t;
   }
 
-  verdict_is : (v : Verdict) → length old.titles.items ≡ length (known_at old) → verdict_at old.limits old.budget (theory_of old.theory) (length old.titles.items) c.form ≡ v
+  verdict_is : (v : Verdict) → length old.titles ≡ length (known_at old) → verdict_at old.limits old.budget (theory_of old.theory) (length old.titles) c.form ≡ v
       → verdict_at bounds.limits bounds.budget (theory_over no_theory bounds.budget done) (length done) c.form ≡ v
   verdict_is v as_many is =
       ap (λ n. verdict_at bounds.limits bounds.budget (theory_over no_theory bounds.budget done) n c.form) (sym (as_many ∙ behind.counted))
-      ∙ ap (λ (T : Theory). verdict_at bounds.limits bounds.budget T (length old.titles.items) c.form) (sym behind.theory)
-      ∙ ap (λ b. verdict_at bounds.limits b (theory_of old.theory) (length old.titles.items) c.form) (sym behind.budget_is)
-      ∙ ap (λ (l : Limits). verdict_at l old.budget (theory_of old.theory) (length old.titles.items) c.form) (sym behind.limits_are)
+      ∙ ap (λ (T : Theory). verdict_at bounds.limits bounds.budget T (length old.titles) c.form) (sym behind.theory)
+      ∙ ap (λ b. verdict_at bounds.limits b (theory_of old.theory) (length old.titles) c.form) (sym behind.budget_is)
+      ∙ ap (λ (l : Limits). verdict_at l old.budget (theory_of old.theory) (length old.titles) c.form) (sym behind.limits_are)
       ∙ is
 
   -- the desk stops at the command, with this end
-  pub stops : (e : End) → length old.titles.items ≡ length (known_at old) → Enters old c new (Err e) → StopsAt bounds (record new { end = Some e }) (done ++ c ∷ [])
+  pub stops : (e : End) → length old.titles ≡ length (known_at old) → Enters old c new (Err e) → StopsAt bounds (record new { end = Some e }) (done ++ c ∷ [])
   stops end.Stopped as_many enters = record {
     limits_are = limits_are;
     budget_is = budget_is;

@@ -50,8 +50,8 @@ pub record IsSound (limits : Limits) (titles : List Title) (jobs : List (Job × 
 
 -- the next command may come
 pub record IsReady (desk : Desk) : Type 0 where
-  pub sound : IsSound desk.limits desk.titles.items (known_at desk)
-  pub counted : (theory_of desk.theory).names.count ≡ length desk.titles.items
+  pub sound : IsSound desk.limits desk.titles (known_at desk)
+  pub counted : (theory_of desk.theory).names.count ≡ length desk.titles
 
 -- no other command may come, and the board can be sealed so
 abbrev pub MayEndSo : List Event → Option End → Type 0
@@ -60,7 +60,7 @@ MayEndSo seen (Some (end.Fault line v)) = is_accepted v ≡ false
 MayEndSo seen e = ⊥
 
 pub record IsOver (desk : Desk) : Type 0 where
-  pub sound : IsSound desk.limits desk.titles.items (known_at desk)
+  pub sound : IsSound desk.limits desk.titles (known_at desk)
   pub ends : MayEndSo (seen_at desk) desk.end
 
 -- ---- steps
@@ -71,11 +71,11 @@ same_bounds old new = (new.limits ≡ old.limits) × (new.budget ≡ old.budget)
 -- one job more, with its title
 pub record Joins (old new : Desk) (p : Prepared) : Type 0 where
   pub jobs : known_at new ≡ known_at old ++ (p.job, p.settled) ∷ []
-  pub titles : new.titles.items ≡ old.titles.items ++ p.title ∷ []
+  pub titles : new.titles ≡ old.titles ++ p.title ∷ []
 
 pub record Stays (old new : Desk) : Type 0 where
   pub jobs : known_at new ≡ known_at old
-  pub titles : new.titles.items ≡ old.titles.items
+  pub titles : new.titles ≡ old.titles
 
 -- a job was put; or some job is at fault; or memory ended before it was put
 abbrev pub Puts : Desk → Prepared → Desk → Result Unit End → Type 0
@@ -94,7 +94,7 @@ pub record Takes (old new : Desk) (c : WrittenCommand) : Type 0 where
 -- the verdict on the command, which isn't Accepted
 abbrev pub IsVerdictAt : Desk → WrittenCommand → Verdict → Type 0
 IsVerdictAt old c v = (v ≢ verdict.Accepted)
-    × ((v ≡ verdict.Memory) ⊎ (verdict_at old.limits old.budget (theory_of old.theory) (length old.titles.items) c.form ≡ v))
+    × ((v ≡ verdict.Memory) ⊎ (verdict_at old.limits old.budget (theory_of old.theory) (length old.titles) c.form ≡ v))
 
 -- a command became a job; or some job is at fault; or the command has another verdict and is no job
 abbrev pub Enters : Desk → WrittenCommand → Desk → Result Unit End → Type 0
@@ -113,7 +113,7 @@ bounds_of desk = record { limits = desk.limits; budget = desk.budget }
 pub record IsFresh (desk : Desk) : Type 0 where
   pub limits_are : desk.limits ≡ standard
   pub theory : theory_of desk.theory ≡ no_theory
-  pub titles : desk.titles.items ≡ []
+  pub titles : desk.titles ≡ []
   pub jobs : known_at desk ≡ []
 
 -- with this budget, at a board of which so many passes were made

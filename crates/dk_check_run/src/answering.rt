@@ -29,7 +29,7 @@ use std::alloc::Global;
 use std::sync::Wait;
 use std::thread::Threads;
 use task_board::{Board, WorkerPass};
-use verdict_book::{Title, history_has_report, outcome_of, write_report};
+use verdict_book::{Titles, history_has_report, outcome_of, write_report};
 use worker_crew::run_crew;
 
 // The status where a write failed.
@@ -102,7 +102,7 @@ fn open_board(
         theory,
         worker,
         pass,
-        titles: Vec::new(alloc),
+        titles: Titles::new(alloc),
         end: None,
     };
     Ok((board, desk, passes))
@@ -123,7 +123,7 @@ fn checked_book<R: Threads + Wait + Sync, H: Shelf, G: Gate + Sync>(
     board: Board<JobChecker>,
     desk: Desk,
     passes: Listed<WorkerPass<JobChecker>>,
-) -> (Book<Job>, Vec<Title>)
+) -> (Book<Job>, Titles)
     requires own { desk.pass.seat.table_id ≡ board }
     requires begins { BeginsBook reader desk }
     requires some { 0 < length passes }
@@ -134,7 +134,7 @@ fn checked_book<R: Threads + Wait + Sync, H: Shelf, G: Gate + Sync>(
     ensures read { ReadsBook (bounds_of desk)
         (shelf_state H.books H.left H.faults H.missed shelf.old)
         (shelf_state H.books H.left H.faults H.missed shelf.new)
-        result.0.jobs (end_of result.0.events) result.1.items }
+        result.0.jobs (end_of result.0.events) result.1 }
 {
     let checker = JobChecker { alloc };
     let reading = BookReading {
@@ -188,7 +188,7 @@ fn check_book<R: Threads + Wait + Sync, H: Shelf, K: Sink, G: Gate + Sync>(
 fn put_report<K: Sink>(
     sink: &mut K,
     book: &Book<Job>,
-    titles: &[Title],
+    titles: &Titles,
     budget: u64,
     quiet: bool,
 ) -> u8

@@ -8,7 +8,7 @@ use file_reader::{Reader, read_book};
 use std::alloc::Global;
 use std::sync::Wait;
 use task_board::SealedPass;
-use verdict_book::Title;
+use verdict_book::Titles;
 use worker_crew::Reading;
 
 /// The reading of the open book.
@@ -24,7 +24,7 @@ pub struct BookReading<'a, 'b, R: Wait, H> {
 pub struct BookRead<'a, H> {
     pub shelf: &'a mut H,
     pub sealed: SealedPass<JobChecker>,
-    pub titles: Vec<Title>,
+    pub titles: Titles,
 }
 
 impl<'a, 'b, R: Wait, H: Shelf> Reading for BookReading<'a, 'b, R, H> {
@@ -45,7 +45,7 @@ impl<'a, 'b, R: Wait, H: Shelf> Reading for BookReading<'a, 'b, R, H> {
         × ReadsBook (bounds_of t.judging.desk)
         (shelf_state H.books H.left H.faults H.missed t.shelf.now)
         (shelf_state H.books H.left H.faults H.missed r.shelf.now)
-        r.sealed.seat.me.0.known (end_of (events_in r.sealed.seat.me.0.mine)) r.titles.items };
+        r.sealed.seat.me.0.known (end_of (events_in r.sealed.seat.me.0.mine)) r.titles };
 
     fn read(self) -> BookRead<'a, H> {
         let BookReading {

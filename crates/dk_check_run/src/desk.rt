@@ -19,7 +19,7 @@ use file_reader::{Halt, ReadEnd};
 use std::alloc::Global;
 use std::sync::{Arc, Wait};
 use task_board::{Board, ReaderPass, SealedPass};
-use verdict_book::Title;
+use verdict_book::Titles;
 
 /// What the reader keeps while it makes the commands of a file jobs.
 #[derive(Drop)]
@@ -31,7 +31,7 @@ pub struct Desk {
     pub worker: Worker,
     pub pass: ReaderPass<JobChecker>,
     /// What the report names of the jobs, in order.
-    pub titles: Vec<Title>,
+    pub titles: Titles,
     // How the file ends, once no other command is taken.
     pub end: Option<End>,
 }
@@ -63,7 +63,7 @@ impl Desk {
         ensures own { self.new.pass.seat.table_id ≡ board.now }
         ensures made { self.new.pass.seat.me.0.made ≡ self.old.pass.seat.me.0.made }
         ensures enters { Enters self.old (written_command raw) self.new result }
-        ensures sound { IsSound self.new.limits self.new.titles.items (known_at self.new) }
+        ensures sound { IsSound self.new.limits self.new.titles (known_at self.new) }
         ensures bounds { same_bounds self.old self.new }
     {
         let line = raw.line;
@@ -88,14 +88,14 @@ impl Desk {
         prepared: Prepared,
     ) -> Result<(), End>
         requires own { self.old.pass.seat.table_id ≡ board.now }
-        requires few { length self.old.titles.items < self.old.limits.commands }
-        requires sound { IsSound self.old.limits self.old.titles.items (known_at self.old) }
+        requires few { length self.old.titles < self.old.limits.commands }
+        requires sound { IsSound self.old.limits self.old.titles (known_at self.old) }
         requires title { prepared.title ≡ title_of (job_of prepared.job) }
         requires settled { MaySettle due early (prepared.job, prepared.settled) }
         ensures own { self.new.pass.seat.table_id ≡ board.now }
         ensures made { self.new.pass.seat.me.0.made ≡ self.old.pass.seat.me.0.made }
         ensures puts { Puts self.old prepared self.new result }
-        ensures sound { IsSound self.new.limits self.new.titles.items (known_at self.new) }
+        ensures sound { IsSound self.new.limits self.new.titles (known_at self.new) }
         ensures bounds { same_bounds self.old self.new }
         ensures theory { self.new.theory ≡ self.old.theory }
     {
@@ -105,19 +105,22 @@ impl Desk {
             title,
         } = prepared;
         let memory = End::Fault(title.line, Verdict::Memory);
-        let Ok(()) = self.titles.reserve(1) else {
-            return Err(memory);
-        };
         let Ok(job) = Arc::new(alloc, job) else {
             return Err(memory);
         };
+        let Ok(()) = self.titles.push(&title) else {
+            return Err(memory);
+        };
         match board.put(rt, &mut self.pass, job, settled) {
-            Ok(_) => {
-                self.titles.push_reserved(title);
-                Ok(())
+            Ok(_) => Ok(()),
+            Err(PutRefused::Stopped { .. }) => {
+                self.titles.pop();
+                Err(End::Stopped)
             }
-            Err(PutRefused::Stopped { .. }) => Err(End::Stopped),
-            Err(PutRefused::NoMemory { .. }) => Err(memory),
+            Err(PutRefused::NoMemory { .. }) => {
+                self.titles.pop();
+                Err(memory)
+            }
         }
     }
 
@@ -127,14 +130,14 @@ impl Desk {
         rt: &R,
         board: &Board<JobChecker>,
         read_end: ReadEnd,
-    ) -> (SealedPass<JobChecker>, Vec<Title>)
+    ) -> (SealedPass<JobChecker>, Titles)
         requires own { self.pass.seat.table_id ≡ board.now }
         requires left { LeavesAtEnd IsReady IsOver self read_end }
         ensures own { result.0.seat.table_id ≡ board.now }
         ensures made { result.0.seat.me.0.made ≡ self.pass.seat.me.0.made }
         ensures jobs { result.0.seat.me.0.known ≡ known_at self }
         ensures end { end_of (events_in result.0.seat.me.0.mine) ≡ Some (end_by read_end self.end) }
-        ensures titles { result.1.items ≡ titles_of job_of (known_at self) }
+        ensures titles { result.1 ≡ titles_of job_of (known_at self) }
     {
         let Desk {
             pass,

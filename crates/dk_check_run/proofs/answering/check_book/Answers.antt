@@ -1,5 +1,4 @@
-use Rattle.verdict_book.specs.Books.{IsReportOf}
-use Rattle.std.proofs.Common.{◌≡◌, ◌∙◌, [], List, ℕ, inl, refl, ap, sym, subst}
+use Rattle.std.proofs.Common.{[], List, ℕ, inl, refl, sym, subst}
 use Rattle.dk_model.specs.Limits.{standard}
 use Rattle.dk_model.specs.declared.code.Verdict.TheVariants.{Memory}
 use Rattle.board_core.specs.Machine.{marks_of}
@@ -33,7 +32,7 @@ returns-in_default-open_board g c = record {
 pub returns : goal.returns
 returns g c =
     let book = c.checked_book-book.result.0 in
-    let titles = c.checked_book-book.result.1.items in
+    let titles = c.checked_book-book.result.1 in
     let closed = c.checked_book-book.ensures in
     let desk = c.in-Ok-open_board.ensures.desk in
     let bounds : Bounds = record { limits = standard; budget = c.args.request.now.budget } in
@@ -44,5 +43,5 @@ returns g c =
       ends = λ bytes left. ends bounds _ _ book.jobs book.events titles told.0 closed.legal closed.finished read told.1 bytes left;
       books = read.books;
       counts = counts bounds _ _ book.jobs book.events titles told.0 closed.legal closed.finished read told.1;
-      writes = c.put_report.ensures told.0 (subst (λ t. IsReportOf t book.events told.0) (sym c.deref.ensures.value) told.1);
+      writes = c.put_report.ensures told.0 told.1;
     }
