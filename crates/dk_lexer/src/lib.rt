@@ -7,10 +7,6 @@ mod laws;
 mod lexer;
 mod part;
 mod place;
-#[cfg(test)]
-mod rows;
-#[cfg(test)]
-mod tests;
 mod token;
 mod words;
 

@@ -21,6 +21,3 @@ pub use laws::{grammar_law, reading_law};
 pub use parser::{ParseFault, Parser, Step};
 pub use raw::{Raw, RawForm, RawNote, RawParam, RawPat, RawRule, RawTerm};
 pub use terminal::Terminal;
-
-#[cfg(test)]
-mod tests;

@@ -9,6 +9,3 @@ mod shelf_read;
 pub use judge::{Judge, Over};
 pub use reader::{Halt, Reader};
 pub use shelf_read::{ReadEnd, read_book};
-
-#[cfg(test)]
-mod tests;

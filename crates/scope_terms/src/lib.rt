@@ -12,7 +12,5 @@ mod meaning;
 mod names;
 mod rule;
 mod term;
-#[cfg(test)]
-mod tests;
 
 pub use names::{Names, ScopeFault};

@@ -11,9 +11,9 @@ pub enum Limit {
 }
 
 /// The text, the limit, the tokens, the fault, and the line at the end.
-pub type Row = (&'static [u8], Limit, &'static str, Option<Code>, u32);
+pub type Row<'a> = (&'a [u8], Limit, &'static str, Option<Code>, u32);
 
-pub const ROWS: [Row; 66] = [
+pub const ROWS: [Row<'static>; 66] = [
     (
         b"a.b c.",
         Limit::Standard,

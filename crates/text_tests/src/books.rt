@@ -1,0 +1,204 @@
+ghost use Rattle.std.specs.Prelude.{◌<◌};
+
+use dk_io::{Book, Buffer, Failed, MemShelf, MemSink, OsShelf, OsSink, Shelf, Sink, put};
+use std::alloc::{AllocError, Global};
+use std::io;
+use std::io::Write;
+use std::test::Fail;
+
+fn one_book(alloc: Global, name: &str, bytes: &[u8]) -> Result<Vec<Book>, AllocError> {
+    let name = String::from_str(alloc, name)?;
+    let bytes = Vec::from_slice(alloc, bytes)?;
+    let mut books = Vec::new(alloc);
+    books.push(Book { name, bytes })?;
+    Ok(books)
+}
+
+// What the calls of a script answer, one letter each: a digit for so many bytes, `o` for an
+// opened book and `F` for a failure. In the script `a` and `b` open the book of that name, and
+// `r` reads into a buffer of four bytes.
+fn played(alloc: Global, shelf: &mut MemShelf, script: &str) -> Result<Vec<u8>, AllocError> {
+    let mut answers = Vec::new(alloc);
+    let mut buf = [0u8; 4];
+    for call in script.as_bytes() {
+        let answer = match call {
+            b'a' => opened(shelf.open_book("a.dk")),
+            b'b' => opened(shelf.open_book("b.dk")),
+            _ => match shelf.read(&mut buf) {
+                Ok(count) => digit(count),
+                Err(Failed) => b'F',
+            },
+        };
+        answers.push(answer)?;
+    }
+    Ok(answers)
+}
+
+fn opened(answer: Result<(), Failed>) -> u8 {
+    match answer {
+        Ok(()) => b'o',
+        Err(Failed) => b'F',
+    }
+}
+
+fn digit(count: usize) -> u8 {
+    match count {
+        0 => b'0',
+        1 => b'1',
+        2 => b'2',
+        3 => b'3',
+        4 => b'4',
+        _ => b'?',
+    }
+}
+
+// Whether a shelf with one book, `a.dk`, of seven bytes, answers this to a script.
+fn answers(
+    alloc: Global,
+    piece: usize,
+    failing: &[u64],
+    script: &str,
+    due: &str,
+) -> Result<bool, Fail>
+    requires { 0 < piece }
+{
+    let failing = Vec::from_slice(alloc, failing)?;
+    let books = one_book(alloc, "a.dk", b"seven b")?;
+    let mut shelf = MemShelf::new(alloc, books, piece, failing)?;
+    let found = played(alloc, &mut shelf, script)?;
+    Ok(found.as_slice() == due.as_bytes())
+}
+
+#[test]
+fn a_shelf_fails_at_the_listed_calls_and_at_a_missing_book(rt: HostRuntime) -> Result<(), Fail> {
+    for (piece, failing, script, due) in [
+        // before any book there is nothing to read; after the end there is nothing more
+        (9, [0, 0], "rarrrr", "0o4300"),
+        // at most a piece at a time
+        (3, [0, 0], "arrrr", "o3310"),
+        // openings and reads are numbered together, from 1
+        (9, [1, 3], "aarrr", "FoF43"),
+        // a failed read takes nothing, and a failed opening leaves the book where it was
+        (9, [3, 4], "arrrr", "o4FF3"),
+        (9, [3, 0], "araraar", "o4F3oo4"),
+        // a book that isn't there
+        (9, [0, 0], "barbr", "Fo4F3"),
+    ] {
+        let as_told = answers(rt.alloc(), piece, failing.as_slice(), script, due)?;
+        assert!(rt; as_told, "{script}");
+    }
+    Ok(())
+}
+
+// Whether a sink takes just this of a line, and says whether that is all.
+fn takes(alloc: Global, room: usize, piece: usize, failing: u64, taken: &str) -> Result<bool, Fail>
+    requires { 0 < piece }
+{
+    let failing = Vec::from_slice(alloc, [failing].as_slice())?;
+    let mut sink = MemSink::new(alloc, room, piece, failing)?;
+    let whole = put(&mut sink, b"ok 1 nat\n").is_ok();
+    Ok(sink.bytes() == taken.as_bytes() && whole == (taken.len() == 9))
+}
+
+#[test]
+fn a_sink_fails_at_the_listed_calls_and_where_it_is_full(rt: HostRuntime) -> Result<(), Fail> {
+    for (room, piece, failing, taken) in [
+        (99, 99, 0, "ok 1 nat\n"),
+        // five calls of one byte, and the sixth fails
+        (99, 1, 6, "ok 1 "),
+        (99, 4, 2, "ok 1"),
+        // full after five bytes
+        (5, 2, 0, "ok 1 "),
+        (9, 2, 0, "ok 1 nat\n"),
+    ] {
+        let as_told = takes(rt.alloc(), room, piece, failing, taken)?;
+        assert!(rt; as_told, "{room} {piece}");
+    }
+    Ok(())
+}
+
+fn put_lines(buffer: &mut Buffer, sink: &mut MemSink, lines: usize) -> bool {
+    for _ in 0..lines {
+        if buffer
+            .put_all(sink, &[b"ok 1 ".as_slice(), b"nat", b"\n"])
+            .is_err()
+        {
+            return false;
+        }
+    }
+    buffer.flush(sink).is_ok()
+}
+
+// Whether so many lines are put whole, and how many bytes went out.
+fn put_in_pieces(alloc: Global, lines: usize, failing: u64) -> Result<(bool, usize), Fail> {
+    let failing = Vec::from_slice(alloc, [failing].as_slice())?;
+    let mut sink = MemSink::new(alloc, 10000, 10000, failing)?;
+    let whole = put_lines(&mut Buffer::new(), &mut sink, lines);
+    Ok((whole, sink.bytes().len()))
+}
+
+// A line has nine bytes, so a buffer of 4,096 is full after 455 of them and a byte.
+#[test]
+fn lines_go_out_in_few_large_pieces(rt: HostRuntime) -> Result<(), Fail> {
+    for (lines, failing, whole, taken) in [
+        (0, 1, true, 0),
+        (1, 1, false, 0),
+        (455, 2, true, 4095),
+        (456, 2, false, 4096),
+        (456, 3, true, 4104),
+        (1000, 3, false, 8192),
+        (1000, 4, true, 9000),
+    ] {
+        let found = put_in_pieces(rt.alloc(), lines, failing)?;
+        assert!(rt; found == (whole, taken), "{lines}");
+    }
+    Ok(())
+}
+
+// A writer that takes up to so many bytes a call, and whose flush fails if it is told so.
+#[derive(Drop)]
+struct Slow {
+    most: usize,
+    flushes: bool,
+}
+
+impl Write for Slow {
+    fn write(&mut self, buf: &[u8]) -> io::Result<usize> {
+        Ok(self.most.min(buf.len()))
+    }
+
+    fn flush(&mut self) -> io::Result<()> {
+        if self.flushes {
+            Ok(())
+        } else {
+            Err(io::Error::from(io::ErrorKind::Other))
+        }
+    }
+}
+
+#[test]
+fn an_output_flushes_and_takes_at_least_a_byte(rt: HostRuntime) -> Result<(), Fail> {
+    for (most, flushes, answer) in [
+        (9, true, Ok(3)),
+        (2, true, Ok(2)),
+        (0, true, Err(Failed)),
+        (9, false, Err(Failed)),
+    ] {
+        let mut sink = OsSink::new(Slow { most, flushes });
+        let found = sink.write(b"abc");
+        assert!(rt; found == answer, "{most}");
+    }
+    Ok(())
+}
+
+#[test]
+fn a_shelf_of_files_opens_what_is_there(rt: HostRuntime) -> Result<(), Fail> {
+    let mut shelf = OsShelf::new(&rt);
+    let mut buf = [0u8; 4];
+    let before = shelf.read(&mut buf);
+    let missing = shelf.open_book("no/such/file.dk");
+    let there = shelf.open_book("/dev/zero");
+    let found = shelf.read(&mut buf);
+    assert!(rt; before == Ok(0) && missing == Err(Failed) && there == Ok(()) && found == Ok(4));
+    Ok(())
+}

@@ -1,0 +1,348 @@
+//! Where reading a file ends, through shelf, lexer, parser and scoping, for a judge that counts its commands.
+ghost use Rattle.std.specs.Prelude.{◌≡◌};
+
+use dk_io::{Book, MemShelf, Shelf};
+use dk_model::{Code, Fault, Limits, NoMemory};
+use dk_parser::Raw;
+use file_reader::{Halt, Judge, Over, ReadEnd, Reader, read_book};
+use scope_terms::Names;
+use std::alloc::{AllocError, Global};
+use std::test::Fail;
+
+// Takes so many commands, and no other; scopes them if it is told to, up to the first that is
+// refused.
+#[derive(Drop)]
+struct Counter {
+    taken: u32,
+    most: u32,
+    scopes: bool,
+    names: Names,
+    code: Option<Code>,
+}
+
+impl Counter {
+    fn refusal(&mut self, alloc: Global, raw: &Raw) -> Option<Code>
+        ensures { self.new.most ≡ self.old.most }
+    {
+        if !self.scopes || self.names.count() == u32::MAX {
+            return None;
+        }
+        match self.names.scope(alloc, raw) {
+            Err(Fault::Refused(code)) => Some(code),
+            _ => None,
+        }
+    }
+}
+
+impl Judge for Counter {
+    type Bounds = u8;
+
+    type Fixed = u32;
+
+    ghost fixed = { λ c. c.most };
+
+    ghost ready = { λ c. Unit {0} };
+
+    ghost over = { λ c. Unit {0} };
+
+    ghost stands = { λ b c cs. Unit {0} };
+
+    ghost stops = { λ b c cs. Unit {0} };
+
+    fn command(&mut self, alloc: Global, raw: Raw) -> Result<(), Over> {
+        self.code = self.refusal(alloc, &raw);
+        drop(raw);
+        if self.code.is_some() || self.taken >= self.most {
+            return Err(Over);
+        }
+        self.taken = self.taken.saturating_add(1);
+        Ok(())
+    }
+}
+
+// How many commands were taken, how many names and rule commands have a number, the code of the one that was refused,
+// and the end.
+type Told = (u32, u32, Option<Code>, ReadEnd);
+
+fn shelf_of(alloc: Global, text: &str, failing: u64) -> Result<MemShelf, Fail> {
+    let name = String::from_str(alloc, "f.dk")?;
+    let bytes = Vec::from_slice(alloc, text.as_bytes())?;
+    let mut books = Vec::new(alloc);
+    books.push(Book { name, bytes })?;
+    let failing = Vec::from_slice(alloc, &[failing])?;
+    Ok(MemShelf::new(alloc, books, 3, failing)?)
+}
+
+// What the judge is told, and the shelf's call that fails (0: none; the first is the opening).
+#[derive(Clone, Copy)]
+struct Asked {
+    levels: u32,
+    most: u32,
+    scopes: bool,
+    failing: u64,
+}
+
+const READING: Asked = Asked {
+    levels: 1_000,
+    most: 99,
+    scopes: false,
+    failing: 0,
+};
+
+fn judge_of(alloc: Global, asked: Asked) -> Result<Counter, NoMemory> {
+    Ok(Counter {
+        taken: 0,
+        most: asked.most,
+        scopes: asked.scopes,
+        names: Names::new(alloc)?,
+        code: None,
+    })
+}
+
+fn end_of(
+    alloc: Global,
+    shelf: &mut MemShelf,
+    judge: &mut Counter,
+    levels: u32,
+) -> Result<ReadEnd, NoMemory> {
+    let mut limits = Limits::standard();
+    limits.levels = levels;
+    let mut reader = Reader::new(alloc, limits)?;
+    let _opened = shelf.open_book("f.dk");
+    Ok(read_book(alloc, shelf, &mut reader, judge))
+}
+
+fn told(alloc: Global, text: &str, asked: Asked) -> Result<Told, Fail> {
+    let mut judge = judge_of(alloc, asked)?;
+    let mut shelf = shelf_of(alloc, text, asked.failing)?;
+    let end = end_of(alloc, &mut shelf, &mut judge, asked.levels)?;
+    Ok((judge.taken, judge.names.count(), judge.code, end))
+}
+
+// Whether so many commands are taken, each with a number where names are scoped.
+fn is_told(
+    alloc: Global,
+    text: &str,
+    asked: Asked,
+    taken: u32,
+    code: Option<Code>,
+    end: ReadEnd,
+) -> Result<bool, Fail> {
+    let (found, count, found_code, found_end) = told(alloc, text, asked)?;
+    let numbered = if asked.scopes { taken } else { 0 };
+    Ok(found == taken && count == numbered && found_code == code && found_end == end)
+}
+
+fn refused(line: u32, code: Code) -> ReadEnd {
+    ReadEnd::Halted(Halt::Refused(line, code))
+}
+
+#[test]
+fn reads_up_to_the_first_fault(rt: HostRuntime) -> Result<(), Fail> {
+    for (text, taken, end) in [
+        ("", 0, ReadEnd::Whole),
+        ("a : b. (; c ;)\n", 1, ReadEnd::Whole),
+        ("a : Type.\n b :", 1, refused(2, Code::E03)),
+        ("a : Type.\n\n b\n b.", 1, refused(3, Code::E02)),
+        ("a : Type. $", 1, refused(1, Code::E01)),
+        (".", 0, refused(1, Code::E02)),
+        ("#NAME m.", 0, refused(1, Code::E06)),
+        ("a : Type.\n\nb :\nc defac", 1, refused(3, Code::E06)),
+        ("a : Type. m.n : Type.", 1, refused(1, Code::E02)),
+        ("a : Type. thm t : a.", 1, refused(1, Code::E02)),
+        ("a : Type.\n_. c : a.", 1, refused(2, Code::E02)),
+    ] {
+        let as_told = is_told(rt.alloc(), text, READING, taken, None, end)?;
+        assert!(rt; as_told, "at {text}");
+    }
+    Ok(())
+}
+
+#[test]
+fn ends_where_the_judge_or_the_shelf_does(rt: HostRuntime) -> Result<(), Fail> {
+    let judged = ReadEnd::Halted(Halt::Judged);
+    for (text, most, failing, taken, end) in [
+        ("a : Type. b : a.", 9, 0, 2, ReadEnd::Whole),
+        ("a : Type. b : a.", 1, 0, 1, judged),
+        ("a : Type. b : a. $", 1, 0, 1, judged),
+        ("a : Type. b : a.", 9, 2, 0, ReadEnd::Unread),
+        ("a : Type. b : a.", 9, 6, 1, ReadEnd::Unread),
+    ] {
+        let asked = Asked {
+            most,
+            failing,
+            ..READING
+        };
+        let as_told = is_told(rt.alloc(), text, asked, taken, None, end)?;
+        assert!(rt; as_told, "at {text}, {most}, {failing}");
+    }
+    Ok(())
+}
+
+#[test]
+fn reads_each_form_of_command(rt: HostRuntime) -> Result<(), Fail> {
+    for (text, taken) in [
+        ("{|x|} : ((Type)). y : m.n. z : _.", 3),
+        ("nat : Type. z : nat. thm t : nat := z.", 3),
+        // terms
+        ("s : n -> n. p : x : n -> e x x. q : (x : n) -> e x x.", 3),
+        ("thm t : (x : n -> n) -> n := x : (_ : n -> n) => x z.", 1),
+        ("x : (x : n => Type) z.", 1),
+        ("x : y : a -> b -> c.", 1),
+        ("x : y => a.", 1),
+        // definitions
+        ("def id (x : a) : a := x.", 1),
+        ("def y := x. def f : a -> a. def {|x|} : a := x.", 3),
+        ("thm t (x : a) (y : b x) : a := x => y => x.", 1),
+        ("def b (x : A) := t. c (_ : A -> A) : B.", 2),
+        ("def k := (x => _ => x : a => x) z.", 1),
+        // rules
+        ("[] f --> a.", 1),
+        ("{g_rule} [x : a] g x --> x.", 1),
+        (
+            "[n] plus z n --> n [m, n] plus (s m) n --> s (plus m n).",
+            1,
+        ),
+        ("[F] sw (x => y => F x y) --> a => b => F b a.", 1),
+        ("[] g {c} --> a. [] {c} --> a.", 2),
+        ("{m.n} [] f --> a {r} [] g --> b. x : Type.", 2),
+        ("[x : a -> b, y] f (_ => x) {m.n} --> x.", 1),
+    ] {
+        let as_told = is_told(rt.alloc(), text, READING, taken, None, ReadEnd::Whole)?;
+        assert!(rt; as_told, "at {text}");
+    }
+    Ok(())
+}
+
+#[test]
+fn refuses_what_is_no_command(rt: HostRuntime) -> Result<(), Fail> {
+    let end = refused(1, Code::E02);
+    for text in [
+        // terms
+        "x : y : a.",
+        "x : f (x : a) -> b.",
+        "x : y : (x : a) -> b.",
+        "x : ((x : a)) -> b.",
+        "x : (x : a) => b.",
+        "x : m.n : a -> b.",
+        // declarations and definitions
+        "def c.",
+        "def : a.",
+        "thm t : a.",
+        "c (x : A).",
+        "thm t := x.",
+        "x : A := t.",
+        "x := t.",
+        "c (x) : A.",
+        "c (m.n : A) : B.",
+        "c (x : A)) : B.",
+        "def f := a b => c.",
+        "def f : x => .",
+        // rules
+        "[x,] f --> x.",
+        "[x f --> x.",
+        "[m.n] f --> a.",
+        "[] Type --> a.",
+        "[] f (x : A => x) --> a.",
+        "[] x => f --> a.",
+        "[] f (a --> b.",
+        "[] f {a --> b.",
+        "[] --> a.",
+        "{r} f : a.",
+    ] {
+        let as_told = is_told(rt.alloc(), text, READING, 0, None, end)?;
+        assert!(rt; as_told, "at {text}");
+    }
+    Ok(())
+}
+
+// Words, and others behind them so many times.
+fn repeated(alloc: Global, first: &str, words: &str, times: u32) -> Result<String, AllocError> {
+    let mut text = String::from_str(alloc, first)?;
+    for _ in 0..times {
+        text.push_str(words)?;
+    }
+    Ok(text)
+}
+
+#[test]
+fn ends_levels_and_arguments_at_the_limit(rt: HostRuntime) -> Result<(), Fail> {
+    for (words, count, code) in [
+        (" (", 1_000, Code::E03),
+        (" (", 1_001, Code::E04),
+        (" -> a", 1_000, Code::E03),
+        (" -> a", 1_001, Code::E04),
+        (" a", 1_000, Code::E03),
+        (" a", 1_001, Code::E04),
+        (" (a)", 1_000, Code::E03),
+        (" (a)", 1_001, Code::E04),
+    ] {
+        let text = repeated(rt.alloc(), "x : a", words, count)?;
+        let end = refused(1, code);
+        let as_told = is_told(rt.alloc(), text.as_str(), READING, 0, None, end)?;
+        assert!(rt; as_told, "at {count} of {words}");
+    }
+    Ok(())
+}
+
+// Whether a text is whole with so many levels, and not with one less.
+fn takes_levels(alloc: Global, text: &str, levels: u32) -> Result<bool, Fail> {
+    let (_, _, _, whole) = told(alloc, text, Asked { levels, ..READING })?;
+    let levels = levels.saturating_sub(1);
+    let (_, _, _, cut) = told(alloc, text, Asked { levels, ..READING })?;
+    Ok(whole == ReadEnd::Whole && cut == refused(1, Code::E04))
+}
+
+#[test]
+fn counts_the_levels_of_parameters_and_rules(rt: HostRuntime) -> Result<(), Fail> {
+    for (text, levels) in [
+        ("c (x : A -> B) : A.", 2),
+        ("def c (x : A) : A -> A := a.", 2),
+        ("def c (x : A) : A := (a).", 2),
+        ("def c (x : A) := y => y.", 2),
+        ("def c (x : A) := y. def d (x : A) := y.", 1),
+        ("[] f (x => a) --> b.", 2),
+        ("[] f {a} --> (b).", 1),
+        ("[] f {(a)} --> b.", 2),
+        ("[] f {a} --> b -> c -> d.", 2),
+        ("[] f a b --> c.", 2),
+        ("[] f (a) {b} --> c.", 2),
+        ("[x : (a)] f --> c.", 1),
+    ] {
+        assert!(rt; takes_levels(rt.alloc(), text, levels)?, "at {text}");
+    }
+    Ok(())
+}
+
+#[test]
+fn scopes_up_to_the_first_refusal(rt: HostRuntime) -> Result<(), Fail> {
+    let judged = ReadEnd::Halted(Halt::Judged);
+    for (text, taken, code, end) in [
+        ("a : Type. b : a. c : a -> b.", 3, None, ReadEnd::Whole),
+        ("b : Type. [x, y] b --> x.", 2, None, ReadEnd::Whole),
+        (
+            "a : Type. def d (x : a) : a -> a := y => x.",
+            2,
+            None,
+            ReadEnd::Whole,
+        ),
+        ("a : Type. a : Type.", 1, Some(Code::E11), judged),
+        ("b : b.", 0, Some(Code::E10), judged),
+        (
+            "a : Type. def d (x : y) (y : a) := a.",
+            1,
+            Some(Code::E10),
+            judged,
+        ),
+        ("b : _.", 0, Some(Code::E12), judged),
+        ("b : Type. [x, x] b --> x.", 1, Some(Code::E13), judged),
+    ] {
+        let asked = Asked {
+            scopes: true,
+            ..READING
+        };
+        let as_told = is_told(rt.alloc(), text, asked, taken, code, end)?;
+        assert!(rt; as_told, "at {text}");
+    }
+    Ok(())
+}

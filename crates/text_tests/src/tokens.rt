@@ -1,0 +1,179 @@
+//! Tokens by kind and offset, with the line where it isn't 1, for the cases of docs/syntax.md.
+use crate::token_rows::{Limit, ROWS, Row};
+use dk_lexer::{Fed, Lexer, Sign, Token, TokenKind};
+use dk_model::{Code, Limits, NoMemory};
+use std::alloc::Global;
+use std::test::Fail;
+
+#[derive(Drop)]
+struct Read {
+    tokens: String,
+    fault: Option<Code>,
+    line: u32,
+}
+
+fn limits(limit: Limit) -> Limits {
+    let mut limits = Limits::standard();
+    match limit {
+        Limit::Standard => {}
+        Limit::Name(bytes) => limits.name_bytes = bytes,
+        Limit::Command(bytes) => limits.command_bytes = bytes,
+        Limit::Input(bytes) => limits.input_bytes = bytes,
+    }
+    limits
+}
+
+fn sign_text(sign: Sign) -> &'static str {
+    match sign {
+        Sign::Colon => ":",
+        Sign::Defined => ":=",
+        Sign::Arrow => "->",
+        Sign::DoubleArrow => "=>",
+        Sign::LongArrow => "-->",
+        Sign::Dot => ".",
+        Sign::Comma => ",",
+        Sign::OpenBracket => "(",
+        Sign::CloseBracket => ")",
+        Sign::OpenSquare => "[",
+        Sign::CloseSquare => "]",
+        Sign::OpenBrace => "{",
+        Sign::CloseBrace => "}",
+    }
+}
+
+fn kind_text(kind: TokenKind) -> &'static str {
+    match kind {
+        TokenKind::Plain => "plain",
+        TokenKind::Quoted => "quoted",
+        TokenKind::Qualified => "qualified",
+        TokenKind::Wildcard => "_",
+        TokenKind::Star => "Type",
+        TokenKind::Def => "def",
+        TokenKind::Thm => "thm",
+        TokenKind::Profile => "profile",
+        TokenKind::Sign(sign) => sign_text(sign),
+    }
+}
+
+fn keep(alloc: Global, tokens: &mut String, token: Option<Token>) -> Result<(), Fail> {
+    let Some(token) = token else {
+        return Ok(());
+    };
+    let kind = kind_text(token.kind);
+    let text = if token.line > 1 {
+        format!(in alloc; " {kind} {}/{}", token.offset, token.line)?
+    } else {
+        format!(in alloc; " {kind} {}", token.offset)?
+    };
+    tokens.push_str(text.as_str())?;
+    Ok(())
+}
+
+fn keep_all(alloc: Global, read: &mut Read, fed: Fed) -> Result<(), Fail> {
+    read.fault = fed.fault;
+    for token in [fed.first, fed.second, fed.third, fed.fourth] {
+        keep(alloc, &mut read.tokens, token)?;
+    }
+    Ok(())
+}
+
+// Feeds a text and its end.
+fn lex(alloc: Global, lexer: &mut Lexer, read: &mut Read, text: &[u8]) -> Result<(), Fail> {
+    for byte in text {
+        let fed = lexer.feed(alloc, *byte)?;
+        keep_all(alloc, read, fed)?;
+    }
+    let fed = lexer.finish(alloc);
+    keep_all(alloc, read, fed)?;
+    read.line = lexer.line();
+    Ok(())
+}
+
+// Whether a text has these tokens, this fault and this line at its end.
+fn is_lexed(alloc: Global, row: &Row<'_>) -> Result<bool, Fail> {
+    let (text, limit, tokens, fault, line) = *row;
+    let mut lexer = Lexer::new(limits(limit));
+    let mut read = Read {
+        tokens: String::new(alloc),
+        fault: None,
+        line: 1,
+    };
+    lex(alloc, &mut lexer, &mut read, text)?;
+    Ok(read.tokens.as_str() == tokens && read.fault == fault && read.line == line)
+}
+
+#[test]
+fn gives_the_tokens_and_the_fault_of_each_text(rt: HostRuntime) -> Result<(), Fail> {
+    for row in &ROWS {
+        assert!(rt; is_lexed(rt.alloc(), row)?, "at {:?}", row.0);
+    }
+    Ok(())
+}
+
+// What a file of one byte is: a token of this text, a blank, or a fault.
+fn one_byte(byte: u8) -> (&'static str, Option<Code>) {
+    match byte {
+        b'a'..=b'z' | b'A'..=b'Z' | b'0'..=b'9' | b'!' | b'?' => (" plain 0", None),
+        b'_' => (" _ 0", None),
+        b' ' | b'\t' | b'\r' | b'\n' => ("", None),
+        b':' => (" : 0", None),
+        b'.' => (" . 0", None),
+        b',' => (" , 0", None),
+        b'(' => (" ( 0", None),
+        b')' => (" ) 0", None),
+        b'[' => (" [ 0", None),
+        b']' => (" ] 0", None),
+        b'{' => (" { 0", None),
+        b'}' => (" } 0", None),
+        b'-' | b'=' => ("", Some(Code::E03)),
+        _ => ("", Some(Code::E01)),
+    }
+}
+
+#[test]
+fn reads_each_file_of_one_byte(rt: HostRuntime) -> Result<(), Fail> {
+    for byte in 0..=255u8 {
+        let (tokens, fault) = one_byte(byte);
+        let line = if byte == b'\n' { 2 } else { 1 };
+        let text = [byte];
+        let row = (text.as_slice(), Limit::Standard, tokens, fault, line);
+        assert!(rt; is_lexed(rt.alloc(), &row)?, "at {byte}");
+    }
+    Ok(())
+}
+
+fn feed_all(alloc: Global, lexer: &mut Lexer, text: &str) -> Result<(), NoMemory> {
+    for byte in text.as_bytes() {
+        let _fed = lexer.feed(alloc, *byte)?;
+    }
+    Ok(())
+}
+
+// How many bytes of a text are taken at once behind what was fed before.
+fn passed(alloc: Global, before: &str, text: &str) -> Option<usize> {
+    let mut lexer = Lexer::new(Limits::standard());
+    match feed_all(alloc, &mut lexer, before) {
+        Ok(()) => lexer.pass(alloc, text.as_bytes()).ok(),
+        Err(_) => None,
+    }
+}
+
+#[test]
+fn takes_a_whole_front(rt: HostRuntime) -> Result<(), Fail> {
+    for (before, text, count) in [
+        ("", "  \n\t", 4),
+        ("", "  \nx", 4),
+        ("", " ab' c", 4),
+        ("", " 'a", 1),
+        ("(; ", "a ( b \n ;) c", 10),
+        ("(; ", "a (; b ;) c ;", 13),
+        ("na", "me' : x", 3),
+        ("x ", ": y", 0),
+        ("{|", "abc", 0),
+        ("$", "abc", 0),
+    ] {
+        let found = passed(rt.alloc(), before, text);
+        assert!(rt; found == Some(count), "at {text} behind {before}");
+    }
+    Ok(())
+}
