@@ -4,7 +4,7 @@ use Rattle.dk_parser.specs.declared.command_so_far.CommandSoFar.{CommandSoFar}
 use Rattle.dk_parser.specs.declared.command_so_far.Due.{Due}
 use Rattle.dk_parser.specs.declared.command_so_far.Due.TheVariants as due
 use Rattle.dk_parser.specs.declared.command_so_far.Purpose.{Purpose}
-use Rattle.dk_parser.specs.declared.terminal.Terminal.{Terminal}
+use Rattle.dk_terms.specs.declared.terminal.Terminal.{Terminal}
 use Rattle.dk_parser.specs.Parsing.{Advance, advanced, in_term_next, takes, term_argument, term_done, term_ends, term_goes, term_next}
 use Rattle.dk_parser.specs.Views.{is_in_term, plain_command, plain_due, plain_purpose, plain_term}
 

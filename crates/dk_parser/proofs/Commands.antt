@@ -3,8 +3,8 @@ use Rattle.std.proofs.Common.{◌≡◌, ℕ, ◌+◌, List, [], ◌∷◌, ◌+
 use Rattle.std.specs.Prelude.{Option, Some, None, max}
 use Rattle.dk_model.specs.declared.signature.SymSort.TheVariants.{Static, Definable, Theorem}
 use Rattle.dk_lexer.specs.declared.token.Sign.TheVariants as sign
-use Rattle.dk_parser.specs.declared.terminal.Terminal.{Terminal}
-use Rattle.dk_parser.specs.declared.terminal.Terminal.TheVariants as terminal
+use Rattle.dk_terms.specs.declared.terminal.Terminal.{Terminal}
+use Rattle.dk_terms.specs.declared.terminal.Terminal.TheVariants as terminal
 use Rattle.dk_parser.specs.Written.{Written, WrittenPattern, pattern_qualified, pattern_guard, pattern_apply, pattern_bare, WrittenNote, WrittenRule, WrittenForm, written_rules}
 use Rattle.dk_parser.specs.Grammar.{colon, defined, dot, double_arrow, open_bracket, close_bracket, open_square, close_square, open_brace, close_brace, comma, long_arrow, entry, rule, SpellsBinder, spells_binder, spells_no_binder, SpellsTerm, SpellsPatternAtom, spells_pattern_name, spells_pattern_qualified, spells_pattern_wildcard, spells_guard, spells_pattern_brackets, SpellsPatternApplication, spells_pattern_head, spells_pattern_applied, SpellsPattern, spells_pattern_application, spells_pattern_bare, SpellsEntry, spells_entry, spells_typed_entry, SpellsEntries, spells_last_entry, spells_more_entries, SpellsContext, spells_no_context, spells_context, spells_no_rule_name, spells_rule_name, spells_qualified_rule_name, SpellsRule, spells_rule, SpellsRules, spells_last_rule, spells_more_rules, SpellsForm, spells_static, spells_definable, spells_definition, spells_typed_definition, spells_theorem, spells_rules}
 use Rattle.dk_parser.specs.Parsing.{LeftApplication, pattern_due, pattern_bindable, pattern_applied, Binders, no_binders, binder_on, PatternFrames, no_bracket, bracket_on, LeftSoFar, left_due, pattern_depth, binder_pattern, pattern_more, pattern_binder, left_pattern, under_binders, pattern_closed, pattern_next, pattern_argument, RuleHead, with_entry, as_entry, as_guard, as_right, CommandSoFar, command_due, context_due, entry_due, entry_named, in_left, in_term, Advance, goes, behind_entry, behind_rule, named_next, left_goes, right_due, left_next, term_due, advanced}

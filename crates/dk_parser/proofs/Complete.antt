@@ -3,8 +3,8 @@ use Rattle.std.proofs.Common.{◌≡◌, ℕ, ◌+◌, true, false, List, [], �
 use Rattle.std.specs.Prelude.{Option, Some, None, ◌⊎◌}
 use Rattle.dk_model.specs.declared.signature.SymSort.{SymSort}
 use Rattle.dk_lexer.specs.declared.token.Sign.TheVariants as sign
-use Rattle.dk_parser.specs.declared.terminal.Terminal.{Terminal}
-use Rattle.dk_parser.specs.declared.terminal.Terminal.TheVariants as terminal
+use Rattle.dk_terms.specs.declared.terminal.Terminal.{Terminal}
+use Rattle.dk_terms.specs.declared.terminal.Terminal.TheVariants as terminal
 use Rattle.dk_parser.specs.Written.{Written, written_qualified, written_star, written_apply, written_arrow, written_product, written_bare, written_annotated, WrittenParam, written_declare}
 use Rattle.dk_parser.specs.Grammar.{colon, dot, arrow, double_arrow, open_bracket, close_bracket, param, SpellsBinder, spells_binder, spells_no_binder, SpellsAtom, spells_name, spells_qualified, spells_star, spells_wildcard, spells_brackets, SpellsApplication, spells_head, spells_applied, SpellsTerm, spells_application, spells_arrow, spells_product, spells_bracketed_product, spells_bare, spells_annotated, SpellsParams, spells_no_params, spells_params}
 use Rattle.dk_parser.specs.Parsing.{Role, at_front, domain, Application, due, bindable, applied, bracketed, bracket_frame, arrow_frame, product_frame, bare_frame, annotated_frame, Frames, bottom, on, TermSoFar, term_due, pushed, binder_term, application_more, application_binder, takes_atom, application_term, in_frames, unwound, unwound_all, next_open, next_close, next_close_term, next_close_domain, next_arrow, framed, term_next, term_argument, term_done, application_ended, in_bracket, takes, Head, level_behind, with_param, Purpose, as_param, as_type, as_body, CommandSoFar, head_due, binder_due, binder_colon_due, in_term, behind_term, term_goes, term_ends, in_term_next}

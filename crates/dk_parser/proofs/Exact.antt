@@ -6,9 +6,9 @@ use Rattle.dk_model.specs.declared.code.Code.{Code}
 use Rattle.dk_model.specs.declared.code.Code.TheVariants.{E02, E04, E06}
 use Rattle.dk_model.specs.declared.limits.Limits.{Limits}
 use Rattle.dk_lexer.specs.declared.token.Token.{Token}
-use Rattle.dk_parser.specs.declared.terminal.Terminal.{Terminal}
-use Rattle.dk_parser.specs.declared.terminal.Terminal.TheVariants as terminal
-use Rattle.dk_parser.specs.Terminals.{terminal_of}
+use Rattle.dk_terms.specs.declared.terminal.Terminal.{Terminal}
+use Rattle.dk_terms.specs.declared.terminal.Terminal.TheVariants as terminal
+use Rattle.dk_terms.specs.Terminals.{terminal_of}
 use Rattle.dk_parser.specs.Written.{WrittenForm, WrittenCommand}
 use Rattle.dk_parser.specs.Grammar.{SpellsForm, terminals, first_line, Spells, Begins}
 use Rattle.dk_parser.specs.Levels.{level_or_argument, IsWithin}

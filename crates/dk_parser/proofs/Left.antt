@@ -2,8 +2,8 @@
 use Rattle.std.proofs.Common.{◌≡◌, ℕ, ◌+◌, List, [], ◌∷◌, ◌++◌, refl, sym, ap, ◌∙◌, subst, append_assoc, append-nil}
 use Rattle.std.specs.Prelude.{Option, Some, None}
 use Rattle.dk_lexer.specs.declared.token.Sign.TheVariants as sign
-use Rattle.dk_parser.specs.declared.terminal.Terminal.{Terminal}
-use Rattle.dk_parser.specs.declared.terminal.Terminal.TheVariants as terminal
+use Rattle.dk_terms.specs.declared.terminal.Terminal.{Terminal}
+use Rattle.dk_terms.specs.declared.terminal.Terminal.TheVariants as terminal
 use Rattle.dk_parser.specs.Written.{WrittenPattern, pattern_qualified, pattern_apply, pattern_bare}
 use Rattle.dk_parser.specs.Grammar.{double_arrow, open_bracket, close_bracket, SpellsBinder, spells_binder, spells_no_binder, SpellsPatternAtom, spells_pattern_name, spells_pattern_qualified, spells_pattern_wildcard, spells_pattern_brackets, SpellsPatternApplication, spells_pattern_head, spells_pattern_applied, SpellsPattern, spells_pattern_application, spells_pattern_bare}
 use Rattle.dk_parser.specs.Parsing.{LeftApplication, pattern_due, pattern_bindable, pattern_applied, Binders, binder_on, PatternFrames, no_bracket, bracket_on, LeftSoFar, left_due, binder_pattern, pattern_more, pattern_binder, left_pattern, under_binders, with_atom, with_binder, pattern_opened, pattern_closed, pattern_bound, pattern_next, pattern_done, done_outside}

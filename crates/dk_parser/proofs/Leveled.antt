@@ -5,8 +5,8 @@ use Rattle.std.proofs.lemmas.Bool.Decides.{nat_tests}
 use Rattle.dk_model.specs.declared.signature.SymSort.{SymSort}
 use Rattle.dk_model.specs.declared.signature.SymSort.TheVariants.{Static, Definable, Theorem}
 use Rattle.dk_lexer.specs.declared.token.Sign.TheVariants as sign
-use Rattle.dk_parser.specs.declared.terminal.Terminal.{Terminal}
-use Rattle.dk_parser.specs.declared.terminal.Terminal.TheVariants as terminal
+use Rattle.dk_terms.specs.declared.terminal.Terminal.{Terminal}
+use Rattle.dk_terms.specs.declared.terminal.Terminal.TheVariants as terminal
 use Rattle.dk_parser.specs.Written.{Written, written_qualified, written_star, written_apply, written_arrow, written_product, written_bare, written_annotated, WrittenParam, WrittenPattern, pattern_qualified, pattern_guard, WrittenForm}
 use Rattle.dk_parser.specs.Grammar.{dot, param, entry}
 use Rattle.dk_parser.specs.Levels.{Group, empty_group, atom_more, Groups, no_groups, with_inner, closed, groups_behind, Side, in_head, behind_head, on_left, Standing, at_start, params_closed, side_at_colon, standing_behind, standing_from, standing, arrows_of, level_of, argument_in, level_or_argument}

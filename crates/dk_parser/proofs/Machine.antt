@@ -1,6 +1,6 @@
 -- The parts of a command, one terminal after the other.
 use Rattle.std.proofs.Common.{◌≡◌, ℕ, List, [], ◌∷◌, ◌++◌, refl, sym, ap, ◌∙◌, subst, append_assoc, append-nil}
-use Rattle.dk_parser.specs.declared.terminal.Terminal.{Terminal}
+use Rattle.dk_terms.specs.declared.terminal.Terminal.{Terminal}
 use Rattle.dk_parser.specs.Written.{WrittenForm}
 use Rattle.dk_parser.specs.Parsing.{CommandSoFar, Advance, goes, ends, refuses, advanced, command_due}
 

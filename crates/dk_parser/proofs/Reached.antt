@@ -4,8 +4,8 @@ use Rattle.std.specs.Prelude.{Option, Some, None}
 use Rattle.dk_model.specs.declared.signature.SymSort.{SymSort}
 use Rattle.dk_model.specs.declared.signature.SymSort.TheVariants.{Static, Definable, Theorem}
 use Rattle.dk_lexer.specs.declared.token.Sign.TheVariants as sign
-use Rattle.dk_parser.specs.declared.terminal.Terminal.{Terminal}
-use Rattle.dk_parser.specs.declared.terminal.Terminal.TheVariants as terminal
+use Rattle.dk_terms.specs.declared.terminal.Terminal.{Terminal}
+use Rattle.dk_terms.specs.declared.terminal.Terminal.TheVariants as terminal
 use Rattle.dk_parser.specs.Written.{Written, written_star, WrittenParam, WrittenPattern, pattern_guard, WrittenRule, WrittenForm, written_declare, written_rules}
 use Rattle.dk_parser.specs.Grammar.{colon, defined, dot, open_bracket, close_bracket, open_square, close_square, open_brace, close_brace, comma, long_arrow, param, entry, rule, SpellsBinder, spells_binder, spells_no_binder, SpellsTerm, SpellsParams, spells_no_params, spells_params, SpellsForm, spells_star, spells_head, spells_application, spells_static, spells_definable, spells_definition, spells_typed_definition, spells_theorem, spells_guard, spells_no_rule_name, spells_rule_name, spells_qualified_rule_name, spells_rules, IsBegun}
 use Rattle.dk_parser.specs.Parsing.{TermSoFar, term_due, term_next, term_argument, term_done, takes, Head, level_behind, with_param, LeftSoFar, left_due, pattern_depth, pattern_more, with_atom, pattern_next, pattern_argument, pattern_done, RuleHead, no_rules, with_entry, Purpose, as_param, as_type, as_body, as_entry, as_guard, as_right, CommandSoFar, command_due, name_due, head_due, binder_due, binder_colon_due, rule_name_due, rule_brace_due, square_due, context_due, entry_due, entry_named, in_left, in_term, Advance, goes, ends, refuses, body_due, term_goes, term_ends, in_term_next, behind_entry, behind_rule, behind_term, named_next, left_goes, right_due, left_next, dot_behind_type, body_behind_type, body_behind_head, head_next, advanced}

@@ -1,8 +1,8 @@
 -- What may stand behind a part of a rule.
 use Rattle.std.proofs.Common.{◌≡◌, ℕ, List, [], ◌∷◌, ◌++◌, refl, sym, ap, ◌∙◌, subst, append_assoc}
 use Rattle.std.specs.Prelude.{Some, None}
-use Rattle.dk_parser.specs.declared.terminal.Terminal.{Terminal}
-use Rattle.dk_parser.specs.declared.terminal.Terminal.TheVariants as terminal
+use Rattle.dk_terms.specs.declared.terminal.Terminal.{Terminal}
+use Rattle.dk_terms.specs.declared.terminal.Terminal.TheVariants as terminal
 use Rattle.dk_parser.specs.Written.{Written, written_star, WrittenPattern, pattern_wild, WrittenNote, WrittenRule, WrittenForm, written_rules}
 use Rattle.dk_parser.specs.Grammar.{colon, dot, open_square, close_square, open_brace, close_brace, comma, long_arrow, close_bracket, entry, rule, SpellsTerm, spells_star, spells_head, spells_application, SpellsPatternApplication, spells_pattern_head, spells_pattern_wildcard, SpellsEntry, spells_entry, spells_typed_entry, SpellsEntries, spells_last_entry, spells_more_entries, SpellsContext, spells_no_context, spells_context, SpellsRuleName, spells_rule_name, SpellsRule, spells_rule, SpellsRules, spells_last_rule, spells_more_rules}
 use Rattle.dk_parser.specs.Parsing.{LeftApplication, pattern_due, pattern_bindable, pattern_applied, PatternFrames, no_bracket, bracket_on, LeftSoFar, left_due, binder_pattern, pattern_more, left_pattern, under_binders, pattern_closed, pattern_next, RuleHead, with_entry}

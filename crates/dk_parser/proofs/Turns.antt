@@ -9,9 +9,9 @@ use Rattle.dk_model.specs.declared.limits.Limits.{Limits}
 use Rattle.dk_lexer.specs.declared.token.Token.{Token}
 use Rattle.dk_parser.specs.declared.parser.Step.{Step}
 use Rattle.dk_parser.specs.declared.parser.Step.TheVariants as step
-use Rattle.dk_parser.specs.declared.terminal.Terminal.{Terminal}
-use Rattle.dk_parser.specs.declared.terminal.Terminal.TheVariants as terminal
-use Rattle.dk_parser.specs.Terminals.{terminal_of}
+use Rattle.dk_terms.specs.declared.terminal.Terminal.{Terminal}
+use Rattle.dk_terms.specs.declared.terminal.Terminal.TheVariants as terminal
+use Rattle.dk_terms.specs.Terminals.{terminal_of}
 use Rattle.dk_parser.specs.Written.{WrittenCommand}
 use Rattle.dk_parser.specs.RawViews.{written_command}
 use Rattle.dk_parser.specs.Parsing.{CommandSoFar, Advance, goes, ends, refuses, advanced, Parsing, started, Answer, more, command, refused, turn, turn_refused, turn_by_step, turn_by_terminal, turn_by_fault, parsing_from, parsing_after, answered, commands_from}
@@ -156,7 +156,7 @@ adds_fault limits ts t code e =
 
 adds_came : (limits : Limits) (ts : List Token) (t : Token) (r : Result Step Fault) (n : Parsing) → CameTo (turn (parsing_after limits ts) t) r n → AddsStep (read_tokens limits ts) r (read_tokens limits (ts ++ t ∷ []))
 adds_came limits ts t (Ok step.More) n h = adds_more limits ts t h.1
-adds_came limits ts t (Ok (step.Command raw)) n h = adds_command limits ts t (written_command raw) h.1
+adds_came limits ts t (Ok (step.Command raw)) n h = adds_command limits ts t (written_command raw.value) h.1
 adds_came limits ts t (Err (fault.Refused code)) n h = adds_fault limits ts t code h.1
 adds_came limits ts t (Err fault.NoMemory) n h = tt
 

@@ -5,6 +5,6 @@ pub mod Parsing
 pub mod RawViews
 pub mod Reading
 pub mod Steps
-pub mod Terminals
+pub use Rattle.dk_terms.specs.Terminals
 pub mod Views
 pub mod Written

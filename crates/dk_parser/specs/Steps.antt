@@ -64,7 +64,7 @@ pub record AddsFault (old new : TokenReading) (code : Code) : Type 0 where
 -- what an answer says of the reading before the token and with it; want of memory says nothing
 abbrev pub AddsStep : TokenReading → Result Step Fault → TokenReading → Type 0
 AddsStep old (Ok step.More) new = GoesOn old new
-AddsStep old (Ok (step.Command raw)) new = AddsCommand old new (written_command raw)
+AddsStep old (Ok (step.Command raw)) new = AddsCommand old new (written_command raw.value)
 AddsStep old (Err (answer_fault.Refused code)) new = AddsFault old new code
 AddsStep old (Err answer_fault.NoMemory) new = Unit {0}
 

@@ -3,16 +3,14 @@ ghost use Rattle.std.specs.Prelude.{◌≡◌, IfOk};
 ghost use Rattle.dk_parser.specs.Parsing.{behind_term, advanced, takes, term_argument, term_done, term_ends, term_goes, term_next};
 ghost use Rattle.dk_parser.specs.Parsing as plain;
 ghost use Rattle.dk_parser.specs.Views.{is_in_term, plain_command, plain_due, plain_purpose, plain_step, plain_term};
-ghost use Rattle.dk_parser.specs.RawViews.{written};
+ghost use Rattle.dk_parser.specs.RawViews.{written, written_form};
 
 use crate::head::Head;
-use crate::left_so_far::LeftSoFar;
 use crate::rule_head::RuleHead;
-use crate::term_so_far::TermSoFar;
-use crate::terminal::Terminal;
-use crate::{RawForm, RawPat, RawTerm};
+use crate::{Raw, RawForm};
 use dk_lexer::Sign;
 use dk_model::{Listed, NoMemory, SymSort};
+use dk_terms::{LeftSoFar, RawPat, RawTerm, TermSoFar, Terminal};
 use std::alloc::Global;
 use std::mem::replace;
 
@@ -80,7 +78,8 @@ pub enum Advance {
     /// It goes on. The level that the terminal stands on, or the number of the argument that it
     /// begins, whichever is greater.
     Goes(u64),
-    Ends(RawForm),
+    /// This command ends; its line is still to be told.
+    Ends(Box<Raw>),
     /// No command begins so.
     Refuses,
 }
@@ -152,6 +151,13 @@ impl CommandSoFar {
         self.goes(level, Due::Term(purpose))
     }
 
+    // The command ends with this form.
+    pub(crate) fn ends(&self, alloc: Global, form: RawForm) -> Result<Advance, NoMemory>
+        ensures { IfOk result (λ step. plain_step step self.now ≡ plain.ends (written_form form)) }
+    {
+        Ok(Advance::Ends(Box::new(alloc, Raw { line: 0, form })?))
+    }
+
     // The first terminal of a command.
     fn command_next(&mut self, alloc: Global, x: Terminal) -> Advance
         ensures { plain_step result self.new ≡ advanced plain.command_due x }
@@ -215,8 +221,8 @@ impl CommandSoFar {
     {
         match purpose {
             Purpose::Param(binder) => self.param_read(binder, term, x),
-            Purpose::Type => Ok(self.type_read(alloc, term, x)),
-            Purpose::Body(typ) => Ok(self.body_read(alloc, typ, term, x)),
+            Purpose::Type => self.type_read(alloc, term, x),
+            Purpose::Body(typ) => self.body_read(alloc, typ, term, x),
             Purpose::Entry(name) => self.entry_read(alloc, name, Some(term), x),
             Purpose::Guard => self.guard_read(alloc, term, x),
             Purpose::Right(left) => self.rule_read(alloc, left, term, x),

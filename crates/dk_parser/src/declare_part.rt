@@ -5,13 +5,11 @@ ghost use Rattle.dk_parser.specs.Parsing as plain;
 ghost use Rattle.dk_parser.specs.Views.{plain_head, plain_step};
 ghost use Rattle.dk_parser.specs.RawViews.{maybe_written, written};
 
-use crate::RawTerm;
 use crate::command_so_far::{Advance, CommandSoFar, Due, Purpose};
-use crate::frames::next;
 use crate::head::Head;
-use crate::terminal::Terminal;
 use dk_lexer::Sign;
 use dk_model::{Listed, NoMemory, SymSort};
+use dk_terms::{RawTerm, Terminal, next};
 use std::alloc::Global;
 use std::mem::replace;
 
@@ -119,13 +117,16 @@ impl CommandSoFar {
     }
 
     // The dot behind the type.
-    fn dot_behind_type(&mut self, alloc: Global, typ: RawTerm) -> Advance
-        ensures { plain_step result self.new
-            ≡ dot_behind_type self.old.head.sort (plain_head self.old.head) (written typ) }
+    fn dot_behind_type(&mut self, alloc: Global, typ: RawTerm) -> Result<Advance, NoMemory>
+        ensures { IfOk result (λ step. plain_step step self.new
+            ≡ dot_behind_type self.old.head.sort (plain_head self.old.head) (written typ)) }
     {
         match self.head.sort {
-            SymSort::Theorem => Advance::Refuses,
-            _ => Advance::Ends(self.taken_head(alloc).declared(Some(typ), None)),
+            SymSort::Theorem => Ok(Advance::Refuses),
+            _ => {
+                let form = self.taken_head(alloc).declared(Some(typ), None);
+                self.ends(alloc, form)
+            }
         }
     }
 
@@ -158,14 +159,19 @@ impl CommandSoFar {
     }
 
     // A terminal behind the type of a declaration.
-    pub(crate) fn type_read(&mut self, alloc: Global, typ: RawTerm, x: Terminal) -> Advance
-        ensures { plain_step result self.new
-            ≡ behind_term (plain.as_type (plain_head self.old.head)) (written typ) x }
+    pub(crate) fn type_read(
+        &mut self,
+        alloc: Global,
+        typ: RawTerm,
+        x: Terminal,
+    ) -> Result<Advance, NoMemory>
+        ensures { IfOk result (λ step. plain_step step self.new
+            ≡ behind_term (plain.as_type (plain_head self.old.head)) (written typ) x) }
     {
         match x {
             Terminal::Sign(Sign::Dot) => self.dot_behind_type(alloc, typ),
-            Terminal::Sign(Sign::Defined) => self.body_behind_type(alloc, typ),
-            _ => Advance::Refuses,
+            Terminal::Sign(Sign::Defined) => Ok(self.body_behind_type(alloc, typ)),
+            _ => Ok(Advance::Refuses),
         }
     }
 
@@ -176,16 +182,17 @@ impl CommandSoFar {
         typ: Option<RawTerm>,
         body: RawTerm,
         x: Terminal,
-    ) -> Advance
-        ensures { plain_step result self.new
+    ) -> Result<Advance, NoMemory>
+        ensures { IfOk result (λ step. plain_step step self.new
             ≡ behind_term (plain.as_body (plain_head self.old.head) (maybe_written typ))
-            (written body) x }
+            (written body) x) }
     {
         match x {
             Terminal::Sign(Sign::Dot) => {
-                Advance::Ends(self.taken_head(alloc).declared(typ, Some(body)))
+                let form = self.taken_head(alloc).declared(typ, Some(body));
+                self.ends(alloc, form)
             }
-            _ => Advance::Refuses,
+            _ => Ok(Advance::Refuses),
         }
     }
 }

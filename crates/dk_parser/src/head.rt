@@ -5,8 +5,9 @@ ghost use Rattle.dk_parser.specs.Views.{plain_head};
 ghost use Rattle.dk_parser.specs.Written.{written_declare};
 ghost use Rattle.dk_parser.specs.RawViews.{maybe_written, written, written_form};
 
-use crate::{RawForm, RawParam, RawTerm};
+use crate::{RawForm, RawParam};
 use dk_model::{Listed, NoMemory, SymSort};
+use dk_terms::RawTerm;
 use std::alloc::Global;
 
 /// The sort, the name and the parameters so far.

@@ -5,19 +5,14 @@
 
 mod command_so_far;
 mod declare_part;
-mod frames;
 mod head;
 mod laws;
-mod left_application;
-mod left_so_far;
 mod parser;
 mod raw;
 mod rule_head;
 mod rule_part;
-mod term_so_far;
-mod terminal;
 
+pub use dk_terms::{RawBare, RawBinding, RawPair, RawPat, RawQualified, RawTerm, Terminal};
 pub use laws::{grammar_law, reading_law};
 pub use parser::{ParseFault, Parser, Step};
-pub use raw::{Raw, RawForm, RawNote, RawParam, RawPat, RawRule, RawTerm};
-pub use terminal::Terminal;
+pub use raw::{Raw, RawForm, RawNote, RawParam, RawRule};

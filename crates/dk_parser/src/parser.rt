@@ -10,9 +10,9 @@ ghost use Rattle.dk_parser.specs.Views.{CameTo, HasRead, parsing};
 
 use crate::Raw;
 use crate::command_so_far::{Advance, CommandSoFar, Due};
-use crate::terminal::Terminal;
 use dk_lexer::Token;
 use dk_model::{Code, Fault, Limits, NoMemory};
+use dk_terms::Terminal;
 use std::alloc::Global;
 
 /// Why `feed` gave no step.
@@ -24,7 +24,7 @@ pub enum Step {
     /// The command goes on.
     More,
     /// The token ended this command.
-    Command(Raw),
+    Command(Box<Raw>),
 }
 
 /// Reads commands from tokens that come one at a time.
@@ -107,10 +107,12 @@ impl Parser {
     {
         match self.part.next(alloc, x)? {
             Advance::Goes(made) => self.goes(line, made),
-            Advance::Ends(form) => {
+            Advance::Ends(command) => {
+                let mut command = command;
+                command.line = line;
                 self.begun = None;
                 self.part.due = Due::Command;
-                Ok(Step::Command(Raw { line, form }))
+                Ok(Step::Command(command))
             }
             Advance::Refuses => self.refuse(line, Code::E02),
         }

@@ -1,5 +1,6 @@
 //! Commands as they are written, before scoping (docs/syntax.md).
 use dk_model::{Listed, SymSort};
+use dk_terms::{RawPat, RawTerm};
 
 /// A command and the line of its first token, from 1.
 #[derive(Drop)]
@@ -46,35 +47,4 @@ pub struct RawRule {
 pub struct RawNote {
     pub name: Listed<u8>,
     pub note: Option<RawTerm>,
-}
-
-/// A term as written. Names keep their spelling; brackets are gone.
-#[derive(Drop)]
-pub enum RawTerm {
-    Name(Listed<u8>),
-    /// A module and a name in it.
-    Qualified(Listed<u8>, Listed<u8>),
-    /// The word `Type`.
-    Star,
-    /// The wildcard.
-    Wild,
-    App(Box<RawTerm>, Box<RawTerm>),
-    /// `A -> B`.
-    Arrow(Box<RawTerm>, Box<RawTerm>),
-    /// `binder : A -> B`. A binder that is None is the wildcard.
-    Prod(Option<Listed<u8>>, Box<RawTerm>, Box<RawTerm>),
-    /// `binder => t`, or `binder : A => t`.
-    Abs(Option<Listed<u8>>, Option<Box<RawTerm>>, Box<RawTerm>),
-}
-
-/// A pattern as written.
-#[derive(Drop)]
-pub enum RawPat {
-    Name(Listed<u8>),
-    Qualified(Listed<u8>, Listed<u8>),
-    Wild,
-    /// `{t}`.
-    Guard(RawTerm),
-    App(Box<RawPat>, Box<RawPat>),
-    Abs(Option<Listed<u8>>, Box<RawPat>),
 }

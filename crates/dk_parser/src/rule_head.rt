@@ -5,8 +5,9 @@ ghost use Rattle.dk_parser.specs.Parsing.{no_rules, with_entry, with_rule};
 ghost use Rattle.dk_parser.specs.Views.{plain_rule_head};
 ghost use Rattle.dk_parser.specs.RawViews.{maybe_written, written, written_pattern};
 
-use crate::{RawNote, RawPat, RawRule, RawTerm};
+use crate::{RawNote, RawRule};
 use dk_model::{Listed, NoMemory};
+use dk_terms::{RawPat, RawTerm};
 use std::alloc::Global;
 use std::mem::replace;
 

@@ -6,13 +6,12 @@ ghost use Rattle.dk_parser.specs.Parsing as plain;
 ghost use Rattle.dk_parser.specs.Views.{maybe_pattern, plain_left, plain_rule_head, plain_step};
 ghost use Rattle.dk_parser.specs.RawViews.{maybe_written, written, written_pattern};
 
+use crate::RawForm;
 use crate::command_so_far::{Advance, CommandSoFar, Due, Purpose};
-use crate::frames::next;
 use crate::rule_head::RuleHead;
-use crate::terminal::Terminal;
-use crate::{RawForm, RawPat, RawTerm};
 use dk_lexer::Sign;
 use dk_model::{Listed, NoMemory};
+use dk_terms::{RawPat, RawTerm, Terminal, next};
 use std::alloc::Global;
 use std::mem::replace;
 
@@ -198,17 +197,18 @@ impl CommandSoFar {
     }
 
     // A terminal behind a rule.
-    fn behind_rule(&mut self, alloc: Global, x: Terminal) -> Advance
-        ensures { plain_step result self.new ≡ behind_rule (plain_rule_head self.old.rules) x }
+    fn behind_rule(&mut self, alloc: Global, x: Terminal) -> Result<Advance, NoMemory>
+        ensures { IfOk result (λ step. plain_step step self.new
+            ≡ behind_rule (plain_rule_head self.old.rules) x) }
     {
         match x {
             Terminal::Sign(Sign::Dot) => {
                 let RuleHead { rules, context: _ } = replace(&mut self.rules, RuleHead::new(alloc));
-                Advance::Ends(RawForm::Rules(rules))
+                self.ends(alloc, RawForm::Rules(rules))
             }
-            Terminal::Sign(Sign::OpenSquare) => self.goes(0, Due::Context),
-            Terminal::Sign(Sign::OpenBrace) => self.goes(0, Due::RuleName),
-            _ => Advance::Refuses,
+            Terminal::Sign(Sign::OpenSquare) => Ok(self.goes(0, Due::Context)),
+            Terminal::Sign(Sign::OpenBrace) => Ok(self.goes(0, Due::RuleName)),
+            _ => Ok(Advance::Refuses),
         }
     }
 
@@ -224,6 +224,6 @@ impl CommandSoFar {
             (with_rule (plain_rule_head self.old.rules) (written_pattern left) (written right)) x) }
     {
         self.rules.rule(alloc, left, right)?;
-        Ok(self.behind_rule(alloc, x))
+        self.behind_rule(alloc, x)
     }
 }

@@ -5,11 +5,11 @@ use Rattle.dk_model.specs.declared.code.Code.{Code}
 use Rattle.dk_model.specs.declared.code.Code.TheVariants.{E04}
 use Rattle.dk_model.specs.declared.limits.Limits.{Limits}
 use Rattle.dk_lexer.specs.declared.token.Token.{Token}
-use Rattle.dk_parser.specs.declared.terminal.Terminal.{Terminal}
-use Rattle.dk_parser.specs.declared.terminal.Terminal.TheVariants as terminal
+use Rattle.dk_terms.specs.declared.terminal.Terminal.{Terminal}
+use Rattle.dk_terms.specs.declared.terminal.Terminal.TheVariants as terminal
 use Rattle.dk_parser.specs.Parsing.{Answer, CommandSoFar, Advance, Parsing, answered, command, commands_from, ends, goes, more, parsing_after, parsing_from, advanced, refused, refuses, started, turn, turn_by_fault, turn_by_step, turn_by_terminal, turn_refused}
 use Rattle.dk_parser.specs.Steps.{read_tokens}
-use Rattle.dk_parser.specs.Terminals.{terminal_of}
+use Rattle.dk_terms.specs.Terminals.{terminal_of}
 use Rattle.dk_parser.proofs.Exact.{commands_append, parsing_append}
 use Rattle.file_report.specs.Memory.{next_line}
 

@@ -60,7 +60,7 @@ impl Reader {
         let line = self.parser.begun().unwrap_or(token.line);
         match self.parser.feed(alloc, token) {
             Ok(Step::More) => Ok(()),
-            Ok(Step::Command(raw)) => match judge.command(alloc, raw) {
+            Ok(Step::Command(raw)) => match judge.command(alloc, Box::into_inner(raw)) {
                 Ok(()) => Ok(()),
                 Err(Over) => Err(Halt::Judged),
             },

@@ -4,7 +4,7 @@ use Rattle.std.specs.Borrow.{Bor}
 use Rattle.dk_model.specs.Scoping.{PlainLeft, left_apply}
 use Rattle.dk_parser.specs.RawViews.{written_pattern}
 use Rattle.dk_parser.specs.Written.{WrittenPattern, pattern_apply}
-use Rattle.dk_parser.specs.declared.raw.RawPat.{RawPat}
+use Rattle.dk_terms.specs.declared.raw.RawPat.{RawPat}
 use Rattle.scope_terms.specs.Scopes.{left_of}
 use Rattle.scope_terms.specs.Binding.{binders}
 use Rattle.dk_model.specs.declared.code.Fault.{Fault}

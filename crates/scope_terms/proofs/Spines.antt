@@ -4,7 +4,7 @@ use Rattle.std.specs.Borrow.{Bor}
 use Rattle.dk_model.specs.Trees.{Tree, apply}
 use Rattle.dk_parser.specs.RawViews.{written}
 use Rattle.dk_parser.specs.Written.{Written, written_apply}
-use Rattle.dk_parser.specs.declared.raw.RawTerm.{RawTerm}
+use Rattle.dk_terms.specs.declared.raw.RawTerm.{RawTerm}
 use Rattle.scope_terms.specs.Scopes.{term_of}
 use Rattle.scope_terms.specs.Binding.{binders}
 use Rattle.dk_model.specs.declared.code.Fault.{Fault}

@@ -5,8 +5,8 @@ use Rattle.dk_model.specs.Scoping.{PlainLeft, PlainScopedRule, PlainCommand, pla
 use Rattle.dk_model.specs.declared.scoped.ScopedRule.{ScopedRule}
 use Rattle.dk_parser.specs.RawViews.{written, maybe_written, written_pattern, written_param, written_note, written_rule, written_form}
 use Rattle.dk_parser.specs.declared.raw.Raw.{Raw}
-use Rattle.dk_parser.specs.declared.raw.RawTerm.{RawTerm}
-use Rattle.dk_parser.specs.declared.raw.RawPat.{RawPat}
+use Rattle.dk_terms.specs.declared.raw.RawTerm.{RawTerm}
+use Rattle.dk_terms.specs.declared.raw.RawPat.{RawPat}
 use Rattle.dk_parser.specs.declared.raw.RawParam.{RawParam}
 use Rattle.dk_parser.specs.declared.raw.RawNote.{RawNote}
 use Rattle.dk_parser.specs.declared.raw.RawRule.{RawRule}

@@ -5,8 +5,8 @@ use Rattle.dk_model.specs.Trees.{Tree, apply}
 use Rattle.dk_model.specs.Scoping.{PlainLeft, left_apply}
 use Rattle.dk_parser.specs.RawViews.{written, written_pattern}
 use Rattle.dk_parser.specs.Written.{Written, written_apply, written_arrow, written_product, written_bare, written_annotated, WrittenPattern, pattern_apply, pattern_bare}
-use Rattle.dk_parser.specs.declared.raw.RawTerm.{RawTerm}
-use Rattle.dk_parser.specs.declared.raw.RawPat.{RawPat}
+use Rattle.dk_terms.specs.declared.raw.RawTerm.{RawTerm}
+use Rattle.dk_terms.specs.declared.raw.RawPat.{RawPat}
 use Rattle.scope_terms.specs.Scopes.{Scoping, both}
 use Rattle.scope_terms.specs.Meanings.{term_sense, left_sense}
 use Rattle.scope_terms.specs.declared.binders.Binders.{Binders}

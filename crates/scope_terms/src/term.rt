@@ -48,10 +48,9 @@ fn spine<'a>(
     let mut head = f;
     loop {
         match head {
-            RawTerm::App(g, b) => {
-                let b: &'a RawTerm = b;
-                arguments.push(b)?;
-                head = g;
+            RawTerm::App(pair) => {
+                arguments.push(&pair.second)?;
+                head = &pair.first;
             }
             other => return Ok((other, arguments)),
         }
@@ -73,11 +72,11 @@ pub(crate) fn term_at<'a>(
 {
     match raw {
         RawTerm::Name(name) => name_at(scope, name, bound),
-        RawTerm::Qualified(_, _) => Err(Fault::Refused(Code::E10)),
+        RawTerm::Qualified(_) => Err(Fault::Refused(Code::E10)),
         RawTerm::Star => Ok(Term::Star),
         RawTerm::Wild => Err(Fault::Refused(Code::E12)),
-        RawTerm::App(f, a) => {
-            let (head, arguments) = spine(alloc, f, a)?;
+        RawTerm::App(pair) => {
+            let (head, arguments) = spine(alloc, &pair.first, &pair.second)?;
             let mut arguments = arguments;
             let mut whole = term_at(alloc, scope, head, bound)?;
             while let Some(argument) = arguments.pop() {
@@ -86,27 +85,27 @@ pub(crate) fn term_at<'a>(
             }
             Ok(whole)
         }
-        RawTerm::Arrow(a, b) => {
-            let a = term_at(alloc, scope, a, bound)?;
+        RawTerm::Arrow(pair) => {
+            let a = term_at(alloc, scope, &pair.first, bound)?;
             let under = under(None, bound)?;
-            let b = term_at(alloc, scope, b, &under)?;
+            let b = term_at(alloc, scope, &pair.second, &under)?;
             Ok(make_product(alloc, a, b)?)
         }
-        RawTerm::Prod(x, a, b) => {
-            let a = term_at(alloc, scope, a, bound)?;
-            let under = under(x.as_ref(), bound)?;
-            let b = term_at(alloc, scope, b, &under)?;
+        RawTerm::Prod(binding) => {
+            let a = term_at(alloc, scope, &binding.domain, bound)?;
+            let under = under(binding.binder.as_ref(), bound)?;
+            let b = term_at(alloc, scope, &binding.body, &under)?;
             Ok(make_product(alloc, a, b)?)
         }
-        RawTerm::Abs(x, None, b) => {
-            let under = under(x.as_ref(), bound)?;
-            let b = term_at(alloc, scope, b, &under)?;
+        RawTerm::Bare(bare) => {
+            let under = under(bare.binder.as_ref(), bound)?;
+            let b = term_at(alloc, scope, &bare.body, &under)?;
             Ok(make_bare(alloc, b)?)
         }
-        RawTerm::Abs(x, Some(a), b) => {
-            let a = term_at(alloc, scope, a, bound)?;
-            let under = under(x.as_ref(), bound)?;
-            let b = term_at(alloc, scope, b, &under)?;
+        RawTerm::Annotated(binding) => {
+            let a = term_at(alloc, scope, &binding.domain, bound)?;
+            let under = under(binding.binder.as_ref(), bound)?;
+            let b = term_at(alloc, scope, &binding.body, &under)?;
             Ok(make_annotated(alloc, a, b)?)
         }
     }

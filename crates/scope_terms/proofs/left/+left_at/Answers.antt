@@ -2,7 +2,7 @@ use Rattle.std.proofs.Common.{◌≡◌, ◌<◌, List, [], ◌∷◌, ◌++◌,
 use Rattle.std.specs.Borrow.{Bor}
 use Rattle.dk_model.specs.Scoping.{plain_left}
 use Rattle.dk_parser.specs.RawViews.{written_pattern}
-use Rattle.dk_parser.specs.declared.raw.RawPat.{RawPat}
+use Rattle.dk_terms.specs.declared.raw.RawPat.{RawPat}
 use Rattle.scope_terms.specs.Scopes.{scoped}
 use Rattle.scope_terms.specs.Meanings.{left_sense}
 use Rattle.scope_terms.specs.Spines.{pattern_references, pattern_size, total_pattern_size, left_spine_sense}

@@ -2,7 +2,7 @@ use Rattle.std.proofs.Common.{◌≡◌, ◌<◌, List, [], ◌∷◌, ◌++◌,
 use Rattle.std.specs.Borrow.{Bor}
 use Rattle.dk_model.specs.Trees.{tree}
 use Rattle.dk_parser.specs.RawViews.{written}
-use Rattle.dk_parser.specs.declared.raw.RawTerm.{RawTerm}
+use Rattle.dk_terms.specs.declared.raw.RawTerm.{RawTerm}
 use Rattle.scope_terms.specs.Scopes.{scoped}
 use Rattle.scope_terms.specs.Meanings.{term_sense}
 use Rattle.scope_terms.specs.Spines.{written_references, size, total_size, spine_sense}

@@ -4,7 +4,9 @@ use Rattle.dk_model.specs.declared.code.Code.{Code}
 use Rattle.dk_lexer.specs.Tokens.{tokens}
 use Rattle.dk_parser.specs.FileReading.{fault}
 use Rattle.dk_parser.specs.Steps.{read_tokens}
-use Rattle.file_reader.specs.Progress.{TokensSettle}
+use Rattle.dk_parser.specs.RawViews.{written_command}
+use Rattle.dk_parser.specs.declared.raw.Raw.{Raw}
+use Rattle.file_reader.specs.Progress.{BeginsWith, TokensSettle}
 use Rattle.file_reader.proofs.Stands.{command_begins, fault_settles, memory_stands}
 use Rattle.file_reader.proofs.reader.Reader.token.Goals as goal
 
@@ -13,7 +15,11 @@ begun_is b l d line is line_is = ap Some (line_is ∙ ap (λ o. unwrap_or o d) i
 
 pub returns-in-Err-clause-stands : goal.returns-in-Err-clause-stands
 returns-in-Err-clause-stands g c = λ bounds limits bytes ending taken coming all goes.
-    (_, c.in-Err.ensures.stops bounds _ goes.behind, command_begins limits bytes ending taken coming c.args.token all _ (rw c.in-Ok-Command.field-0-is at c.in-Ok-Command.ensures.adds limits taken goes.parser))
+    let adds = (rw c.in-Ok-Command.field-0-is at c.in-Ok-Command.ensures.adds limits taken goes.parser) in (
+      _,
+      c.in-Err.ensures.stops bounds _ goes.behind,
+      subst (λ (raw : Raw). BeginsWith limits bytes ending ((read_tokens limits taken).commands ++ written_command raw ∷ [])) (sym c.into_inner.ensures) (command_begins limits bytes ending taken coming c.args.token all _ adds),
+    )
 
 pub returns-in-Err-Refused-clause-stands : goal.returns-in-Err-Refused-clause-stands
 returns-in-Err-Refused-clause-stands g c = λ bounds limits bytes ending taken coming all goes.

@@ -1,0 +1,36 @@
+-- Trusted: the terminal of a token.
+use Rattle.std.specs.Prelude.{ℕ, ◌+◌, Bool, List, ◌==◌, length, take, drop, position, unwrap_or}
+use Rattle.dk_lexer.specs.declared.token.Token.{Token}
+use Rattle.dk_lexer.specs.declared.token.TokenKind.{TokenKind}
+use Rattle.dk_lexer.specs.declared.token.TokenKind.TheVariants as kind
+use Rattle.dk_terms.specs.declared.terminal.Terminal.{Terminal}
+use Rattle.dk_terms.specs.declared.terminal.Terminal.TheVariants as terminal
+
+abbrev pub is_dot : ℕ → Bool
+is_dot byte = byte == 46
+
+-- where the first dot of a spelling is, or its length where there is none
+abbrev pub dot_role : List ℕ → ℕ
+dot_role spelling = unwrap_or (position is_dot spelling) (length spelling)
+
+-- the module of a qualified name as spelt: what stands before the first dot
+abbrev pub module_part : List ℕ → List ℕ
+module_part spelling = take (dot_role spelling) spelling
+
+-- the name in that module: what stands behind the first dot
+abbrev pub name_part : List ℕ → List ℕ
+name_part spelling = drop (dot_role spelling + 1) spelling
+
+abbrev pub terminal_by : TokenKind → List ℕ → Terminal
+terminal_by kind.Plain spelling = terminal.Name spelling
+terminal_by kind.Quoted spelling = terminal.Name spelling
+terminal_by kind.Qualified spelling = terminal.Qualified (module_part spelling) (name_part spelling)
+terminal_by kind.Wildcard spelling = terminal.Wildcard
+terminal_by kind.Star spelling = terminal.Star
+terminal_by kind.Def spelling = terminal.Def
+terminal_by kind.Thm spelling = terminal.Thm
+terminal_by kind.Profile spelling = terminal.Profile
+terminal_by (kind.Sign s) spelling = terminal.Sign s
+
+abbrev pub terminal_of : Token → Terminal
+terminal_of token = terminal_by token.kind token.spelling

@@ -1,0 +1,97 @@
+//! Terminals: what a token is to the grammar (docs/grammar.md).
+ghost use Rattle.std.specs.Prelude.{◌≡◌, ◌+◌, IfOk, drop, position, take};
+ghost use Rattle.dk_terms.specs.Terminals.{dot_role, is_dot, module_part, name_part, terminal_of};
+
+use dk_lexer::{Sign, Token, TokenKind};
+use dk_model::{Listed, NoMemory};
+use std::alloc::Global;
+
+/// A token without its place.
+#[derive(Drop)]
+pub enum Terminal {
+    /// A plain or quoted name, as spelt.
+    Name(Listed<u8>),
+    /// A qualified name: the part before the dot, and the part behind it.
+    Qualified(Listed<u8>, Listed<u8>),
+    Wildcard,
+    /// The word `Type`.
+    Star,
+    Def,
+    Thm,
+    /// A word outside the profile.
+    Profile,
+    Sign(Sign),
+}
+
+impl Terminal {
+    /// The terminal of a token. Only a qualified name takes memory.
+    pub fn of(alloc: Global, token: Token) -> Result<Terminal, NoMemory>
+        ensures { IfOk result (λ x. x ≡ terminal_of token) }
+    {
+        let Token {
+            kind,
+            spelling,
+            offset: _,
+            line: _,
+        } = token;
+        match kind {
+            TokenKind::Plain => Ok(Terminal::Name(spelling)),
+            TokenKind::Quoted => Ok(Terminal::Name(spelling)),
+            TokenKind::Qualified => qualified(alloc, spelling),
+            TokenKind::Wildcard => Ok(Terminal::Wildcard),
+            TokenKind::Star => Ok(Terminal::Star),
+            TokenKind::Def => Ok(Terminal::Def),
+            TokenKind::Thm => Ok(Terminal::Thm),
+            TokenKind::Profile => Ok(Terminal::Profile),
+            TokenKind::Sign(sign) => Ok(Terminal::Sign(sign)),
+        }
+    }
+}
+
+// The two parts of a qualified name.
+fn qualified(alloc: Global, spelling: Listed<u8>) -> Result<Terminal, NoMemory>
+    ensures { IfOk result
+        (λ x. x ≡ Terminal.Qualified (module_part spelling) (name_part spelling)) }
+{
+    let bytes = spelling.as_slice();
+    let dot = dot_role(bytes);
+    let module = Listed::from_slice(alloc, before(bytes, dot))?;
+    let name = Listed::from_slice(alloc, behind(bytes, dot))?;
+    Ok(Terminal::Qualified(module, name))
+}
+
+// Where the first dot is.
+fn first_dot(bytes: &[u8]) -> Option<usize>
+    ensures { result ≡ position is_dot bytes.now }
+{
+    bytes.iter().position(|byte| *byte == b'.')
+}
+
+// Where the first dot is, or the length.
+fn dot_role(bytes: &[u8]) -> usize
+    ensures { result ≡ dot_role bytes.now }
+{
+    first_dot(bytes).unwrap_or(bytes.len())
+}
+
+// What stands before a place.
+fn before(bytes: &[u8], role: usize) -> &[u8]
+    ensures { result.now ≡ take role bytes.now }
+{
+    if role < bytes.len() {
+        &bytes[..role]
+    } else {
+        bytes
+    }
+}
+
+// What stands behind a place.
+fn behind(bytes: &[u8], role: usize) -> &[u8]
+    ensures { result.now ≡ drop (role + 1) bytes.now }
+{
+    if role < bytes.len() {
+        &bytes[role + 1..]
+    } else {
+        &[]
+    }
+}
