@@ -60,9 +60,9 @@ pub record Extends (old new : List Node) : Type 0 where
   pub longer : length old ≤ length new
   pub keeps : (i : ℕ) → i < length old → get_or (terms new) i star ≡ get_or (terms old) i star
 
--- one more than the variable is a number that fits
+-- a summary has room for one more than the variable
 abbrev pub HasNext : Node → Type 0
-HasNext (Var k) = k + 1 < 2 ^ 64
+HasNext (Var k) = k + 1 < 2 ^ 32
 HasNext n = Unit {0}
 
 -- the one term, in the pool as it was, is taken to the other, in the pool as it is

@@ -73,12 +73,12 @@ pub(crate) fn stays(nodes: &Nodes, given: &Given<'_>, goal: Goal) -> bool
     let summary = nodes.summary(goal.id);
     match goal.change {
         Change::Shift(0) => true,
-        Change::Shift(_) => summary.bound <= goal.depth,
-        Change::Substitute(_) => summary.bound <= goal.depth,
+        Change::Shift(_) => u64::from(summary.bound) <= goal.depth,
+        Change::Substitute(_) => u64::from(summary.bound) <= goal.depth,
         Change::Erase => !summary.annotations,
         Change::Fill => !summary.rule_variables,
-        Change::Rename => summary.bound <= goal.depth,
-        Change::Raise => summary.bound <= goal.depth,
+        Change::Rename => u64::from(summary.bound) <= goal.depth,
+        Change::Raise => u64::from(summary.bound) <= goal.depth,
     }
 }
 

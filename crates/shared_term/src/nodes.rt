@@ -13,12 +13,12 @@ use std::marker::Model;
 
 const LAST: usize = 0xFFFF_FFFF;
 
-// Whether one more than the variable is a number too, where the node is a variable.
+// Whether a summary has room for one more than the variable, where the node is a variable.
 fn has_next(node: Node) -> bool
     ensures { IsTrue result ↔ HasNext node }
 {
     match node {
-        NodeOf::Var(k) => k < u64::MAX,
+        NodeOf::Var(k) => k < u64::from(u32::MAX),
         _ => true,
     }
 }

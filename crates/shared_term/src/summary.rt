@@ -10,7 +10,7 @@ use dk_model::NodeOf;
 #[derive(Clone, Copy)]
 pub(crate) struct Summary {
     /// Each variable that isn't bound in the term lies below it.
-    pub(crate) bound: u64,
+    pub(crate) bound: u32,
     /// Whether a rule variable stands in it.
     pub(crate) rule_variables: bool,
     /// Whether an abstraction in it has an annotation.
@@ -40,7 +40,7 @@ pub(crate) fn summary_of(summaries: &[Summary], node: Node) -> Summary
             annotations: false,
         },
         NodeOf::Var(k) => Summary {
-            bound: k + 1,
+            bound: k as u32 + 1,
             rule_variables: false,
             annotations: false,
         },
