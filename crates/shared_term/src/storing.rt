@@ -72,6 +72,11 @@ fn needed(pool: &Pool, id: TermId) -> Result<Vec<bool>, NoMemory>
     Ok(marks)
 }
 
+// How many places are marked.
+fn marked(marks: &[bool]) -> usize {
+    marks.iter().filter(|mark| **mark).count()
+}
+
 // Copies the node at place `at`, whose parts have been.
 fn copied(
     pool: &Pool,
@@ -103,8 +108,8 @@ pub(crate) fn stored(pool: &Pool, id: TermId) -> Result<Stored, NoMemory>
 {
     let alloc = pool.alloc();
     let marks = needed(pool, id)?;
-    let mut nodes = Vec::new(alloc);
-    let mut places = Vec::new(alloc);
+    let mut nodes = Vec::with_capacity(alloc, marked(marks.as_slice()))?;
+    let mut places = Vec::with_capacity(alloc, marks.len())?;
     for at in 0..marks.len() {
         if marks[at] {
             copied(
