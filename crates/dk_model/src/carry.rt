@@ -41,7 +41,7 @@ fn carry_notes<C: Carry>(
 ) -> Result<Listed<Option<C::Target>>, NoMemory>
     ensures { IfOk result (λ ts. map (maybe_by C.made_tree) ts ≡ map (maybe_by C.read_tree) notes.now) }
 {
-    let mut carried = Listed::new(alloc);
+    let mut carried = Listed::from_vec(Vec::with_capacity(alloc, notes.len())?);
     for note in notes {
         carried.push(carry_maybe::<C>(alloc, note)?)?;
     }
@@ -83,7 +83,7 @@ fn carry_patterns<C: Carry>(
     ensures { IfOk result (λ ps. map (pattern_by C.made_tree) ps
         ≡ map (pattern_by C.read_tree) patterns.now) }
 {
-    let mut carried = Listed::new(alloc);
+    let mut carried = Listed::from_vec(Vec::with_capacity(alloc, patterns.len())?);
     for pattern in patterns {
         carried.push(carry_pattern::<C>(alloc, pattern)?)?;
     }
@@ -113,7 +113,7 @@ pub fn carry_rules<C: Carry>(
 ) -> Result<Listed<Rule<C::Target>>, NoMemory>
     ensures { IfOk result (λ rs. map (rule_by C.made_tree) rs ≡ map (rule_by C.read_tree) rules.now) }
 {
-    let mut carried = Listed::new(alloc);
+    let mut carried = Listed::from_vec(Vec::with_capacity(alloc, rules.len())?);
     for rule in rules {
         carried.push(carry_rule::<C>(alloc, rule)?)?;
     }

@@ -35,7 +35,7 @@ fn erased_pattern(alloc: Global, pattern: &Pat) -> Result<Pat, NoMemory>
 fn erased_patterns(alloc: Global, patterns: &[Pat]) -> Result<Listed<Pat>, NoMemory>
     ensures { IfOk result (λ ps. map plain ps ≡ map erased_pattern (map plain patterns.now)) }
 {
-    let mut erased = Listed::new(alloc);
+    let mut erased = Listed::from_vec(Vec::with_capacity(alloc, patterns.len())?);
     for pattern in patterns {
         erased.push(erased_pattern(alloc, pattern)?)?;
     }
@@ -66,7 +66,7 @@ fn erased_rule(alloc: Global, rule: Rule) -> Result<Rule, NoMemory>
 pub fn erase_all(alloc: Global, rules: Listed<Rule>) -> Result<Listed<Rule>, NoMemory>
     ensures { IfOk result (λ rs. map plain_rule rs ≡ map erased_rule (map plain_rule rules)) }
 {
-    let mut erased = Listed::new(alloc);
+    let mut erased = Listed::from_vec(Vec::with_capacity(alloc, rules.len())?);
     for rule in rules.into_vec() {
         erased.push(erased_rule(alloc, rule)?)?;
     }
