@@ -10,7 +10,7 @@ use Rattle.dk_lexer.specs.declared.token.Sign.TheVariants as sign
 use Rattle.dk_terms.specs.declared.terminal.Terminal.{Terminal}
 use Rattle.dk_terms.specs.declared.terminal.Terminal.TheVariants as terminal
 use Rattle.dk_terms.specs.Terminals.{terminal_of}
-use Rattle.dk_parser.specs.Written.{Written, written_name, written_qualified, written_star, written_wild, written_apply, written_arrow, written_product, written_bare, written_annotated, WrittenParam, WrittenPattern, pattern_name, pattern_qualified, pattern_wild, pattern_guard, pattern_apply, pattern_bare, WrittenNote, WrittenRule, WrittenForm, written_declare, written_rules, WrittenCommand}
+use Rattle.dk_parser.specs.Written.{Written, WrittenParam, WrittenPattern, pattern_guard, WrittenNote, WrittenRule, WrittenForm, written_declare, written_rules, WrittenCommand}
 use Rattle.dk_parser.specs.Grammar.{param, entry, rule}
 pub use Rattle.dk_terms.specs.Parsing.{Role, at_front, domain, Application, due, bindable, applied, bracketed, Frame, bracket_frame, arrow_frame, product_frame, bare_frame, annotated_frame, Frames, bottom, on, TermSoFar, term_due, depth, pushed, binder_term, atoms, application_more, application_binder, takes_atom, application_term, in_frames, Around, around_term, around_bracket, around, unwound_by, unwound, unwound_all_by, unwound_all, next_open, next_close_term, next_close_domain, next_close, next_colon, framed, next_arrow, next_double_arrow, term_next, term_argument, application_ended, term_done, in_bracket, takes, LeftApplication, pattern_due, pattern_bindable, pattern_applied, Binders, no_binders, binder_on, PatternFrames, no_bracket, bracket_on, LeftSoFar, left_due, pattern_depth, pattern_atoms, binder_pattern, pattern_more, pattern_binder, left_pattern, under_binders, with_atom, with_binder, pattern_opened, pattern_closed, pattern_bound, pattern_next, pattern_argument, done_outside, pattern_done}
 

@@ -1,5 +1,5 @@
 -- For proofs: the parser and its parts as plain data.
-use Rattle.std.specs.Prelude.{◌≡◌, ℕ, Bool, true, false, List, [], ◌∷◌, Option, Some, None, Result, Ok, Err, map}
+use Rattle.std.specs.Prelude.{◌≡◌, Bool, false, List, Result, Ok, Err, map}
 use Rattle.dk_model.specs.declared.code.Fault.{Fault}
 use Rattle.dk_model.specs.declared.code.Fault.TheVariants as fault
 use Rattle.dk_model.specs.declared.limits.Limits.{Limits}
@@ -18,7 +18,7 @@ use Rattle.dk_parser.specs.declared.command_so_far.Advance.TheVariants as advanc
 use Rattle.dk_parser.specs.declared.parser.Parser.{Parser}
 use Rattle.dk_parser.specs.declared.parser.Step.{Step}
 use Rattle.dk_parser.specs.declared.parser.Step.TheVariants as step
-use Rattle.dk_parser.specs.RawViews.{written, maybe_written, written_param, written_pattern, written_note, written_rule, written_form, written_command}
+use Rattle.dk_parser.specs.RawViews.{maybe_written, written_param, written_pattern, written_note, written_rule, written_form, written_command}
 use Rattle.dk_parser.specs.Parsing as plain
 pub use Rattle.dk_terms.specs.Views.{changed, maybe_pattern, plain_role, plain_application, plain_frame, is_bracket, opens_domain, plain_around, frames_on, plain_frames, plain_term, plain_left_application, binders_on, plain_binders, brackets_on, plain_left}
 

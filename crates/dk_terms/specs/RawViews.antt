@@ -1,5 +1,5 @@
 -- For proofs: the plain data of terms and patterns as read.
-use Rattle.std.specs.Prelude.{ℕ, Option, Some, None, List}
+use Rattle.std.specs.Prelude.{Option, Some, None}
 use Rattle.dk_terms.specs.declared.raw.RawTerm.{RawTerm, App', Arrow', Prod', Bare', Annotated'}
 use Rattle.dk_terms.specs.declared.raw.RawTerm.TheVariants.{Name, Qualified, Star, Wild}
 use Rattle.dk_terms.specs.declared.raw.RawPat.{RawPat}
