@@ -23,6 +23,3 @@ mod table;
 mod turn;
 
 pub use state::PoolReducer;
-
-#[cfg(test)]
-mod tests;

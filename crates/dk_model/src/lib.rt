@@ -26,6 +26,3 @@ pub use scoped::{Left, Scoped, ScopedRule};
 pub use signature::{Entry, Pat, Rule, Signature, SymSort};
 pub use stop::{Stop, TypeFault};
 pub use term::{Term, make_annotated, make_app, make_bare, make_product};
-
-#[cfg(test)]
-mod tests;

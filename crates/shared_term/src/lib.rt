@@ -26,6 +26,3 @@ pub use id::{Node, TermId};
 pub use nodes::Nodes;
 pub use pool::Pool;
 pub use stored::Stored;
-
-#[cfg(test)]
-mod tests;

@@ -21,8 +21,6 @@ mod slots;
 mod steps;
 mod storing;
 mod table;
-#[cfg(test)]
-mod tests;
 mod version;
 
 pub use grow::Grow;

@@ -21,6 +21,3 @@ mod trees;
 mod turn;
 
 pub use trees::Trees;
-
-#[cfg(test)]
-mod tests;

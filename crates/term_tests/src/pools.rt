@@ -2,8 +2,9 @@
 ghost use Rattle.std.specs.Prelude.{◌<◌, length, IfOk};
 ghost use Rattle.shared_term.specs.Pools.{Extends, IsWithin};
 
-use crate::{Node, Pool, Stored, TermId};
+use crate::trees::mixed;
 use dk_model::{NoMemory, NodeOf, Term, make_annotated, make_app, make_bare, make_product};
+use shared_term::{Node, Pool, Stored, TermId};
 use std::alloc::Global;
 use std::test::Fail;
 
@@ -12,7 +13,7 @@ fn part(pool: &Pool, places: &[TermId], at: usize) -> Result<TermId, NoMemory>
     ensures { IfOk result (λ id. id.0 < length pool.now) }
 {
     match places.get(at) {
-        Some(id) => if (id.0 as usize) < pool.len() {
+        Some(id) => if (id.number() as usize) < pool.len() {
             Ok(*id)
         } else {
             Err(NoMemory)
@@ -40,11 +41,11 @@ fn node_of(pool: &Pool, places: &[TermId], node: NodeOf<usize>) -> Result<Node, 
 }
 
 // The last node of a list, whose parts go by their places in it.
-fn built(pool: &mut Pool, nodes: &[NodeOf<usize>]) -> Result<TermId, NoMemory>
+fn built(alloc: Global, pool: &mut Pool, nodes: &[NodeOf<usize>]) -> Result<TermId, NoMemory>
     ensures within { IfOk result (λ id. id.0 < length pool.new) }
     ensures keeps { Extends pool.old pool.new }
 {
-    let mut places = Vec::new(pool.alloc());
+    let mut places = Vec::new(alloc);
     let mut last = pool.intern(NodeOf::Star)?;
     for node in nodes {
         let whole = node_of(pool, places.as_slice(), *node)?;
@@ -54,147 +55,40 @@ fn built(pool: &mut Pool, nodes: &[NodeOf<usize>]) -> Result<TermId, NoMemory>
     Ok(last)
 }
 
-// Whether the shifted term is the one written out.
-fn shifts(
-    pool: &mut Pool,
-    cut: u64,
-    by: u64,
-    from: &[NodeOf<usize>],
-    to: &[NodeOf<usize>],
-) -> Result<bool, NoMemory> {
-    let id = built(pool, from)?;
-    let made = pool.shift(id, cut, by)?;
-    let expected = built(pool, to)?;
-    Ok(pool.same(made, expected))
+// Whether shifting, substituting and erasing give what they give for boxed terms.
+fn agrees(alloc: Global, pool: &mut Pool, term: &Term) -> Result<bool, NoMemory> {
+    let id = pool.load(&Stored::from_term(alloc, term)?)?;
+    let shifted = pool.shift(id, 1, 5)?;
+    let put = pool.substitute(id, 0, shifted)?;
+    let erased = pool.erased(put)?;
+    let found = pool.store(erased)?.to_term(alloc)?;
+    let shifted = term.shift(alloc, 1, 5)?;
+    let due = term.substitute(alloc, 0, &shifted)?.erased(alloc)?;
+    Ok(found.equal(&due))
 }
 
 #[test]
-fn shifting_leaves_bound_variables(rt: HostRuntime) -> Result<(), Fail> {
+fn shared_terms_are_changed_as_boxed_ones(rt: HostRuntime) -> Result<(), Fail> {
     let mut pool = Pool::new(rt.alloc())?;
-    // `x : 0 1 -> (y : 2 => 0 3) 0`, where under `x` and `y` 3 is the variable 1 around.
-    let from = [
-        NodeOf::Var(0),
-        NodeOf::Var(1),
-        NodeOf::App(0, 1),
-        NodeOf::Var(2),
-        NodeOf::Var(3),
-        NodeOf::App(0, 4),
-        NodeOf::Abs(Some(3), 5),
-        NodeOf::App(6, 0),
-        NodeOf::Prod(2, 7),
-    ];
-    let to = [
-        NodeOf::Var(0),
-        NodeOf::Var(6),
-        NodeOf::App(0, 1),
-        NodeOf::Var(7),
-        NodeOf::Var(8),
-        NodeOf::App(0, 4),
-        NodeOf::Abs(Some(3), 5),
-        NodeOf::App(6, 0),
-        NodeOf::Prod(2, 7),
-    ];
-    assert!(rt; shifts(&mut pool, 1, 5, &from, &to)?);
-    assert!(rt; shifts(&mut pool, 2, 5, &from, &from)?);
-    Ok(())
-}
-
-// Whether the substituted term is the one written out.
-fn substitutes(
-    pool: &mut Pool,
-    depth: u64,
-    by: Node,
-    from: &[NodeOf<usize>],
-    to: &[NodeOf<usize>],
-) -> Result<bool, NoMemory>
-    requires { IsWithin 0 by }
-{
-    let id = built(pool, from)?;
-    let by = pool.intern(by)?;
-    let made = pool.substitute(id, depth, by)?;
-    let expected = built(pool, to)?;
-    Ok(pool.same(made, expected))
-}
-
-#[test]
-fn substituting_lowers_the_variables_behind(rt: HostRuntime) -> Result<(), Fail> {
-    let mut pool = Pool::new(rt.alloc())?;
-    // `x : 0 1 -> 1 2` at variable 0.
-    let from = [
-        NodeOf::Var(0),
-        NodeOf::Var(1),
-        NodeOf::App(0, 1),
-        NodeOf::Var(2),
-        NodeOf::App(1, 3),
-        NodeOf::Prod(2, 4),
-    ];
-    let by_variable = [
-        NodeOf::Var(4),
-        NodeOf::Var(0),
-        NodeOf::App(0, 1),
-        NodeOf::Var(5),
-        NodeOf::Var(1),
-        NodeOf::App(3, 4),
-        NodeOf::Prod(2, 5),
-    ];
-    let by_type = [
-        NodeOf::Star,
-        NodeOf::Var(0),
-        NodeOf::App(0, 1),
-        NodeOf::Var(1),
-        NodeOf::App(0, 3),
-        NodeOf::Prod(2, 4),
-    ];
-    assert!(rt; substitutes(&mut pool, 0, NodeOf::Var(4), &from, &by_variable)?);
-    assert!(rt; substitutes(&mut pool, 0, NodeOf::Star, &from, &by_type)?);
-    Ok(())
-}
-
-// Whether the erased term is the one written out.
-fn erases(pool: &mut Pool, from: &[NodeOf<usize>], to: &[NodeOf<usize>]) -> Result<bool, NoMemory> {
-    let id = built(pool, from)?;
-    let made = pool.erased(id)?;
-    let expected = built(pool, to)?;
-    Ok(pool.same(made, expected))
-}
-
-#[test]
-fn erasing_removes_annotations_everywhere(rt: HostRuntime) -> Result<(), Fail> {
-    let mut pool = Pool::new(rt.alloc())?;
-    // `(x : Type => y : x => x) -> Kind`.
-    let from = [
-        NodeOf::Star,
-        NodeOf::Var(0),
-        NodeOf::Var(1),
-        NodeOf::Abs(Some(1), 2),
-        NodeOf::Abs(Some(0), 3),
-        NodeOf::Kind,
-        NodeOf::Prod(4, 5),
-    ];
-    let to = [
-        NodeOf::Var(1),
-        NodeOf::Abs(None, 0),
-        NodeOf::Abs(None, 1),
-        NodeOf::Kind,
-        NodeOf::Prod(2, 3),
-    ];
-    assert!(rt; erases(&mut pool, &from, &to)?);
-    assert!(rt; erases(&mut pool, &to, &to)?);
+    let term = mixed(rt.alloc(), 0, 1, 2)?;
+    let as_told = agrees(rt.alloc(), &mut pool, &term);
+    assert!(rt; as_told == Ok(true));
     Ok(())
 }
 
 // Whether the filled term is the one written out, where the first rule variable has a capture and
 // the second has none.
 fn fills(
+    alloc: Global,
     pool: &mut Pool,
     capture: &[NodeOf<usize>],
     from: &[NodeOf<usize>],
     to: &[NodeOf<usize>],
 ) -> Result<bool, NoMemory> {
-    let id = built(pool, from)?;
-    let capture = built(pool, capture)?;
+    let id = built(alloc, pool, from)?;
+    let capture = built(alloc, pool, capture)?;
     let made = pool.filled(id, &[Some(capture), None])?;
-    let expected = built(pool, to)?;
+    let expected = built(alloc, pool, to)?;
     Ok(pool.same(made, expected))
 }
 
@@ -221,21 +115,22 @@ fn captures_take_the_place_of_rule_variables(rt: HostRuntime) -> Result<(), Fail
         NodeOf::Abs(None, 6),
         NodeOf::App(2, 7),
     ];
-    assert!(rt; fills(&mut pool, &capture, &from, &to)?);
+    assert!(rt; fills(rt.alloc(), &mut pool, &capture, &from, &to)?);
     Ok(())
 }
 
 // Whether the renamed term is the one written out.
 fn renames(
+    alloc: Global,
     pool: &mut Pool,
     bound: u64,
     arguments: &[u32],
     from: &[NodeOf<usize>],
     to: &[NodeOf<usize>],
 ) -> Result<bool, NoMemory> {
-    let id = built(pool, from)?;
+    let id = built(alloc, pool, from)?;
     let made = pool.renamed(id, bound, arguments)?;
-    let expected = built(pool, to)?;
+    let expected = built(alloc, pool, to)?;
     Ok(pool.same(made, expected))
 }
 
@@ -258,31 +153,33 @@ fn renaming_gives_variables_by_the_arguments(rt: HostRuntime) -> Result<(), Fail
         NodeOf::Var(4),
         NodeOf::App(2, 3),
     ];
-    assert!(rt; renames(&mut pool, 3, &[0, 2], &from, &to)?);
+    assert!(rt; renames(rt.alloc(), &mut pool, 3, &[0, 2], &from, &to)?);
     Ok(())
 }
 
 // Whether the capture of the part is the one written out.
 fn captures(
+    alloc: Global,
     pool: &mut Pool,
     bound: u64,
     arguments: &[u32],
     from: &[NodeOf<usize>],
     to: &[NodeOf<usize>],
 ) -> Result<bool, NoMemory> {
-    let id = built(pool, from)?;
+    let id = built(alloc, pool, from)?;
     let made = pool.captured(id, bound, arguments)?;
-    let expected = built(pool, to)?;
+    let expected = built(alloc, pool, to)?;
     Ok(pool.same(made, expected))
 }
 
 fn mentions(
+    alloc: Global,
     pool: &mut Pool,
     bound: u64,
     arguments: &[u32],
     from: &[NodeOf<usize>],
 ) -> Result<bool, NoMemory> {
-    let id = built(pool, from)?;
+    let id = built(alloc, pool, from)?;
     pool.mentions_others(id, bound, arguments)
 }
 
@@ -309,9 +206,12 @@ fn captures_are_abstracted_over_their_arguments(rt: HostRuntime) -> Result<(), F
         NodeOf::Abs(None, 5),
         NodeOf::Abs(None, 6),
     ];
-    assert!(rt; captures(&mut pool, 3, &[1, 0], &from, &to)?);
+    assert!(rt; captures(rt.alloc(), &mut pool, 3, &[1, 0], &from, &to)?);
     for (bound, arguments, told) in [(3, [1, 0], false), (3, [0, 0], true), (4, [1, 0], true)] {
-        assert_eq!(rt; mentions(&mut pool, bound, &arguments, &from)?, told);
+        assert_eq!(rt;
+            mentions(rt.alloc(), &mut pool, bound, &arguments, &from)?,
+            told
+        );
     }
     Ok(())
 }
@@ -341,15 +241,16 @@ fn equal_nodes_are_one(rt: HostRuntime) -> Result<(), Fail> {
 
 // Whether a stored term is the same in this pool and in another, and how many nodes it has.
 fn carried(
+    alloc: Global,
     pool: &mut Pool,
     other: &mut Pool,
     from: &[NodeOf<usize>],
 ) -> Result<(bool, usize), NoMemory> {
-    let id = built(pool, from)?;
+    let id = built(alloc, pool, from)?;
     let stored = pool.store(id)?;
     let back = pool.load(&stored)?;
     let there = other.load(&stored)?;
-    let expected = built(other, from)?;
+    let expected = built(alloc, other, from)?;
     Ok((
         pool.same(back, id) && other.same(there, expected),
         stored.len(),
@@ -368,9 +269,17 @@ fn a_stored_term_has_each_node_once(rt: HostRuntime) -> Result<(), Fail> {
         NodeOf::Abs(Some(2), 1),
         NodeOf::Prod(4, 2),
     ];
-    assert_eq!(rt; carried(&mut pool, &mut other, &from)?, (true, 4));
     assert_eq!(rt;
-        carried(&mut pool, &mut other, &[NodeOf::Sym(0), NodeOf::App(0, 0)])?,
+        carried(rt.alloc(), &mut pool, &mut other, &from)?,
+        (true, 4)
+    );
+    assert_eq!(rt;
+        carried(
+            rt.alloc(),
+            &mut pool,
+            &mut other,
+            &[NodeOf::Sym(0), NodeOf::App(0, 0)]
+        )?,
         (true, 2)
     );
     Ok(())
@@ -386,8 +295,7 @@ fn boxed(alloc: Global) -> Result<Term, NoMemory> {
 }
 
 // Whether it comes back from a list of its own, by way of the pool too.
-fn unboxed(pool: &mut Pool, term: &Term) -> Result<bool, NoMemory> {
-    let alloc = pool.alloc();
+fn unboxed(alloc: Global, pool: &mut Pool, term: &Term) -> Result<bool, NoMemory> {
     let stored = Stored::from_term(alloc, term)?;
     let id = pool.load(&stored)?;
     let first = stored.copy(alloc)?.to_term(alloc)?;
@@ -399,7 +307,7 @@ fn unboxed(pool: &mut Pool, term: &Term) -> Result<bool, NoMemory> {
 fn boxed_terms_are_stored_and_come_back(rt: HostRuntime) -> Result<(), Fail> {
     let mut pool = Pool::new(rt.alloc())?;
     let term = boxed(rt.alloc())?;
-    assert!(rt; unboxed(&mut pool, &term)?);
+    assert!(rt; unboxed(rt.alloc(), &mut pool, &term)?);
     Ok(())
 }
 
@@ -416,8 +324,12 @@ fn bared(alloc: Global) -> Result<Term, NoMemory> {
 }
 
 // Whether the one has annotations, and the other is stored without them.
-fn loses_annotations(pool: &mut Pool, term: &Term, bare: &Term) -> Result<bool, NoMemory> {
-    let alloc = pool.alloc();
+fn loses_annotations(
+    alloc: Global,
+    pool: &mut Pool,
+    term: &Term,
+    bare: &Term,
+) -> Result<bool, NoMemory> {
     let whole = pool.load(&Stored::from_term(alloc, term)?)?;
     let erased = Stored::from_erased(alloc, term)?;
     let id = pool.load(&erased)?;
@@ -429,7 +341,7 @@ fn boxed_terms_are_stored_without_annotations(rt: HostRuntime) -> Result<(), Fai
     let mut pool = Pool::new(rt.alloc())?;
     let term = boxed(rt.alloc())?;
     let bare = bared(rt.alloc())?;
-    assert!(rt; loses_annotations(&mut pool, &term, &bare)?);
+    assert!(rt; loses_annotations(rt.alloc(), &mut pool, &term, &bare)?);
     Ok(())
 }
 

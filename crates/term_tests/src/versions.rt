@@ -1,9 +1,9 @@
 //! Versions and the rules of symbols, against lists that are written out.
 ghost use Rattle.std.specs.Prelude.{◌≡◌};
 
-use crate::{Grow, Row, Rows, Steps, Version, store_entry, store_rules, version_of};
 use dk_model::{Entry, Listed, NoMemory, Rule, Signature, SymSort, Term};
 use shared_term::Stored;
+use signature_log::{Grow, Row, Rows, Steps, Version, store_entry, store_rules, version_of};
 use std::alloc::Global;
 use std::marker::Brand;
 use std::sync::Arc;
