@@ -1,6 +1,6 @@
 //! Terms and patterns, one terminal at a time.
 //!
-//! Begin at `TermSoFar` and `LeftSoFar`. Which terminals spell which terms is in specs/Grammar.antt (docs/grammar.md).
+//! Begin at `TermSoFar` and `LeftSoFar`. Which terminals spell what is in specs/Grammar.antt (docs/grammar.md).
 #![tactic(auto)]
 
 mod frames;

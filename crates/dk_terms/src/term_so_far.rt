@@ -167,7 +167,8 @@ impl TermSoFar {
     ) -> Result<bool, NoMemory>
         ensures { IfOk result (λ goes. changed goes (plain_term self.new)
             ≡ in_frames (plain_term self.old).frames
-            (application_more (plain_term self.old).application (written_qualified module_name name))) }
+            (application_more (plain_term self.old).application
+            (written_qualified module_name name))) }
     {
         let it = Box::new(alloc, RawQualified { module_name, name })?;
         self.atom(alloc, RawTerm::Qualified(it))
