@@ -1,0 +1,14 @@
+mod Refining
+mod Compiling
+mod Siding
+mod Winding
+mod Opening
+mod Capturing
+mod Growing
+mod Through
+mod Keying
+mod Trying
+mod Following
+mod Matching
+mod Asking
+mod Telling

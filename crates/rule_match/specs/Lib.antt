@@ -1,0 +1,10 @@
+pub mod Keys
+pub mod Rows
+pub mod Branches
+pub mod Sides
+pub mod Trees
+pub mod Columns
+pub mod Standing
+pub mod Trying
+pub mod Remaining
+pub mod Matching

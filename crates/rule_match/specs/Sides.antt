@@ -1,0 +1,30 @@
+-- The left sides of a symbol's rules, as the code holds them.
+use Rattle.std.specs.Prelude.{ℕ, ◌≡◌, List, [], ◌∷◌, map, length, max}
+use Rattle.dk_model.specs.Signatures.{PlainRule, rule_by}
+use Rattle.dk_model.specs.Matrix.{cell}
+use Rattle.dk_model.specs.declared.signature.Rule.{Rule}
+use Rattle.shared_term.specs.declared.stored.Stored.{Stored}
+use Rattle.shared_term.specs.Storage.{stored_term}
+use Rattle.rule_match.specs.declared.side.Side.{Side}
+use Rattle.rule_match.specs.Rows.{kept_cell}
+
+-- a rule over stored terms
+abbrev pub plain_rule_of : Rule Stored → PlainRule
+plain_rule_of = rule_by stored_term
+
+-- the left side of this rule
+pub record IsSide (r : PlainRule) (s : Side) : Type 0 where
+  pub patterns : map kept_cell s.patterns.items ≡ map cell r.pats
+  pub vars : s.vars ≡ r.vars
+
+-- those of these rules, in order
+abbrev pub AreSides : List PlainRule → List Side → Type 0
+AreSides [] [] = Unit {0}
+AreSides [] (s ∷ ss) = ⊥
+AreSides (r ∷ rs) [] = ⊥
+AreSides (r ∷ rs) (s ∷ ss) = IsSide r s × AreSides rs ss
+
+-- the greatest number of patterns
+abbrev pub widest : List PlainRule → ℕ
+widest [] = 0
+widest (r ∷ rs) = max (length r.pats) (widest rs)

@@ -1,0 +1,23 @@
+//! Matching trees: the rules of a symbol compiled to tests of heads, and the selection of a rule by asking for one
+//! answer after another.
+//!
+//! The meaning is `selection_of` of dk_model (docs/evaluation.md). Begin at `Tree` and `Matcher::next`.
+#![tactic(auto)]
+
+mod branch;
+mod cell;
+mod key;
+mod left;
+mod matcher;
+mod nodes;
+mod refine;
+mod row;
+mod side;
+mod tree;
+mod value;
+
+pub use matcher::{Answer, Ask, Matcher};
+pub use tree::{Tree, compile};
+
+#[cfg(test)]
+mod tests;

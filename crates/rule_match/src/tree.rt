@@ -1,0 +1,78 @@
+//! The tree of a symbol's rules.
+ghost use Rattle.std.specs.Prelude.{◌≡◌, ◌≤◌, IfOk, IfSome, List, map};
+ghost use Rattle.dk_model.specs.Signatures.{PlainRule};
+ghost use Rattle.dk_model.specs.Matrix.{rows_for};
+ghost use Rattle.rule_match.specs.Sides.{plain_rule_of, AreSides};
+ghost use Rattle.rule_match.specs.Branches.{AreTests, AddsRows};
+ghost use Rattle.rule_match.specs.Trees.{IsTree};
+
+use crate::branch::Node;
+use crate::nodes::compiled;
+use crate::side::{Side, rows_for, sides_of, widest};
+use dk_model::{NoMemory, Rule};
+use shared_term::Stored;
+use std::alloc::Global;
+
+/// How many nodes a tree has at most.
+const NODES: u32 = 4096;
+
+/// The rules of one symbol, compiled to tests of heads.
+#[derive(Drop)]
+pub struct Tree {
+    pub(crate) sides: Vec<Side>,
+    /// The greatest number of patterns.
+    pub(crate) widest: usize,
+    /// Each behind those that it goes to.
+    pub(crate) nodes: Vec<Node>,
+    /// The first node before so many arguments and more; without it the rows are gone through one by one.
+    pub(crate) root: Option<usize>,
+}
+
+/// Puts the nodes of the rules before at least `widest` arguments.
+#[tactic(auto, using(crate::proofs::Siding::root_added))]
+fn rooted(
+    alloc: Global,
+    nodes: &mut Vec<Node>,
+    sides: &[Side],
+    widest: usize,
+) -> Result<Option<usize>, NoMemory>
+    ensures { IfOk result (λ root. IfSome root (λ i. (rules : List PlainRule)
+        → AreSides rules sides.now → AreTests rules nodes.old.items
+        → AddsRows rules nodes.old.items nodes.new.items (rows_for widest widest rules) i)) }
+{
+    let rows = rows_for(alloc, widest, widest, sides)?;
+    let mut budget = NODES;
+    compiled(alloc, nodes, rows.as_slice(), &mut budget)
+}
+
+/// The rules of one symbol as a tree of tests; past the limit of nodes as rows.
+pub fn compile(alloc: Global, rules: &[&Rule<Stored>]) -> Result<Tree, NoMemory>
+    ensures { IfOk result (IsTree (map (λ r. plain_rule_of r.now) rules.now)) }
+{
+    let sides = sides_of(alloc, rules)?;
+    let widest = widest(sides.as_slice());
+    let mut nodes = Vec::new(alloc);
+    let root = rooted(alloc, &mut nodes, sides.as_slice(), widest)?;
+    if root.is_none() {
+        nodes = Vec::new(alloc);
+    }
+    Ok(Tree {
+        sides,
+        widest,
+        nodes,
+        root,
+    })
+}
+
+impl Tree {
+    /// How many nodes there are, from 1; 0 where the rows are kept in place of nodes.
+    pub fn nodes(&self) -> u32 {
+        match self.root {
+            Some(place) => match u32::try_from(place) {
+                Ok(before) => before.saturating_add(1),
+                Err(_) => u32::MAX,
+            },
+            None => 0,
+        }
+    }
+}
