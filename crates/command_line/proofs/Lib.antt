@@ -1,5 +1,7 @@
 pub mod CheckRows
 pub mod FaultlessWalk
+pub mod GoodRows
+pub mod MakeRows
 pub mod ReadValues
 pub mod RequestParts
 pub mod TakenWords

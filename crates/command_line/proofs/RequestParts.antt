@@ -5,42 +5,81 @@ use Rattle.clap.specs.Kinds.{IsAmong, Kinds}
 use Rattle.clap.specs.Words.{Row, Text, fault_of, is_simple, subcommand_of}
 use Rattle.clap.specs.declared.error.kind.ErrorKind.{ErrorKind}
 use Rattle.command_line.specs.Words.{program}
-use Rattle.command_line.specs.Requests.{Request, budget_in, file_in, quiet_in, request_in, request_of, workers_in}
+use Rattle.command_line.specs.Requests.{CheckRequest, MakeRequest, budget_in, check_in, count_in, file_in, make_in, quiet_in, request_in, request_of, workers_in}
 
-abbrev with_workers : List Row → Option ℕ → Text → ℕ → Option Request
-with_workers rows b f w = option_map (λ b. record { file = f; workers = w; budget = b; quiet = quiet_in rows }) b
+-- a request by its first part, the number of workers and the budget
+module _ {F Q : Type 0} (made : F → ℕ → ℕ → Q) where
+  abbrev with_workers : Option ℕ → F → ℕ → Option Q
+  with_workers b f w = option_map (made f w) b
 
-abbrev with_file : List Row → Option ℕ → Option ℕ → Text → Option Request
-with_file rows w b f = option_and_then (with_workers rows b f) w
+  abbrev with_first : Option ℕ → Option ℕ → F → Option Q
+  with_first w b f = option_and_then (with_workers b f) w
 
-pub no_file : (rows : List Row) → file_in rows ≡ None → request_in rows ≡ None
-no_file rows e = ap (option_and_then (with_file rows (workers_in rows) (budget_in rows))) e
+  abbrev all_parts : Option F → Option ℕ → Option ℕ → Option Q
+  all_parts f w b = option_and_then (with_first w b) f
 
-pub no_workers : (rows : List Row) → workers_in rows ≡ None → request_in rows ≡ None
-no_workers rows e = ap (λ w. option_and_then (with_file rows w (budget_in rows)) (file_in rows)) e ∙ go (file_in rows)
-  where
-    go : (o : Option Text) → option_and_then (with_file rows None (budget_in rows)) o ≡ None
-    go None = refl
-    go (Some f) = refl
+  no_workers : (f : Option F) (w b : Option ℕ) → w ≡ None → all_parts f w b ≡ None
+  no_workers f w b e = ap (λ w. all_parts f w b) e ∙ go f
+    where
+      go : (o : Option F) → all_parts o None b ≡ None
+      go None = refl
+      go (Some f) = refl
 
-pub no_budget : (rows : List Row) → budget_in rows ≡ None → request_in rows ≡ None
-no_budget rows e = ap (λ b. option_and_then (with_file rows (workers_in rows) b) (file_in rows)) e ∙ go (file_in rows) (workers_in rows)
-  where
-    go : (o : Option Text) (p : Option ℕ) → option_and_then (with_file rows p None) o ≡ None
-    go None p = refl
-    go (Some f) None = refl
-    go (Some f) (Some w) = refl
+  no_budget : (f : Option F) (w b : Option ℕ) → b ≡ None → all_parts f w b ≡ None
+  no_budget f w b e = ap (λ b. all_parts f w b) e ∙ go f w
+    where
+      go : (o : Option F) (p : Option ℕ) → all_parts o p None ≡ None
+      go None p = refl
+      go (Some f) None = refl
+      go (Some f) (Some w) = refl
 
-pub all_given : (rows : List Row) (f : Text) (w b : ℕ) → file_in rows ≡ Some f → workers_in rows ≡ Some w → budget_in rows ≡ Some b
-    → request_in rows ≡ Some (record { file = f; workers = w; budget = b; quiet = quiet_in rows })
-all_given rows f w b file workers budget =
-    ap (option_and_then (with_file rows (workers_in rows) (budget_in rows))) file
-    ∙ ap (λ o. with_file rows o (budget_in rows) f) workers
-    ∙ ap (λ o. with_file rows (Some w) o f) budget
+  all_given : (fs : Option F) (ws bs : Option ℕ) (f : F) (w b : ℕ) → fs ≡ Some f → ws ≡ Some w → bs ≡ Some b → all_parts fs ws bs ≡ Some (made f w b)
+  all_given fs ws bs f w b first workers budget =
+      ap (λ o. all_parts o ws bs) first
+      ∙ ap (λ o. all_parts (Some f) o bs) workers
+      ∙ ap (λ o. all_parts (Some f) (Some w) o) budget
+
+abbrev checking : List Row → Text → ℕ → ℕ → CheckRequest
+checking rows f w b = record { file = f; workers = w; budget = b; quiet = quiet_in rows }
+
+abbrev making : ℕ → ℕ → ℕ → MakeRequest
+making n w b = record { count = n; workers = w; budget = b }
+
+-- ---- what `check` asks
+
+pub check_no_file : (rows : List Row) → file_in rows ≡ None → check_in rows ≡ None
+check_no_file rows e = ap (λ o. all_parts (checking rows) o (workers_in rows) (budget_in rows)) e
+
+pub check_no_workers : (rows : List Row) → workers_in rows ≡ None → check_in rows ≡ None
+check_no_workers rows e = no_workers (checking rows) (file_in rows) (workers_in rows) (budget_in rows) e
+
+pub check_no_budget : (rows : List Row) → budget_in rows ≡ None → check_in rows ≡ None
+check_no_budget rows e = no_budget (checking rows) (file_in rows) (workers_in rows) (budget_in rows) e
+
+pub check_all : (rows : List Row) (f : Text) (w b : ℕ) → file_in rows ≡ Some f → workers_in rows ≡ Some w → budget_in rows ≡ Some b
+    → check_in rows ≡ Some (record { file = f; workers = w; budget = b; quiet = quiet_in rows })
+check_all rows f w b file workers budget = all_given (checking rows) (file_in rows) (workers_in rows) (budget_in rows) f w b file workers budget
+
+-- ---- what `make` asks
+
+pub make_no_count : (rows : List Row) → count_in rows ≡ None → make_in rows ≡ None
+make_no_count rows e = ap (λ o. all_parts making o (workers_in rows) (budget_in rows)) e
+
+pub make_no_workers : (rows : List Row) → workers_in rows ≡ None → make_in rows ≡ None
+make_no_workers rows e = no_workers making (count_in rows) (workers_in rows) (budget_in rows) e
+
+pub make_no_budget : (rows : List Row) → budget_in rows ≡ None → make_in rows ≡ None
+make_no_budget rows e = no_budget making (count_in rows) (workers_in rows) (budget_in rows) e
+
+pub make_all : (rows : List Row) (n w b : ℕ) → count_in rows ≡ Some n → workers_in rows ≡ Some w → budget_in rows ≡ Some b
+    → make_in rows ≡ Some (record { count = n; workers = w; budget = b })
+make_all rows n w b count workers budget = all_given making (count_in rows) (workers_in rows) (budget_in rows) n w b count workers budget
+
+-- ---- the words
 
 -- words that clap takes ask what their subcommand says
 pub asked_by : (words : List Text) → fault_of program words ≡ []
-    → request_of words ≡ option_and_then (λ found. request_in found.1) (subcommand_of program words)
+    → request_of words ≡ option_and_then request_in (subcommand_of program words)
 unfolding request_of
 asked_by words e = rw e refl
 

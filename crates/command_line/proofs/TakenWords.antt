@@ -1,6 +1,6 @@
 -- Words in which clap finds no fault ask something.
 use Rattle.std.proofs.Common.{◌≡◌, ◌∙◌, ◌||◌, Bool, true, false, [], ◌∷◌, List, Option, Some, None, drop, refl, sym, cond, codes, is_some}
-use Rattle.std.specs.Option.{option_and_then, option_map}
+use Rattle.std.specs.Option.{option_and_then, option_map, option_map_or}
 use Rattle.std.specs.Str.{bytes_eq}
 use Rattle.clap.specs.Kinds.{Kinds}
 use Rattle.clap.specs.Faults.{built_fault, defaults_fault, entered_fault, fault_of, level_fault, settle_fault, walk_fault}
@@ -8,8 +8,9 @@ use Rattle.clap.specs.Simple.{App, Shape, built, entered, filled, help_rule, nam
 use Rattle.clap.specs.Walk.{Text, nothing_held, settled, walk, walk_from}
 use Rattle.clap.specs.declared.error.kind.ErrorKind.TheVariants.{MissingSubcommand}
 use Rattle.command_line.specs.Words.{program}
-use Rattle.command_line.specs.Requests.{request_in}
+use Rattle.command_line.specs.Requests.{CheckRequest, MakeRequest, check_in, make_in, request_in, to_check, to_make}
 use Rattle.command_line.proofs.CheckRows.{built_check, check_asks}
+use Rattle.command_line.proofs.MakeRows.{built_make, make_asks}
 use Rattle.command_line.proofs.FaultlessWalk.{no_first, no_second, some_kind}
 
 -- the program as clap builds it
@@ -23,7 +24,7 @@ built_top = record (new_shape (codes "dk_check")) {
 }
 
 abbrev built_program : App
-built_program = record { top = built_top; subs = built_check ∷ [] }
+built_program = record { top = built_top; subs = built_check ∷ built_make ∷ [] }
 
 program_is : built program ≡ built_program
 unfolding program
@@ -47,21 +48,32 @@ needs_one words below e =
     let checked = no_second (defaults_fault (settled built_top.rules end).rows built_top.rules) _ last in
     some_kind MissingSubcommand [] checked
 
+asks_check : (o : Option CheckRequest) → is_some o ≡ true → is_some (option_map to_check o) ≡ true
+asks_check None e = e
+asks_check (Some q) e = refl
+
+asks_make : (o : Option MakeRequest) → is_some o ≡ true → is_some (option_map to_make o) ≡ true
+asks_make None e = e
+asks_make (Some q) e = refl
+
 -- what the subcommand at which the walk stopped asks
 entered_asks : (words : List Text) (stop : Option (Text × List Text)) → level words (is_some (entered built_program stop)) (entered_fault built_program stop) ≡ []
-    → is_some (option_and_then (λ found. request_in found.1) (entered built_program stop)) ≡ true
+    → is_some (option_and_then request_in (entered built_program stop)) ≡ true
 entered_asks words None e = absurd (needs_one words [] e)
-entered_asks words (Some p) e = go (bytes_eq (codes "check") p.0 || false) e
+entered_asks words (Some p) e = go (bytes_eq (codes "check") p.0 || false) (bytes_eq (codes "make") p.0 || false) e
   where
-    go : (b : Bool) → level words (is_some (option_map (λ s. rows_at s p.1) (cond b (Some built_check) None)))
-        (Rattle.std.specs.Option.option_map_or (λ s. level_fault s [] nothing_held p.1 false []) (cond b (Some built_check) None) []) ≡ []
-        → is_some (option_and_then (λ found. request_in found.1) (option_map (λ s. rows_at s p.1) (cond b (Some built_check) None))) ≡ true
-    go false e = absurd (needs_one words [] e)
-    go true e =
+    go : (b m : Bool) → level words (is_some (option_map (λ s. rows_at s p.1) (cond b (Some built_check) (cond m (Some built_make) None))))
+        (option_map_or (λ s. level_fault s [] nothing_held p.1 false []) (cond b (Some built_check) (cond m (Some built_make) None)) []) ≡ []
+        → is_some (option_and_then request_in (option_map (λ s. rows_at s p.1) (cond b (Some built_check) (cond m (Some built_make) None)))) ≡ true
+    go false false e = absurd (needs_one words [] e)
+    go false true e =
         let after = no_second (walk_fault built_top (names_of built_program) (walk_from nothing_held) words) _ e in
-        check_asks p.1 (no_first (level_fault built_check [] nothing_held p.1 false []) _ after)
+        asks_make (make_in (rows_at built_make p.1).1) (make_asks p.1 (no_first (level_fault built_make [] nothing_held p.1 false []) _ after))
+    go true m e =
+        let after = no_second (walk_fault built_top (names_of built_program) (walk_from nothing_held) words) _ e in
+        asks_check (check_in (rows_at built_check p.1).1) (check_asks p.1 (no_first (level_fault built_check [] nothing_held p.1 false []) _ after))
 
-pub taken_asks : (words : List Text) → fault_of program words ≡ [] → is_some (option_and_then (λ found. request_in found.1) (subcommand_of program words)) ≡ true
+pub taken_asks : (words : List Text) → fault_of program words ≡ [] → is_some (option_and_then request_in (subcommand_of program words)) ≡ true
 unfolding program
 taken_asks words e =
     let stop = (walk built_top.rules (names_of built_program) nothing_held (drop 1 words)).stopped in

@@ -8,14 +8,24 @@ use Rattle.clap.specs.ValueTests.{accepts}
 use Rattle.clap.specs.Kinds.{Kinds}
 use Rattle.clap.specs.Words.{Row, Text, fault_of, first_of, one_of, subcommand_of}
 use Rattle.clap.specs.declared.builder.value_parser.ValueParser.{ValueParser}
-use Rattle.command_line.specs.Words.{budgets, program, worker_counts}
+use Rattle.command_line.specs.Words.{budgets, program, theorem_counts, worker_counts}
 
 -- check the file of this name with so many workers, each command with this budget, with `ok` lines unless quiet
-pub record Request : Type 0 where
+pub record CheckRequest : Type 0 where
   pub file : List ℕ
   pub workers : ℕ
   pub budget : ℕ
   pub quiet : Bool
+
+-- make the theory with so many theorems, and check it with so many workers, each command with this budget
+pub record MakeRequest : Type 0 where
+  pub count : ℕ
+  pub workers : ℕ
+  pub budget : ℕ
+
+pub data Request : Type 0 where
+  to_check : CheckRequest → Request
+  to_make : MakeRequest → Request
 
 -- the number that a text writes in decimal digits, where it is one of these
 abbrev pub number_of : ValueParser → Text → Option ℕ
@@ -25,9 +35,12 @@ number_of numbers text =
 abbrev pub is_true : Text → Bool
 is_true text = bytes_eq text (codes "true")
 
--- what clap found for FILE, `--workers`, `--budget` and `--quiet`, their defaults included
+-- what clap found for FILE, N, `--workers`, `--budget` and `--quiet`, their defaults included
 abbrev pub file_in : List Row → Option Text
 file_in rows = first_of (codes "file") rows
+
+abbrev pub count_in : List Row → Option ℕ
+count_in rows = option_and_then (number_of theorem_counts) (one_of (codes "count") rows)
 
 abbrev pub workers_in : List Row → Option ℕ
 workers_in rows = option_and_then (number_of worker_counts) (one_of (codes "workers") rows)
@@ -38,11 +51,22 @@ budget_in rows = option_and_then (number_of budgets) (one_of (codes "budget") ro
 abbrev pub quiet_in : List Row → Bool
 quiet_in rows = option_map_or is_true (one_of (codes "quiet") rows) false
 
--- the four together
-abbrev pub request_in : List Row → Option Request
-request_in rows = option_and_then (λ file. option_and_then (λ workers. option_map (λ budget.
+-- those of `check` together, and those of `make`
+abbrev pub check_in : List Row → Option CheckRequest
+check_in rows = option_and_then (λ file. option_and_then (λ workers. option_map (λ budget.
     record { file = file; workers = workers; budget = budget; quiet = quiet_in rows })
     (budget_in rows)) (workers_in rows)) (file_in rows)
+
+abbrev pub make_in : List Row → Option MakeRequest
+make_in rows = option_and_then (λ count. option_and_then (λ workers. option_map (λ budget.
+    record { count = count; workers = workers; budget = budget })
+    (budget_in rows)) (workers_in rows)) (count_in rows)
+
+-- what the subcommand of this name asks, with what was found for it
+abbrev pub request_in : Text × List Row → Option Request
+request_in found =
+    if bytes_eq found.0 (codes "make") then option_map to_make (make_in found.1)
+    else option_map to_check (check_in found.1)
 
 -- the request, where no fault stands against it
 abbrev pub unless_fault : Kinds → Option Request → Option Request
@@ -52,4 +76,4 @@ unless_fault (kind ∷ kinds) request = None
 -- what clap takes the words to mean; none where it refuses them
 unfoldable pub request_of : List Text → Option Request
 request_of words = unless_fault (fault_of program words)
-    (option_and_then (λ found. request_in found.1) (subcommand_of program words))
+    (option_and_then request_in (subcommand_of program words))

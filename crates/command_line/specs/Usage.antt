@@ -1,6 +1,12 @@
 -- Trusted: the text that answers words which the program doesn't take (docs/command-line.md).
 use Rattle.std.specs.Prelude.{ℕ, List, [], ◌∷◌, ◌++◌, codes}
 
--- one line
+-- a line for each command
+abbrev pub check_usage : List ℕ
+check_usage = codes "usage: dk_check check [--workers N] [--budget B] [--quiet] FILE" ++ 10 ∷ []
+
+abbrev pub make_usage : List ℕ
+make_usage = codes "usage: dk_check make [--workers N] [--budget B] N" ++ 10 ∷ []
+
 unfoldable pub usage_text : List ℕ
-usage_text = codes "usage: dk_check check [--workers N] [--budget B] [--quiet] FILE" ++ 10 ∷ []
+usage_text = check_usage ++ make_usage

@@ -13,6 +13,10 @@ budgets = vp.Unsigned 1 4611686018427387904
 abbrev pub worker_counts : ValueParser
 worker_counts = vp.Unsigned 1 64
 
+-- how many theorems may be made
+abbrev pub theorem_counts : ValueParser
+theorem_counts = vp.Unsigned 1 100000
+
 -- `--workers N`
 abbrev pub workers : Rule
 workers = record (new_rule (codes "workers")) {
@@ -44,6 +48,17 @@ file = record (new_rule (codes "file")) { required = true }
 abbrev pub check : App
 check = with_rule (with_rule (with_rule (with_rule (new_app (codes "check")) workers) budget) quiet) file
 
+-- N
+abbrev pub count : Rule
+count = record (new_rule (codes "count")) {
+  required = true;
+  parser = Some theorem_counts;
+}
+
+-- `make [--workers N] [--budget B] N`
+abbrev pub make : App
+make = with_rule (with_rule (with_rule (new_app (codes "make")) workers) budget) count
+
 -- the program, which needs a subcommand; `help` isn't one
 abbrev pub needing : App → App
 needing a = record a {
@@ -51,4 +66,4 @@ needing a = record a {
 }
 
 unfoldable pub program : App
-program = with_subcommand (needing (new_app (codes "dk_check"))) check.top
+program = with_subcommand (with_subcommand (needing (new_app (codes "dk_check"))) check.top) make.top

@@ -1,8 +1,8 @@
-//! The program's command, as clap reads it.
+//! The program's commands, as clap reads them.
 ghost use Rattle.std.specs.Prelude.{◌≡◌, IfOk, map, false};
 ghost use Rattle.std.specs.String.{string_bytes};
-ghost use Rattle.clap.specs.Words.{FailsBy, HasMatchesOf, app_of, fault_of, rule_of};
-ghost use Rattle.command_line.specs.Words.{budget, program, workers};
+ghost use Rattle.clap.specs.Words.{FailsBy, HasMatchesOf, app_of, fault_of, rule_of, with_subcommand};
+ghost use Rattle.command_line.specs.Words.{budget, check, count, make, program, workers};
 
 use clap::builder::ValueParser;
 use clap::{Arg, ArgAction, ArgMatches, Command, Error};
@@ -13,6 +13,9 @@ pub const LARGEST_BUDGET: u64 = 4_611_686_018_427_387_904;
 
 /// The most workers; the least is 1.
 pub const MOST_WORKERS: u64 = 64;
+
+/// The most theorems that are made; the least is 1.
+pub const MOST_THEOREMS: u64 = 100_000;
 
 fn workers_argument<'a>(alloc: Global) -> Arg<'a>
     ensures rule { rule_of result ≡ workers }
@@ -34,8 +37,18 @@ fn budget_argument<'a>(alloc: Global) -> Arg<'a>
         .value_parser(ValueParser::unsigned(1, LARGEST_BUDGET))
 }
 
-fn program<'a>(alloc: Global) -> Result<Command<'a>, AllocError>
-    ensures { IfOk result (λ c. app_of c ≡ program) }
+fn count_argument<'a>(alloc: Global) -> Arg<'a>
+    ensures rule { rule_of result ≡ count }
+    ensures local { result.global ≡ false }
+{
+    Arg::new(alloc, "count")
+        .required(true)
+        .value_parser(ValueParser::unsigned(1, MOST_THEOREMS))
+}
+
+// The command with `check` as a subcommand.
+fn with_check<'a>(alloc: Global, top: Command<'a>) -> Result<Command<'a>, AllocError>
+    ensures { IfOk result (λ c. app_of c ≡ with_subcommand (app_of top.entry) check.top) }
 {
     let workers = workers_argument(alloc);
     let budget = budget_argument(alloc);
@@ -48,10 +61,31 @@ fn program<'a>(alloc: Global) -> Result<Command<'a>, AllocError>
         .arg(budget)?
         .arg(quiet)?
         .arg(file)?;
-    Command::new(alloc, "dk_check")
+    top.subcommand(check)
+}
+
+// The command with `make` as a subcommand.
+fn with_make<'a>(alloc: Global, top: Command<'a>) -> Result<Command<'a>, AllocError>
+    ensures { IfOk result (λ c. app_of c ≡ with_subcommand (app_of top.entry) make.top) }
+{
+    let workers = workers_argument(alloc);
+    let budget = budget_argument(alloc);
+    let count = count_argument(alloc);
+    let make = Command::new(alloc, "make")
+        .arg(workers)?
+        .arg(budget)?
+        .arg(count)?;
+    top.subcommand(make)
+}
+
+fn program<'a>(alloc: Global) -> Result<Command<'a>, AllocError>
+    ensures { IfOk result (λ c. app_of c ≡ program) }
+{
+    let alone = Command::new(alloc, "dk_check")
         .subcommand_required(true)
-        .disable_help_subcommand(true)
-        .subcommand(check)
+        .disable_help_subcommand(true);
+    let checking = with_check(alloc, alone)?;
+    with_make(alloc, checking)
 }
 
 // What clap finds in the words.

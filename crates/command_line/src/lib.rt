@@ -8,7 +8,7 @@ mod command;
 mod request;
 mod usage;
 
-pub use request::{Request, read_request};
+pub use request::{CheckRequest, MakeRequest, Request, read_request};
 pub use usage::usage_text;
 
 #[cfg(test)]

@@ -1,19 +1,26 @@
 //! The request that the words make.
-ghost use Rattle.std.specs.Prelude.{◌≡◌, ◌≤◌, ◌↔◌, IfOk, IfSome, IsSome, map, option_and_then, option_map};
+ghost use Rattle.std.specs.Prelude.{◌≡◌, ◌↔◌, IfOk, IfSome, IsSome, map, option_and_then, option_map};
 ghost use Rattle.std.specs.String.{string_bytes};
 ghost use Rattle.clap.specs.Words.{found_of, rows_of, subcommand_rows_of};
-ghost use Rattle.command_line.specs.Requests.{budget_in, quiet_in, request_in, request_of, workers_in};
-ghost use Rattle.command_line.specs.Views.{IsTaken, plain_request};
+ghost use Rattle.command_line.specs.Requests.{budget_in, check_in, count_in, make_in, quiet_in, request_in, request_of, workers_in};
+ghost use Rattle.command_line.specs.Views.{IsBudget, IsInBounds, IsTaken, IsTheoremCount, IsWorkerCount, plain_check, plain_make, plain_request};
 
-use crate::command::{LARGEST_BUDGET, MOST_WORKERS, found_in};
+use crate::command::{LARGEST_BUDGET, MOST_THEOREMS, MOST_WORKERS, found_in};
 use clap::ArgMatches;
 use clap::error::ErrorKind;
 use dk_model::NoMemory;
 use std::alloc::Global;
 
+/// What the words ask.
+#[derive(Clone, Copy, Debug)]
+pub enum Request<'a> {
+    Check(CheckRequest<'a>),
+    Make(MakeRequest),
+}
+
 /// Check a file.
 #[derive(Clone, Copy, Debug)]
-pub struct Request<'a> {
+pub struct CheckRequest<'a> {
     /// The name of the file, as the words give it.
     pub file: &'a str,
     /// How many workers check commands.
@@ -24,6 +31,17 @@ pub struct Request<'a> {
     pub quiet: bool,
 }
 
+/// Make a theory and check it.
+#[derive(Clone, Copy, Debug)]
+pub struct MakeRequest {
+    /// How many theorems it has.
+    pub count: u32,
+    /// How many workers check commands.
+    pub workers: u32,
+    /// The units that the check of each command may take.
+    pub budget: u64,
+}
+
 /// What the words ask, the first of which is the program's name; `None` where they ask nothing
 /// that the program does, also where they ask for help or the version. `NoMemory` says nothing of
 /// the words.
@@ -32,9 +50,7 @@ pub fn read_request<'a>(alloc: Global, words: &'a [String]) -> Result<Option<Req
         option_map plain_request r ≡ request_of (map string_bytes words.entry.now)) }
     ensures taken { IfOk result (λ r.
         IsSome r ↔ IsTaken (map string_bytes words.entry.now)) }
-    ensures workers { IfOk result (λ r. IfSome r (λ q. (1 ≤ q.workers) × (q.workers ≤ 64))) }
-    ensures budget { IfOk result (λ r. IfSome r (λ q.
-        (1 ≤ q.budget) × (q.budget ≤ 4611686018427387904))) }
+    ensures bounds { IfOk result (λ r. IfSome r (λ q. IsInBounds (plain_request q))) }
 {
     match found_in(alloc, words) {
         Ok(matches) => Ok(asked(&matches)),
@@ -47,26 +63,44 @@ pub fn read_request<'a>(alloc: Global, words: &'a [String]) -> Result<Option<Req
 
 fn asked<'a>(matches: &ArgMatches<'a>) -> Option<Request<'a>>
     ensures value { option_map plain_request result
-        ≡ option_and_then (λ found. request_in found.1) (subcommand_rows_of matches.now) }
-    ensures workers { IfSome result (λ q. (1 ≤ q.workers) × (q.workers ≤ 64)) }
-    ensures budget { IfSome result (λ q. (1 ≤ q.budget) × (q.budget ≤ 4611686018427387904)) }
+        ≡ option_and_then request_in (subcommand_rows_of matches.now) }
+    ensures bounds { IfSome result (λ q. IsInBounds (plain_request q)) }
 {
     match matches.subcommand() {
-        Some((_, check)) => request_in(check),
+        Some((name, found)) => request_in(name, found),
         None => None,
     }
 }
 
-fn request_in<'a>(check: &ArgMatches<'a>) -> Option<Request<'a>>
-    ensures value { option_map plain_request result ≡ request_in (rows_of (found_of check.now)) }
-    ensures workers { IfSome result (λ q. (1 ≤ q.workers) × (q.workers ≤ 64)) }
-    ensures budget { IfSome result (λ q. (1 ≤ q.budget) × (q.budget ≤ 4611686018427387904)) }
+// What the subcommand of this name asks.
+fn request_in<'a>(name: &str, found: &ArgMatches<'a>) -> Option<Request<'a>>
+    ensures value { option_map plain_request result
+        ≡ request_in (name.now, rows_of (found_of found.now)) }
+    ensures bounds { IfSome result (λ q. IsInBounds (plain_request q)) }
+{
+    if name == "make" {
+        match make_in(found) {
+            Some(request) => Some(Request::Make(request)),
+            None => None,
+        }
+    } else {
+        match check_in(found) {
+            Some(request) => Some(Request::Check(request)),
+            None => None,
+        }
+    }
+}
+
+fn check_in<'a>(check: &ArgMatches<'a>) -> Option<CheckRequest<'a>>
+    ensures value { option_map plain_check result ≡ check_in (rows_of (found_of check.now)) }
+    ensures workers { IfSome result (λ q. IsWorkerCount q.workers) }
+    ensures budget { IfSome result (λ q. IsBudget q.budget) }
 {
     let file = check.get_str("file")?;
     let workers = workers_in(check)?;
     let budget = budget_in(check)?;
     let quiet = quiet_in(check);
-    Some(Request {
+    Some(CheckRequest {
         file,
         workers,
         budget,
@@ -74,11 +108,39 @@ fn request_in<'a>(check: &ArgMatches<'a>) -> Option<Request<'a>>
     })
 }
 
-fn workers_in(check: &ArgMatches<'_>) -> Option<u32>
-    ensures value { result ≡ workers_in (rows_of (found_of check.now)) }
-    ensures bounds { IfSome result (λ n. (1 ≤ n) × (n ≤ 64)) }
+fn make_in(make: &ArgMatches<'_>) -> Option<MakeRequest>
+    ensures value { option_map plain_make result ≡ make_in (rows_of (found_of make.now)) }
+    ensures count { IfSome result (λ q. IsTheoremCount q.count) }
+    ensures workers { IfSome result (λ q. IsWorkerCount q.workers) }
+    ensures budget { IfSome result (λ q. IsBudget q.budget) }
 {
-    let workers = check.get_one::<u64>("workers")?;
+    let count = count_in(make)?;
+    let workers = workers_in(make)?;
+    let budget = budget_in(make)?;
+    Some(MakeRequest {
+        count,
+        workers,
+        budget,
+    })
+}
+
+fn count_in(make: &ArgMatches<'_>) -> Option<u32>
+    ensures value { result ≡ count_in (rows_of (found_of make.now)) }
+    ensures bounds { IfSome result IsTheoremCount }
+{
+    let count = make.get_one::<u64>("count")?;
+    if 1 <= count && count <= MOST_THEOREMS {
+        Some(count as u32)
+    } else {
+        None
+    }
+}
+
+fn workers_in(found: &ArgMatches<'_>) -> Option<u32>
+    ensures value { result ≡ workers_in (rows_of (found_of found.now)) }
+    ensures bounds { IfSome result IsWorkerCount }
+{
+    let workers = found.get_one::<u64>("workers")?;
     if 1 <= workers && workers <= MOST_WORKERS {
         Some(workers as u32)
     } else {
@@ -86,11 +148,11 @@ fn workers_in(check: &ArgMatches<'_>) -> Option<u32>
     }
 }
 
-fn budget_in(check: &ArgMatches<'_>) -> Option<u64>
-    ensures value { result ≡ budget_in (rows_of (found_of check.now)) }
-    ensures bounds { IfSome result (λ b. (1 ≤ b) × (b ≤ 4611686018427387904)) }
+fn budget_in(found: &ArgMatches<'_>) -> Option<u64>
+    ensures value { result ≡ budget_in (rows_of (found_of found.now)) }
+    ensures bounds { IfSome result IsBudget }
 {
-    let budget = check.get_one::<u64>("budget")?;
+    let budget = found.get_one::<u64>("budget")?;
     if 1 <= budget && budget <= LARGEST_BUDGET {
         Some(budget)
     } else {

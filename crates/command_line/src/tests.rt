@@ -1,4 +1,4 @@
-use crate::{read_request, usage_text};
+use crate::{Request, read_request, usage_text};
 use std::alloc::{AllocError, Global};
 use std::test::Fail;
 
@@ -83,11 +83,40 @@ fn reads_what_the_words_ask(rt: HostRuntime) -> Result<(), Fail> {
         ),
     ] {
         let words = words_of(alloc, line)?;
-        let request = read_request(alloc, &words)?.ok_or("a request")?;
+        let asked = match read_request(alloc, &words)? {
+            Some(Request::Check(request)) => Some(request),
+            _ => None,
+        };
+        let request = asked.ok_or("a request to check")?;
         assert_eq!(rt; request.file, file, "at {line}");
         assert_eq!(rt; request.workers, workers, "at {line}");
         assert_eq!(rt; request.budget, budget, "at {line}");
         assert_eq!(rt; request.quiet, quiet, "at {line}");
+    }
+    Ok(())
+}
+
+#[test]
+fn reads_what_is_to_be_made(rt: HostRuntime) -> Result<(), Fail> {
+    let alloc = rt.alloc();
+    for (line, count, workers, budget) in [
+        ("dk_check make 1", 1, 4, 1_000_000_000),
+        ("dk_check make 100000", 100_000, 4, 1_000_000_000),
+        ("dk_check make +007", 7, 4, 1_000_000_000),
+        ("dk_check make --workers 8 1000", 1000, 8, 1_000_000_000),
+        ("dk_check make 1000 --workers=1", 1000, 1, 1_000_000_000),
+        ("dk_check make --budget 5 3 --workers 64", 3, 64, 5),
+        ("dk_check make -- 5", 5, 4, 1_000_000_000),
+    ] {
+        let words = words_of(alloc, line)?;
+        let asked = match read_request(alloc, &words)? {
+            Some(Request::Make(request)) => Some(request),
+            _ => None,
+        };
+        let request = asked.ok_or("a request to make")?;
+        assert_eq!(rt; request.count, count, "at {line}");
+        assert_eq!(rt; request.workers, workers, "at {line}");
+        assert_eq!(rt; request.budget, budget, "at {line}");
     }
     Ok(())
 }
@@ -120,7 +149,20 @@ fn refuses_other_words(rt: HostRuntime) -> Result<(), Fail> {
         "dk_check check --workers f.dk",
         "dk_check check --workers 2 --workers 2 f.dk",
         "dk_check --workers 2 check f.dk",
-        "dk_check make 5",
+        "dk_check make",
+        "dk_check make 0",
+        "dk_check make 100001",
+        "dk_check make 99999999999999999999",
+        "dk_check make -1",
+        "dk_check make x",
+        "dk_check make 5 f.dk",
+        "dk_check make 5 6",
+        "dk_check make --quiet 5",
+        "dk_check make --count 5",
+        "dk_check make --workers 65 5",
+        "dk_check make --budget 0 5",
+        "dk_check make check f.dk",
+        "dk_check made 5",
         "dk_check --help",
         "dk_check help",
         "dk_check --version",
@@ -136,7 +178,14 @@ fn refuses_other_words(rt: HostRuntime) -> Result<(), Fail> {
 }
 
 #[test]
-fn says_how_it_is_used(rt: HostRuntime) {
-    let line: &[u8] = b"usage: dk_check check [--workers N] [--budget B] [--quiet] FILE\n";
-    assert!(rt; usage_text() == line);
+fn says_how_it_is_used(rt: HostRuntime) -> Result<(), Fail> {
+    let mut lines = String::new(rt.alloc());
+    for line in [
+        "usage: dk_check check [--workers N] [--budget B] [--quiet] FILE\n",
+        "usage: dk_check make [--workers N] [--budget B] N\n",
+    ] {
+        lines.push_str(line)?;
+    }
+    assert!(rt; usage_text() == lines.as_bytes());
+    Ok(())
 }

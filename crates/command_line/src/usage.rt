@@ -1,9 +1,9 @@
 ghost use Rattle.std.specs.Prelude.{◌≡◌};
 ghost use Rattle.command_line.specs.Usage.{usage_text};
 
-/// The text that answers words which the program doesn't take: one line for its command.
+/// The text that answers words which the program doesn't take: one line for each command.
 pub fn usage_text() -> &'static [u8]
     ensures { result.now ≡ usage_text }
 {
-    b"usage: dk_check check [--workers N] [--budget B] [--quiet] FILE\n"
+    b"usage: dk_check check [--workers N] [--budget B] [--quiet] FILE\nusage: dk_check make [--workers N] [--budget B] N\n"
 }

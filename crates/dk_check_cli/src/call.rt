@@ -2,7 +2,9 @@
 ghost use Rattle.std.specs.Prelude.{◌≡◌, ◌<◌, IfErr, IfOk, map};
 ghost use Rattle.std.specs.String.{string_bytes};
 ghost use Rattle.command_line.specs.Requests.{request_of};
-ghost use Rattle.dk_check_run.specs.Run.{shelf_state, sink_state};
+ghost use Rattle.dk_model.specs.Limits.{standard};
+ghost use Rattle.file_check.specs.Shelves.{shelf_state};
+ghost use Rattle.dk_check_run.specs.Run.{sink_state};
 ghost use Rattle.dk_check_run.specs.Clauses.{Runs};
 ghost use Rattle.dk_check_cli.specs.Calls.{status_without_words};
 
@@ -28,7 +30,7 @@ pub fn answer_call<R: Threads + Wait + Sync, H: Shelf, K: Sink>(
     shelf: &mut H,
     sink: &mut K,
 ) -> u8
-    ensures given { IfOk words.now (λ w. Runs (request_of (map string_bytes w.items))
+    ensures given { IfOk words.now (λ w. Runs standard (request_of (map string_bytes w.items))
         (shelf_state H.books H.left H.faults H.missed shelf.old)
         (shelf_state H.books H.left H.faults H.missed shelf.new)
         (sink_state K.taken K.faults sink.old) (sink_state K.taken K.faults sink.new) result) }

@@ -36,12 +36,17 @@ fn answers_the_words_it_is_given(rt: HostRuntime) -> Result<(), Fail> {
         (
             ["dk_check", "print", "f.dk"],
             2,
-            "usage: dk_check check [--workers N] [--budget B] [--quiet] FILE\n",
+            "usage: dk_check check [--workers N] [--budget B] [--quiet] FILE\nusage: dk_check make [--workers N] [--budget B] N\n",
+        ),
+        (
+            ["dk_check", "make", "1"],
+            0,
+            "make 1 bytes 235\naccepted 8\n",
         ),
     ] {
         let given = Ok(words_of(alloc, &words)?);
         let mut shelf = shelf_of(alloc)?;
-        let mut sink = MemSink::new(alloc, 100, 4096, Vec::new(alloc))?;
+        let mut sink = MemSink::new(alloc, 200, 4096, Vec::new(alloc))?;
         let got = answer_call(&rt, alloc, &given, &mut shelf, &mut sink);
         assert_eq!(rt;
             sink.bytes(),
@@ -60,7 +65,7 @@ fn answers_where_the_words_are_missing(rt: HostRuntime) -> Result<(), Fail> {
     let alloc = rt.alloc();
     for (kind, status) in [(ErrorKind::InvalidData, 2), (ErrorKind::OutOfMemory, 4)] {
         let mut shelf = shelf_of(alloc)?;
-        let mut sink = MemSink::new(alloc, 100, 4096, Vec::new(alloc))?;
+        let mut sink = MemSink::new(alloc, 200, 4096, Vec::new(alloc))?;
         let got = answer_call(&rt, alloc, &Err(kind), &mut shelf, &mut sink);
         assert_eq!(rt; sink.bytes(), b"".as_slice(), "{kind}");
         assert_eq!(rt; got, status, "{kind}");

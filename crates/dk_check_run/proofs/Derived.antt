@@ -1,7 +1,6 @@
 -- Where a file is accepted, each command has a derivation over the commands before it.
 use Rattle.std.proofs.Common.{◌≡◌, ℕ, ◌+◌, Bool, true, false, List, [], ◌∷◌, ◌++◌, refl, sym, ap, subst, ◌∙◌, arith}
 use Rattle.std.specs.Prelude.{Option, Some, if◌then◌else◌, nat_le}
-use Rattle.dk_model.specs.Limits.{standard}
 use Rattle.dk_model.specs.Scoping.{PlainCommand}
 use Rattle.dk_model.specs.Signatures.{PlainEntry, PlainSignature}
 use Rattle.dk_model.specs.Verdicts.{entry_of, inferred_type}
@@ -16,12 +15,15 @@ use Rattle.scope_terms.specs.Scopes.{Scoping, scoped, refused, scope_of}
 use Rattle.typing_model.specs.Derivations.{HasDerivation}
 use Rattle.typing_model.proofs.Commands.{accepted_derives}
 use Rattle.typing_model.proofs.Rules.{comparison_joins, normal_reduces, whnf_reduces}
-use Rattle.command_line.specs.Requests.{Request}
+use Rattle.command_line.specs.Requests.{CheckRequest, MakeRequest, Request, to_make}
 use Rattle.verdict_book.specs.Report.{FileReport, status_of}
 use Rattle.file_report.specs.Outcomes.{Theory, by_verdict, no_theory, report_from, scoped_entry, scoped_verdict, theory_after, verdict_after, verdict_at}
 use Rattle.dk_check_run.specs.Answers.{Answers}
-use Rattle.dk_check_run.specs.Run.{AllDerived, AsksFor, IsDerived, ShelfState, SinkState}
+use Rattle.file_check.specs.Shelves.{ShelfState}
+use Rattle.dk_check_run.specs.Run.{AllDerived, AsksFor, IsDerived, IsTheoryDerived, SinkState}
 use Rattle.dk_check_run.proofs.Clauses.{own}
+use Rattle.dk_check_run.proofs.Making.{makes}
+use Rattle.dk_make.specs.Theory.{theory_of}
 use Rattle.dk_model.specs.WellFormed.{IsSignature}
 use Rattle.typing_model.proofs.Formed.{command_entry, formed_more, formed_numbered, formed_plain, none_formed}
 use Rattle.std.proofs.Common.{inl}
@@ -60,8 +62,15 @@ all_derived limits budget T n (c ∷ cs) tail formed e =
       all_derived limits budget (theory_after T budget c.form) (n + 1) cs tail (formed_after T.signature budget (scope_of T.names c.form) formed) first.1,
     )
 
-pub derived : (request : Option Request) (old new : ShelfState) (before after : SinkState) (result : ℕ) → Answers request old new before after result
-    → (q : Request) (bytes : List ℕ) → AsksFor request old.books q (Some bytes) → result ≡ 0 → AllDerived q.budget no_theory (read standard bytes whole).commands
-derived request old new before after result answers q bytes asks zero =
-    let report = own request old new before after result answers q bytes asks (inl zero) in
-    all_derived standard q.budget no_theory 0 (read standard bytes whole).commands (read standard bytes whole).tail none_formed (sym report.status ∙ zero)
+pub derived : (limits : Limits) (request : Option Request) (old new : ShelfState) (before after : SinkState) (result : ℕ) → Answers limits request old new before after result
+    → (q : CheckRequest) (bytes : List ℕ) → AsksFor request old.books q (Some bytes) → result ≡ 0 → AllDerived q.budget no_theory (read limits bytes whole).commands
+derived limits request old new before after result answers q bytes asks zero =
+    let report = own limits request old new before after result answers q bytes asks (inl zero) in
+    all_derived limits q.budget no_theory 0 (read limits bytes whole).commands (read limits bytes whole).tail none_formed (sym report.status ∙ zero)
+
+-- the same of a made theory
+pub theory_derived : (limits : Limits) (request : Option Request) (old new : ShelfState) (before after : SinkState) (result : ℕ) → Answers limits request old new before after result
+    → (q : MakeRequest) → request ≡ Some (to_make q) → result ≡ 0 → IsTheoryDerived limits q
+theory_derived limits request old new before after result answers q asked zero =
+    let report = makes limits request old new before after result answers q asked (λ f. absurd (omega (arith, zero, f))) (λ f. absurd (omega (arith, zero, f))) in
+    all_derived limits q.budget no_theory 0 (read limits (theory_of q.count) whole).commands (read limits (theory_of q.count) whole).tail none_formed (sym report.status ∙ zero)

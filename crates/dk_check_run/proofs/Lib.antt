@@ -1,7 +1,6 @@
 pub mod Clauses
-pub mod Crosses
 pub mod Derived
-pub mod Desking
-pub mod Preparing
-pub mod Reporting
-pub mod Standing
+pub mod Making
+pub mod Running
+pub mod Statuses
+pub mod Summaries

@@ -1,6 +1,3 @@
 pub mod Answers
 pub mod Clauses
-pub mod Counts
-pub mod Desks
-pub mod Jobs
 pub mod Run

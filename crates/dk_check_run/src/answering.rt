@@ -1,43 +1,32 @@
 //! What the program does: reads its words, opens the book, checks it and writes the report.
-ghost use Rattle.std.specs.Prelude.{◌≡◌, ◌+◌, ◌-◌, ◌^◌, ◌<◌, ◌≤◌, All, IfOk, map, length};
+ghost use Rattle.std.specs.Prelude.{◌≡◌, ◌<◌, length, map};
 ghost use Rattle.std.specs.String.{string_bytes};
 ghost use Rattle.command_line.specs.Requests.{request_of};
 ghost use Rattle.command_line.specs.Usage.{usage_text};
-ghost use Rattle.board_core.specs.Events.{end_of};
-ghost use Rattle.board_core.specs.Machine.{IsFinished, IsLegal, marks_of};
-ghost use Rattle.task_board.specs.Passes.{IsIdle};
+ghost use Rattle.command_line.specs.Views.{IsWorkerCount, plain_check, plain_make};
+ghost use Rattle.board_core.specs.Machine.{IsFinished, marks_of};
+ghost use Rattle.dk_io.specs.Causes.{HasCause};
+ghost use Rattle.dk_io.specs.Writing.{Wrote};
 ghost use Rattle.verdict_book.specs.Books.{IsReportOf};
 ghost use Rattle.verdict_book.specs.Report.{FileReport, report_of, status_of};
-ghost use Rattle.dk_check_run.specs.Answers.{Answers, ChecksBook};
-ghost use Rattle.dk_check_run.specs.Desks.{BeginsBook, BeginsDesk, ReadsBook, bounds_of};
-ghost use Rattle.dk_check_run.specs.Jobs.{due, early};
-ghost use Rattle.dk_check_run.specs.Run.{Writes, memory_at_once, shelf_state, sink_state, unopened};
+ghost use Rattle.file_check.specs.Shelves.{shelf_state};
+ghost use Rattle.dk_check_run.specs.Answers.{Answers, ChecksBook, ChecksFile, ChecksTheory, is_at_once, made_line, text_by};
+ghost use Rattle.dk_check_run.specs.Run.{Writes, memory_at_once, sink_state, unopened};
 
-use crate::book_reading::{BookRead, BookReading};
-use crate::checker::JobChecker;
-use crate::desk::Desk;
-use crate::job::{Job, Worker};
-use crate::judging::Judging;
-use crate::theory::Theory;
-use board_core::{Book, Gate};
-use command_line::{Request, read_request, usage_text};
-use dk_io::{Shelf, Sink, put, put_all};
-use dk_model::{Limits, Listed, NoMemory};
-use file_reader::Reader;
+use board_core::Gate;
+use command_line::{CheckRequest, MakeRequest, Request, read_request, usage_text};
+use dk_io::{Failed, Shelf, Sink, put, put_all};
+use dk_make::MadeText;
+use dk_model::{Limits, Verdict};
+use file_check::{CheckedBook, check_open_book};
 use itoa::Buffer as Digits;
 use std::alloc::Global;
 use std::sync::Wait;
 use std::thread::Threads;
-use task_board::{Board, WorkerPass};
-use verdict_book::{Titles, history_has_report, outcome_of, write_report};
-use worker_crew::run_crew;
+use verdict_book::{Outcome, outcome_of, write_report};
 
 // The status where a write failed.
 const SINK_FAILED: u8 = 5;
-
-/// The stack of a thread that works on terms, in bytes. It has room for what nests (docs/DECISIONS.md); a page of it takes
-/// memory only once it is used.
-pub const STACK: usize = 1 << 28;
 
 fn put_usage<K: Sink>(sink: &mut K) -> u8
     ensures { Writes (sink_state K.taken K.faults sink.old)
@@ -80,124 +69,48 @@ fn put_unopened<K: Sink>(sink: &mut K, file: &str) -> u8
     }
 }
 
-// The empty board of a file, with the desk at it and the workers' passes.
-fn open_board(
-    alloc: Global,
-    budget: u64,
-    workers: u32,
-) -> Result<(Board<JobChecker>, Desk, Listed<WorkerPass<JobChecker>>), NoMemory>
-    requires few { workers < 2 ^ 32 - 1 }
-    ensures desk { IfOk result (λ made. BeginsDesk budget (workers + 1) made.1) }
-    ensures own { IfOk result (λ made. made.1.pass.seat.table_id ≡ made.0) }
-    ensures count { IfOk result (λ made. length made.2 ≡ workers) }
-    ensures idle { IfOk result (λ made. All (λ p. (p.seat.table_id ≡ made.0)
-        × IsIdle p.seat.me.0) made.2) }
-{
-    let theory = Theory::new(alloc)?;
-    let worker = Worker::new(alloc)?;
-    let (board, pass, passes) = Board::new(alloc, workers)?;
-    let desk = Desk {
-        limits: Limits::standard(),
-        budget,
-        theory,
-        worker,
-        pass,
-        titles: Titles::new(alloc),
-        end: None,
-    };
-    Ok((board, desk, passes))
-}
-
-// Does nothing, but this use of a returned reference is what ties it, for the borrow checker, to the one that was lent.
-fn take_back<H>(shelf: &mut H)
-    ensures { shelf.new ≡ shelf.old }
-{}
-
-// Reads the open book while workers check its commands, and gives the closed board's book with the titles of its jobs.
-fn checked_book<R: Threads + Wait + Sync, H: Shelf, G: Gate + Sync>(
-    rt: &R,
-    alloc: Global,
-    shelf: &mut H,
-    gate: &G,
-    reader: Reader,
-    board: Board<JobChecker>,
-    desk: Desk,
-    passes: Listed<WorkerPass<JobChecker>>,
-) -> (Book<Job>, Titles)
-    requires own { desk.pass.seat.table_id ≡ board }
-    requires begins { BeginsBook reader desk }
-    requires some { 0 < length passes }
-    requires all { length passes + 1 ≡ desk.pass.seat.me.0.made }
-    requires idle { All (λ p. (p.seat.table_id ≡ board) × IsIdle p.seat.me.0) passes }
-    ensures legal { IsLegal due early result.0.jobs result.0.events }
-    ensures finished { IsFinished (marks_of result.0.jobs) result.0.events }
-    ensures read { ReadsBook (bounds_of desk)
-        (shelf_state H.books H.left H.faults H.missed shelf.old)
-        (shelf_state H.books H.left H.faults H.missed shelf.new)
-        result.0.jobs (end_of result.0.events) result.1 }
-{
-    let checker = JobChecker { alloc };
-    let reading = BookReading {
-        alloc,
-        shelf,
-        reader,
-        judging: Judging {
-            rt,
-            board: &board,
-            desk,
-        },
-    };
-    let (read, passes) = run_crew(rt, alloc, STACK, &board, passes, &checker, gate, reading);
-    let BookRead {
-        shelf,
-        sealed,
-        titles,
-    } = read;
-    take_back(shelf);
-    (board.close(sealed, passes), titles)
-}
-
 // Checks the open book and writes its report, once the board is closed.
 fn check_book<R: Threads + Wait + Sync, H: Shelf, K: Sink, G: Gate + Sync>(
     rt: &R,
     alloc: Global,
+    limits: Limits,
     shelf: &mut H,
     sink: &mut K,
     gate: &G,
-    request: &Request<'_>,
+    request: &CheckRequest<'_>,
 ) -> u8
-    requires some { (1 ≤ request.now.workers) × (request.now.workers ≤ 64) }
-    ensures { ChecksBook request.now.budget request.now.quiet
+    requires limit { limits.commands < 4294967294 }
+    requires some { IsWorkerCount request.now.workers }
+    ensures { ChecksBook limits request.now.budget request.now.quiet
         (shelf_state H.books H.left H.faults H.missed shelf.old)
         (shelf_state H.books H.left H.faults H.missed shelf.new)
         (sink_state K.taken K.faults sink.old)
         (sink_state K.taken K.faults sink.new) result }
 {
-    history_has_report();
-    let Ok(reader) = Reader::new(alloc, Limits::standard()) else {
-        return put_memory(sink);
-    };
-    let Ok((board, desk, passes)) = open_board(alloc, request.budget, request.workers) else {
-        return put_memory(sink);
-    };
-    let (book, titles) = checked_book(rt, alloc, shelf, gate, reader, board, desk, passes);
-    put_report(sink, &book, &titles, request.budget, request.quiet)
+    match check_open_book(
+        rt,
+        alloc,
+        limits,
+        request.budget,
+        request.workers,
+        shelf,
+        gate,
+    ) {
+        Ok(checked) => put_report(sink, &checked, request.budget, request.quiet),
+        Err(_) => put_memory(sink),
+    }
 }
 
 // Writes the report of a finished book.
-fn put_report<K: Sink>(
-    sink: &mut K,
-    book: &Book<Job>,
-    titles: &Titles,
-    budget: u64,
-    quiet: bool,
-) -> u8
-    requires finished { IsFinished (marks_of book.now.jobs) book.now.events }
-    requires all { length titles.now ≡ length book.now.jobs }
-    ensures { (report : FileReport) → IsReportOf titles.now book.now.events report →
+fn put_report<K: Sink>(sink: &mut K, checked: &CheckedBook, budget: u64, quiet: bool) -> u8
+    requires finished { IsFinished (marks_of checked.now.book.jobs) checked.now.book.events }
+    requires all { length checked.now.titles ≡ length checked.now.book.jobs }
+    ensures { (report : FileReport) →
+        IsReportOf checked.now.titles checked.now.book.events report →
         Writes (sink_state K.taken K.faults sink.old) (sink_state K.taken K.faults sink.new)
         (report_of report.names report.outcome budget quiet) (status_of report.outcome) result }
 {
+    let CheckedBook { book, titles } = checked;
     let outcome = outcome_of(book, titles);
     match write_report(book, titles, budget, quiet, sink) {
         Ok(()) => outcome.status(),
@@ -205,16 +118,119 @@ fn put_report<K: Sink>(
     }
 }
 
-/// All that the program does.
+// Opens the file and checks it.
+fn check_file<R: Threads + Wait + Sync, H: Shelf, K: Sink, G: Gate + Sync>(
+    rt: &R,
+    alloc: Global,
+    limits: Limits,
+    shelf: &mut H,
+    sink: &mut K,
+    gate: &G,
+    request: &CheckRequest<'_>,
+) -> u8
+    requires limit { limits.commands < 4294967294 }
+    requires some { IsWorkerCount request.now.workers }
+    ensures { ChecksFile limits (plain_check request.now)
+        (shelf_state H.books H.left H.faults H.missed shelf.old)
+        (shelf_state H.books H.left H.faults H.missed shelf.new)
+        (sink_state K.taken K.faults sink.old)
+        (sink_state K.taken K.faults sink.new) result }
+{
+    match shelf.open_book(request.file) {
+        Ok(()) => check_book(rt, alloc, limits, shelf, sink, gate, request),
+        Err(_) => put_unopened(sink, request.file),
+    }
+}
+
+// Whether memory ended before the first command.
+fn is_at_once(outcome: Outcome) -> bool
+    ensures { result ≡ is_at_once outcome }
+{
+    match outcome {
+        Outcome::Stopped(number, _, Verdict::Memory) => number == 0,
+        _ => false,
+    }
+}
+
+// The line that says what was made.
+fn put_make_line<K: Sink>(sink: &mut K, count: u32, size: usize) -> Result<(), Failed>
+    ensures wrote { Wrote (K.taken sink.old) (K.taken sink.new) (made_line count size) result }
+    ensures cause { HasCause (K.faults sink.old) (K.faults sink.new) result }
+{
+    let mut count_digits = Digits::new();
+    let mut size_digits = Digits::new();
+    let pieces = [
+        b"make ".as_slice(),
+        count_digits.format(count).as_bytes(),
+        b" bytes ".as_slice(),
+        size_digits.format(size).as_bytes(),
+        b"\n".as_slice(),
+    ];
+    put_all(sink, &pieces)
+}
+
+// Writes the summary of a made theory of so many bytes, which was checked.
+fn put_summary<K: Sink>(
+    sink: &mut K,
+    request: &MakeRequest,
+    size: usize,
+    checked: &CheckedBook,
+) -> u8
+    requires finished { IsFinished (marks_of checked.now.book.jobs) checked.now.book.events }
+    requires all { length checked.now.titles ≡ length checked.now.book.jobs }
+    ensures { (report : FileReport) →
+        IsReportOf checked.now.titles checked.now.book.events report →
+        Writes (sink_state K.taken K.faults sink.old) (sink_state K.taken K.faults sink.new)
+        (text_by (made_line request.now.count size) request.now.budget report.outcome)
+        (status_of report.outcome) result }
+{
+    let outcome = outcome_of(&checked.book, &checked.titles);
+    if is_at_once(outcome) {
+        return put_memory(sink);
+    }
+    match put_make_line(sink, request.count, size) {
+        Ok(()) => put_report(sink, checked, request.budget, true),
+        Err(_) => SINK_FAILED,
+    }
+}
+
+// Makes the theory, checks it and writes its summary.
+fn check_theory<R: Threads + Wait + Sync, K: Sink, G: Gate + Sync>(
+    rt: &R,
+    alloc: Global,
+    limits: Limits,
+    sink: &mut K,
+    gate: &G,
+    request: &MakeRequest,
+) -> u8
+    requires limit { limits.commands < 4294967294 }
+    requires some { IsWorkerCount request.now.workers }
+    ensures { ChecksTheory limits (plain_make request.now) (sink_state K.taken K.faults sink.old)
+        (sink_state K.taken K.faults sink.new) result }
+{
+    let Ok(mut text) = MadeText::new(alloc, request.count) else {
+        return put_memory(sink);
+    };
+    let size = text.size();
+    let (budget, workers) = (request.budget, request.workers);
+    match check_open_book(rt, alloc, limits, budget, workers, &mut text, gate) {
+        Ok(checked) => put_summary(sink, request, size, &checked),
+        Err(_) => put_memory(sink),
+    }
+}
+
+/// All that the program does, with reading at these limits.
 pub fn answer<R: Threads + Wait + Sync, H: Shelf, K: Sink, G: Gate + Sync>(
     rt: &R,
     alloc: Global,
+    limits: Limits,
     words: &[String],
     shelf: &mut H,
     sink: &mut K,
     gate: &G,
 ) -> u8
-    ensures { Answers (request_of (map string_bytes words.now))
+    requires limit { limits.commands < 4294967294 }
+    ensures { Answers limits (request_of (map string_bytes words.now))
         (shelf_state H.books H.left H.faults H.missed shelf.old)
         (shelf_state H.books H.left H.faults H.missed shelf.new)
         (sink_state K.taken K.faults sink.old)
@@ -225,8 +241,8 @@ pub fn answer<R: Threads + Wait + Sync, H: Shelf, K: Sink, G: Gate + Sync>(
         Ok(None) => return put_usage(sink),
         Err(_) => return put_memory(sink),
     };
-    match shelf.open_book(request.file) {
-        Ok(()) => check_book(rt, alloc, shelf, sink, gate, &request),
-        Err(_) => put_unopened(sink, request.file),
+    match request {
+        Request::Check(request) => check_file(rt, alloc, limits, shelf, sink, gate, &request),
+        Request::Make(request) => check_theory(rt, alloc, limits, sink, gate, &request),
     }
 }

@@ -200,9 +200,20 @@ pub(crate) fn shelf_of(
 ) -> Result<MemShelf, Fail>
     requires { 0 < piece }
 {
+    shelf_with(alloc, text.as_bytes(), piece, failing)
+}
+
+pub(crate) fn shelf_with(
+    alloc: Global,
+    bytes: &[u8],
+    piece: usize,
+    failing: &[u64],
+) -> Result<MemShelf, Fail>
+    requires { 0 < piece }
+{
     let book = Book {
         name: String::from_str(alloc, "f.dk")?,
-        bytes: Vec::from_slice(alloc, text.as_bytes())?,
+        bytes: Vec::from_slice(alloc, bytes)?,
     };
     let mut books = Vec::new(alloc);
     books.push(book)?;
@@ -278,7 +289,7 @@ const BUDGETS: [(&str, &str, u8, &str); 7] = [
     ),
 ];
 
-const NUMBERS: &str =
+pub(crate) const NUMBERS: &str =
     "nat : Type.\nz : nat.\ns : nat -> nat.\ndef plus : nat -> nat -> nat.\n[n] plus z n --> n\n[m, n] plus (s m) n --> s (plus m n).\neq : nat -> nat -> Type.\nrefl : n : nat -> eq n n.\nthm two : eq (plus (s (s z)) (s (s z))) (s (s (s (s z)))) := refl (s (s (s (s z)))).\n";
 
 #[test]
@@ -294,6 +305,9 @@ fn counts_units(rt: HostRuntime) -> Result<(), Fail> {
     }
     Ok(())
 }
+
+const USAGE: &str =
+    "usage: dk_check check [--workers N] [--budget B] [--quiet] FILE\nusage: dk_check make [--workers N] [--budget B] N\n";
 
 // What fails under the words: the bytes of a read, the shelf's call that fails, the bytes of a write, the sink's call that
 // fails (0: none), the status and the bytes taken. The shelf's first call is the opening.
@@ -341,7 +355,7 @@ const FAILURES: [Failure; 15] = [
         sink_piece: 99,
         sink_call: 0,
         status: 2,
-        taken: "usage: dk_check check [--workers N] [--budget B] [--quiet] FILE\n",
+        taken: USAGE,
     },
     Failure {
         text: TWO,
@@ -351,7 +365,7 @@ const FAILURES: [Failure; 15] = [
         sink_piece: 99,
         sink_call: 0,
         status: 2,
-        taken: "usage: dk_check check [--workers N] [--budget B] [--quiet] FILE\n",
+        taken: USAGE,
     },
     Failure {
         text: TWO,

@@ -3,9 +3,12 @@ use crate::tests::{shelf_of, words_of};
 use crate::{NoGate, run};
 use board_core::Gate;
 use dk_io::MemSink;
+use std::alloc::Global;
+use std::sync::Wait;
 use std::sync::atomic::{AtomicU64, Ordering};
 use std::test::Fail;
 use std::thread;
+use std::thread::Threads;
 
 // A file's text, the shelf's call that fails (0: none), the status and the report, for every number of workers.
 const ROWS: [(&str, u64, u8, &str); 8] = [
@@ -112,27 +115,63 @@ impl Gate for Held {
     }
 }
 
-// The check of the first theorem waits until that of the second is done.
-#[test]
-fn gate_holds_first(rt: HostRuntime) -> Result<(), Fail> {
-    let alloc = rt.alloc();
+// What a check by two workers comes to, where the check of one job waits until that of another is done.
+#[derive(Drop)]
+struct HeldUp {
+    status: u8,
+    is_reported: bool,
+    was_second_done: bool,
+}
+
+fn held_up<R: Threads + Wait + Sync>(
+    rt: &R,
+    alloc: Global,
+    text: &str,
+    first: u32,
+    second: u32,
+    report: &str,
+) -> Result<HeldUp, Fail> {
     let words = words_of(alloc, &["check", "--workers=2", "f.dk"])?;
-    let text = "a : Type. x : a. thm t : a := x. thm u : a := x.";
     let gate = Held {
-        first: 3,
-        second: 4,
+        first,
+        second,
         left: AtomicU64::new(0),
         seen: AtomicU64::new(0),
     };
     let mut shelf = shelf_of(alloc, text, 4096, &[])?;
     let mut sink = MemSink::new(alloc, 1000, 4096, Vec::new(alloc))?;
-    let got = run(&rt, alloc, words.as_slice(), &mut shelf, &mut sink, &gate);
-    let report: &[u8] = b"ok 1 a\nok 2 x\nok 3 t\nok 4 u\naccepted 4\n";
-    assert_eq!(rt; sink.bytes(), report);
-    assert_eq!(rt; got, 0);
+    let status = run(rt, alloc, words.as_slice(), &mut shelf, &mut sink, &gate);
+    Ok(HeldUp {
+        status,
+        is_reported: sink.bytes() == report.as_bytes(),
+        was_second_done: gate.seen.load(Ordering::SeqCst) == 1,
+    })
+}
+
+// The check of the first theorem waits until that of the second is done.
+#[test]
+fn gate_holds_first(rt: HostRuntime) -> Result<(), Fail> {
+    let text = "a : Type. x : a. thm t : a := x. thm u : a := x.";
+    let report = "ok 1 a\nok 2 x\nok 3 t\nok 4 u\naccepted 4\n";
+    let held = held_up(&rt, rt.alloc(), text, 3, 4, report)?;
+    assert!(rt; held.is_reported && held.status == 0);
     assert!(rt;
-        gate.seen.load(Ordering::SeqCst) == 1,
+        held.was_second_done,
         "the second check ended while the first was held up"
+    );
+    Ok(())
+}
+
+// The fault that comes first in the file is found last.
+#[test]
+fn reports_the_first_fault_that_is_found_last(rt: HostRuntime) -> Result<(), Fail> {
+    let text = "a : Type. b : Type. x : a. thm t : b := x. thm u : a := b.";
+    let report = "ok 1 a\nok 2 b\nok 3 x\nrefused 4 line 1 E21\n";
+    let held = held_up(&rt, rt.alloc(), text, 4, 5, report)?;
+    assert!(rt; held.is_reported && held.status == 1);
+    assert!(rt;
+        held.was_second_done,
+        "the later fault was found while the first was held up"
     );
     Ok(())
 }

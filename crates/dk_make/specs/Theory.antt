@@ -1,4 +1,4 @@
--- The theory that is made: addition of numerals, and theorems by computation (docs/generator.md).
+-- Trusted: the theory that is made: addition of numerals, and theorems by computation (docs/generator.md).
 use Rattle.std.specs.Prelude.{ℕ, zero, suc, ◌+◌, ◌%◌, List, [], ◌∷◌, ◌++◌, codes, decimal}
 
 -- the pieces, one after the other

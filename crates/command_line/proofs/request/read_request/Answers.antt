@@ -36,13 +36,13 @@ returns-in-Ok-clause-ok c =
     let texts = map string_bytes c.args.words.now in
     let found = c.in-Ok.ensures in
     c.asked.ensures.value
-    ∙ (ap (option_and_then (λ found. request_in found.1)) (found.matches is_simple_program).1 ∙ sym (asked_by texts found.faults))
+    ∙ (ap (option_and_then request_in) (found.matches is_simple_program).1 ∙ sym (asked_by texts found.faults))
 
 pub returns-in-Ok-clause-taken : goal.returns-in-Ok-clause-taken
 returns-in-Ok-clause-taken c =
     let texts = map string_bytes c.args.words.now in
     let found = c.in-Ok.ensures in
-    let asks = c.asked.ensures.value ∙ ap (option_and_then (λ found. request_in found.1)) (found.matches is_simple_program).1 in
+    let asks = c.asked.ensures.value ∙ ap (option_and_then request_in) (found.matches is_simple_program).1 in
     ((λ some. found.faults), (λ taken. some_from plain_request c.asked.result _ asks (taken_asks texts found.faults)))
 
 pub returns : goal.returns
@@ -52,6 +52,5 @@ returns c =
     record {
       ok = refused texts c.in-Err.error c.in-Err.ensures.faults other;
       taken = ((λ none. absurd (true≢false (sym none))), (λ taken. absurd (not_taken texts c.in-Err.error c.in-Err.ensures.faults other taken)));
-      workers = tt;
-      budget = tt;
+      bounds = tt;
     }

@@ -16,21 +16,21 @@ as_read found r read = ap (option_and_then (number_of worker_counts)) (sym (one_
 
 pub returns-in_err-workers-clause-value : goal.returns-in_err-workers-clause-value
 returns-in_err-workers-clause-value c =
-    let found = found_of c.args.check.now in
+    let found = found_of c.args.found.now in
     let read = number_read 64 (one_text found (codes "workers")) c.get_one.result
     (λ t r. ParsesUnsigned 64 10 t r × ExplainsUnsignedError 10 t r × HasUnsignedDigitsIfOk t r) (λ t x g. g.0) c.get_one.ensures.none c.get_one.ensures.value in
     c.from_residual.ensures ∙ sym (as_read found c.get_one.result read ∙ ap (option_and_then (kept 64)) c.in_err-workers.was)
 
 pub returns-then-workers-le-MOST_WORKERS-clause-value : goal.returns-then-workers-le-MOST_WORKERS-clause-value
 returns-then-workers-le-MOST_WORKERS-clause-value c =
-    let found = found_of c.args.check.now in
+    let found = found_of c.args.found.now in
     let read = number_read 64 (one_text found (codes "workers")) c.get_one.result
     (λ t r. ParsesUnsigned 64 10 t r × ExplainsUnsignedError 10 t r × HasUnsignedDigitsIfOk t r) (λ t x g. g.0) c.get_one.ensures.none c.get_one.ensures.value in
     sym (as_read found c.get_one.result read ∙ (ap (option_and_then (kept 64)) c.in_ok-workers.was ∙ kept-inside 64 c.in_ok-workers.workers c.if-workers-ge1.true c.if-workers-le-MOST_WORKERS.true))
 
 pub returns-else-workers-ge1-clause-value : goal.returns-else-workers-ge1-clause-value
 returns-else-workers-ge1-clause-value c =
-    let found = found_of c.args.check.now in
+    let found = found_of c.args.found.now in
     let read = number_read 64 (one_text found (codes "workers")) c.get_one.result
     (λ t r. ParsesUnsigned 64 10 t r × ExplainsUnsignedError 10 t r × HasUnsignedDigitsIfOk t r) (λ t x g. g.0) c.get_one.ensures.none c.get_one.ensures.value in
     sym (as_read found c.get_one.result read ∙ (ap (option_and_then (kept 64)) c.in_ok-workers.was ∙ kept-outside 64 c.in_ok-workers.workers c.else-workers-ge1.either))

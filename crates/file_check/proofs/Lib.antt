@@ -1,0 +1,5 @@
+pub mod Crosses
+pub mod Desking
+pub mod Preparing
+pub mod Reporting
+pub mod Standing

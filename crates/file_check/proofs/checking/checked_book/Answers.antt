@@ -1,0 +1,22 @@
+use Rattle.file_check.proofs.Desking.{some_of}
+use Rattle.file_check.proofs.Crosses.{job_send, job_sync}
+use Rattle.std.proofs.Common.{rules, ◌≡◌, ◌∙◌, All, sym, subst, length, ℕ, ◌<◌, arith}
+use denote.Exit as Exit
+use denote.Param.Send.{arg_send, arg_sync, param_send, param_sync}
+use Rattle.task_board.specs.Passes.{IsIdle, IsOver}
+use Rattle.file_check.proofs.checking.checked_book.Goals as goal
+
+pub run_crew-read-requires-send-C-Job : goal.run_crew-read-requires-send-C-Job
+run_crew-read-requires-send-C-Job g c κs within = param_send 5 _ (arg_send _ Exit.no _ job_send)
+
+pub run_crew-read-requires-sync-C-Job : goal.run_crew-read-requires-sync-C-Job
+run_crew-read-requires-sync-C-Job g c κs within = param_sync 5 _ (arg_sync _ Exit.no _ job_sync)
+
+pub close-requires-clause-idle : goal.close-requires-clause-idle
+close-requires-clause-idle g c = λ k d h. (c.run_crew-read.ensures.over k d h).1
+
+pub returns-clause-finished : goal.returns-clause-finished
+returns-clause-finished g c =
+    let count = c.run_crew-read.ensures.count in
+    let some = c.requires.some in
+    c.close.ensures.finished (some_of (λ p. IsOver p.seat.me.0) c.run_crew-read.result.1 (omega (arith, count, some)) (λ k d h. (c.run_crew-read.ensures.over k d h).2))

@@ -1,0 +1,5 @@
+pub mod Checks
+pub mod Counts
+pub mod Desks
+pub mod Jobs
+pub mod Shelves

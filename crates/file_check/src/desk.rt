@@ -1,0 +1,151 @@
+//! The desk of the reader: each command of a file becomes a job on the board.
+ghost use Rattle.std.specs.Prelude.{◌≡◌, ◌<◌, Some, IfOk, length};
+ghost use Rattle.dk_parser.specs.RawViews.{written_command};
+ghost use Rattle.board_core.specs.Events.{end_of};
+ghost use Rattle.board_core.specs.Machine.{MaySettle};
+ghost use Rattle.task_board.specs.Histories.{events_in};
+ghost use Rattle.file_report.specs.Jobs.{title_of, titles_of};
+ghost use Rattle.file_check.specs.Jobs.{due, early, job_of};
+ghost use Rattle.file_reader.specs.Progress.{LeavesAtEnd};
+ghost use Rattle.file_check.specs.Desks.{Enters, IsOver, IsReady, IsSound, Puts, end_by, known_at, same_bounds};
+
+use crate::checker::JobChecker;
+use crate::job::Worker;
+use crate::theory::{Prepared, Theory};
+use board_core::{End, PutRefused};
+use dk_model::{Code, Limits, Verdict};
+use dk_parser::Raw;
+use file_reader::{Halt, ReadEnd};
+use std::alloc::Global;
+use std::sync::{Arc, Wait};
+use task_board::{Board, ReaderPass, SealedPass};
+use verdict_book::Titles;
+
+/// What the reader keeps while it makes the commands of a file jobs.
+#[derive(Drop)]
+pub struct Desk {
+    pub limits: Limits,
+    pub budget: u64,
+    pub theory: Theory,
+    /// Who checks a definition without a type, since the next version needs its type.
+    pub worker: Worker,
+    pub pass: ReaderPass<JobChecker>,
+    /// What the report names of the jobs, in order.
+    pub titles: Titles,
+    // How the file ends, once no other command is taken.
+    pub end: Option<End>,
+}
+
+// How the board is sealed where reading came to this end. Where the desk stopped, it said how.
+fn end_by(read_end: ReadEnd, stopped: Option<End>) -> End
+    ensures { result ≡ end_by read_end stopped }
+{
+    match read_end {
+        ReadEnd::Whole => End::Whole,
+        ReadEnd::Unread => End::Unread,
+        ReadEnd::Halted(Halt::Refused(line, code)) => End::Fault(line, Verdict::Refused(code)),
+        ReadEnd::Halted(Halt::NoMemory(line)) => End::Fault(line, Verdict::Memory),
+        ReadEnd::Halted(Halt::Judged) => stopped.unwrap_or(End::Whole),
+    }
+}
+
+impl Desk {
+    /// Makes the next command a job on the board; or says how the file ends at it.
+    pub fn enter<R: Wait>(
+        &mut self,
+        rt: &R,
+        alloc: Global,
+        board: &Board<JobChecker>,
+        raw: Raw,
+    ) -> Result<(), End>
+        requires own { self.old.pass.seat.table_id ≡ board.now }
+        requires ready { IsReady self.old }
+        ensures own { self.new.pass.seat.table_id ≡ board.now }
+        ensures made { self.new.pass.seat.me.0.made ≡ self.old.pass.seat.me.0.made }
+        ensures enters { Enters self.old (written_command raw) self.new result }
+        ensures sound { IsSound self.new.limits self.new.titles (known_at self.new) }
+        ensures bounds { same_bounds self.old self.new }
+    {
+        let line = raw.line;
+        if self.titles.len() >= self.limits.commands as usize {
+            return Err(End::Fault(line, Verdict::Refused(Code::E08)));
+        }
+        match self
+            .theory
+            .prepare(alloc, &mut self.worker, self.budget, raw)
+        {
+            Ok(prepared) => self.put(rt, alloc, board, prepared),
+            Err(verdict) => Err(End::Fault(line, verdict)),
+        }
+    }
+
+    // Puts a job; or says how the file ends at it.
+    fn put<R: Wait>(
+        &mut self,
+        rt: &R,
+        alloc: Global,
+        board: &Board<JobChecker>,
+        prepared: Prepared,
+    ) -> Result<(), End>
+        requires own { self.old.pass.seat.table_id ≡ board.now }
+        requires few { length self.old.titles < self.old.limits.commands }
+        requires sound { IsSound self.old.limits self.old.titles (known_at self.old) }
+        requires title { prepared.title ≡ title_of (job_of prepared.job) }
+        requires settled { MaySettle due early (prepared.job, prepared.settled) }
+        ensures own { self.new.pass.seat.table_id ≡ board.now }
+        ensures made { self.new.pass.seat.me.0.made ≡ self.old.pass.seat.me.0.made }
+        ensures puts { Puts self.old prepared self.new result }
+        ensures sound { IsSound self.new.limits self.new.titles (known_at self.new) }
+        ensures bounds { same_bounds self.old self.new }
+        ensures theory { self.new.theory ≡ self.old.theory }
+    {
+        let Prepared {
+            job,
+            settled,
+            title,
+        } = prepared;
+        let memory = End::Fault(title.line, Verdict::Memory);
+        let Ok(job) = Arc::new(alloc, job) else {
+            return Err(memory);
+        };
+        let Ok(()) = self.titles.push(&title) else {
+            return Err(memory);
+        };
+        match board.put(rt, &mut self.pass, job, settled) {
+            Ok(_) => Ok(()),
+            Err(PutRefused::Stopped { .. }) => {
+                self.titles.pop();
+                Err(End::Stopped)
+            }
+            Err(PutRefused::NoMemory { .. }) => {
+                self.titles.pop();
+                Err(memory)
+            }
+        }
+    }
+
+    /// Seals the board once reading came to this end, and gives the titles of its jobs.
+    pub fn seal<R: Wait>(
+        self,
+        rt: &R,
+        board: &Board<JobChecker>,
+        read_end: ReadEnd,
+    ) -> (SealedPass<JobChecker>, Titles)
+        requires own { self.pass.seat.table_id ≡ board.now }
+        requires left { LeavesAtEnd IsReady IsOver self read_end }
+        ensures own { result.0.seat.table_id ≡ board.now }
+        ensures made { result.0.seat.me.0.made ≡ self.pass.seat.me.0.made }
+        ensures jobs { result.0.seat.me.0.known ≡ known_at self }
+        ensures end { end_of (events_in result.0.seat.me.0.mine) ≡ Some (end_by read_end self.end) }
+        ensures titles { result.1 ≡ titles_of job_of (known_at self) }
+    {
+        let Desk {
+            pass,
+            titles,
+            end,
+            ..
+        } = self;
+        let sealed = board.seal(rt, pass, end_by(read_end, end));
+        (sealed, titles)
+    }
+}

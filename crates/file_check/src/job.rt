@@ -1,0 +1,75 @@
+//! A job of the board: one command, and its check.
+ghost use Rattle.std.specs.Prelude.{◌≡◌, ◌⊎◌, IsTrue, Some, IfOk, IfErr};
+ghost use Rattle.dk_model.specs.Answering.{is_untyped};
+ghost use Rattle.dk_model.specs.Scoping.{plain_command};
+ghost use Rattle.dk_model.specs.Verdicts.{inferred_type, verdict_of};
+ghost use Rattle.dk_model.specs.declared.code.Verdict.TheVariants.{Memory};
+ghost use Rattle.shared_term.specs.Storage.{stored_term};
+ghost use Rattle.signature_log.specs.Versions.{entries_of};
+ghost use Rattle.file_report.specs.Jobs.{due_of};
+ghost use Rattle.file_check.specs.Jobs.{IsOtherVerdict, job_of};
+
+use board_core::Past;
+use command_check::{check_command, infer_type};
+use conversion::PoolReducer;
+use dk_model::{NoMemory, Scoped, Verdict};
+use shared_term::Stored;
+use signature_log::Version;
+use std::alloc::Global;
+use verdict_book::Title;
+
+/// One command with what its check needs. What a report names of it is kept beside the board, and stands here for contracts
+/// alone.
+#[derive(Drop)]
+pub struct Job {
+    /// The version of the commands before it.
+    pub version: Version,
+    pub command: Scoped,
+    /// The units that its check may take.
+    pub budget: u64,
+    pub title: Past<Title>,
+}
+
+/// Who checks jobs, with a pool of terms that is used again for each.
+#[derive(Drop)]
+pub struct Worker {
+    reducer: PoolReducer,
+}
+
+impl Worker {
+    pub fn new(alloc: Global) -> Result<Worker, NoMemory> {
+        Ok(Worker {
+            reducer: PoolReducer::new(alloc)?,
+        })
+    }
+
+    /// The verdict of the job, by what stands in it and by nothing else, or `Memory`.
+    #[tactic(auto, using(crate::proofs::Preparing::verdict_or_memory))]
+    pub fn check(&mut self, job: &Job) -> Verdict
+        ensures { (result ≡ due_of (job_of job.now)) ⊎ (result ≡ Memory) }
+    {
+        self.reducer.clear();
+        check_command(&mut self.reducer, &job.version, &job.command, job.budget)
+    }
+
+    /// The type of a definition without a declared one, where it is accepted; else its verdict.
+    pub fn infer(
+        &mut self,
+        version: &Version,
+        command: &Scoped,
+        budget: u64,
+    ) -> Result<Stored, Verdict>
+        requires { IsTrue (is_untyped (plain_command command.now)) }
+        ensures ok { IfOk result (λ t.
+            inferred_type (entries_of version.now) (plain_command command.now) budget
+            ≡ Some (stored_term t)) }
+        ensures accepted { IfOk result (λ _.
+            verdict_of (entries_of version.now) (plain_command command.now) budget
+            ≡ Verdict.Accepted) }
+        ensures err { IfErr result (IsOtherVerdict
+            (verdict_of (entries_of version.now) (plain_command command.now) budget)) }
+    {
+        self.reducer.clear();
+        infer_type(&mut self.reducer, version, command, budget)
+    }
+}
