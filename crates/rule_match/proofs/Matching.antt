@@ -14,7 +14,7 @@ use Rattle.std.specs.Borrow.{Bor}
 use Rattle.std.specs.Prelude.{IfOk, Result, Ok, Err}
 use Rattle.dk_model.specs.declared.memory.NoMemory.{NoMemory}
 use Rattle.shared_term.specs.declared.id.TermId.{TermId}
-use Rattle.shared_term.specs.Pools.{Node as PoolNode, Extends}
+use Rattle.shared_term.specs.Pools.{Node as PoolNode, term, Extends}
 use Rattle.shared_term.specs.Changes.{AreCaptures, captured_terms}
 use Rattle.rule_match.specs.declared.cell.Cell.{Cell as HeldCell}
 use Rattle.rule_match.specs.declared.value.Column.{Column as HeldColumn}
@@ -248,3 +248,6 @@ same_stands rules m m' e q s = record {
   tree = subst (λ (t : Bor Compiled). IsTree rules t.now) (flip e) s.tree;
   left = subst (λ (l : Left). IsLeft rules m'.tree.now l) (flip q) (subst (λ (t : Bor Compiled). IsLeft rules t.now m.left) (flip e) s.left);
 }
+
+pub term_in_column : (ns : List PoolNode) (cols : List HeldColumn) (i : ℕ) (c : HeldColumn) → slice_get cols i ≡ Some c → term ns c.term ≡ (column_at (plain ns cols) i).term
+term_in_column ns cols i c e = ap (λ (k : Column). k.term) (flip (term_there ns cols i c e))

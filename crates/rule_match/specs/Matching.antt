@@ -62,6 +62,10 @@ pub record Stands (rules : List PlainRule) (m : Matcher) : Type 0 where
   pub tree : IsTree rules m.tree.now
   pub left : IsLeft rules m.tree.now m.left
 
+-- the term that stands in a column
+abbrev pub term_in : List PoolNode → Matcher → ℕ → Tree
+term_in ns m i = (column_at (plain ns m.columns.items) i).term
+
 module _ (S : PlainSignature) (rules : List PlainRule) (ns : List PoolNode) (m : Matcher) where
   -- the selection of the rows that were not tried
   abbrev pub selects : ℕ → Units (Option Selected)
@@ -105,7 +109,7 @@ module _ (S : PlainSignature) (rules : List PlainRule) (ns : List PoolNode) (m :
 
   -- the selection `due` asks for this first, and goes on with the answer; or it comes to this
   abbrev pub AsksFor : Stage → Ask → (ℕ → Units (Option Selected)) → Type 0
-  AsksFor (Evaluates i) (Evaluate j) due = (n : ℕ) → due n ≡ bind (whnf_of S n (column_at (plain ns m.columns.items) i).term) (after_value i)
+  AsksFor (Evaluates i) (Evaluate j) due = (n : ℕ) → due n ≡ bind (whnf_of S n (term_in ns m i)) (after_value i)
   AsksFor (Escapes i) (Escape t) due = (n : ℕ) → due n ≡ bind (normal_of S n (term ns t)) (after_normal i)
   AsksFor (Compares i) (Same a b) due = (n : ℕ) → due n ≡ bind (comparison_of S n (term ns a) (term ns b)) (after_compared i)
   AsksFor (Guards i) (Same a b) due = (n : ℕ) → due n ≡ bind (comparison_of S n (term ns a) (term ns b)) (after_guard i)

@@ -2,13 +2,13 @@
 ghost use Rattle.std.specs.Prelude.{◌≡◌, ℕ, ◌<◌, None, IfOk, OnOk, List, length, vec_len, replicate};
 ghost use Rattle.dk_model.specs.Signatures.{PlainRule};
 ghost use Rattle.dk_model.specs.Matrix.{width};
-ghost use Rattle.shared_term.specs.Pools.{term, Extends};
+ghost use Rattle.shared_term.specs.Pools.{Node, term, Extends};
 ghost use Rattle.rule_match.specs.Rows.{plain_cell};
 ghost use Rattle.rule_match.specs.Columns.{AreWithin};
 ghost use Rattle.rule_match.specs.Standing.{others_in};
 ghost use Rattle.rule_match.specs.Trees.{IsTree};
 ghost use Rattle.rule_match.specs.declared.matcher.Stage.TheVariants.{Begins};
-ghost use Rattle.rule_match.specs.Matching.{IsMatcher, IsAnswer, Awaits, Stands, Asks, IsStart, selects, captures_due, guards_due, after_value, after_normal, after_compared, after_guard, answered, fails};
+ghost use Rattle.rule_match.specs.Matching.{IsMatcher, IsAnswer, Awaits, Stands, Asks, IsStart, selects, captures_due, guards_due, after_value, after_normal, after_compared, after_guard, answered, fails, term_in};
 
 use crate::cell::{Cell, Row};
 use crate::left::{Left, kept_for, left_before, row_at, variable_count, width_before};
@@ -139,6 +139,15 @@ impl<'t> Matcher<'t> {
             captures: Vec::new(alloc),
             stage: Stage::Begins,
         })
+    }
+
+    /// The term that stands in this column.
+    #[tactic(auto, using(crate::proofs::Matching::term_in_column))]
+    pub fn at(&self, column: usize) -> TermId
+        requires { column < length self.now.columns.items }
+        ensures { (ns : List Node) → term ns result ≡ term_in ns self.now column }
+    {
+        column_of(self.columns.as_slice(), column).term
     }
 
     /// What the selection asks for next, where this is the answer to what it asked for last. The asks come one at a
