@@ -5,55 +5,43 @@ use dk_io::MemSink;
 use dk_model::Limits;
 use std::test::Fail;
 
-// From so many bytes of the text on, the last line of the report, which stays up to the next row.
-const FRONTS: [(usize, &str); 19] = [
-    (0, "accepted 0\n"),
-    (1, "refused 1 line 1 E03\n"),
-    (11, "accepted 1\n"),
-    (13, "refused 2 line 2 E03\n"),
-    (20, "accepted 2\n"),
-    (22, "refused 3 line 3 E03\n"),
-    (36, "accepted 3\n"),
-    (38, "refused 4 line 4 E03\n"),
-    (66, "accepted 4\n"),
-    (68, "refused 5 line 5 E03\n"),
-    (123, "accepted 5\n"),
-    (125, "refused 6 line 7 E03\n"),
-    (148, "accepted 6\n"),
-    (150, "refused 7 line 8 E03\n"),
-    (174, "accepted 7\n"),
-    (176, "refused 8 line 9 E03\n"),
+// Fronts of the text from so many bytes to fewer than so many, with the last line of their report.
+const FRONTS: [(usize, usize, &str); 19] = [
+    (0, 1, "accepted 0\n"),
+    (1, 11, "refused 1 line 1 E03\n"),
+    (11, 13, "accepted 1\n"),
+    (13, 20, "refused 2 line 2 E03\n"),
+    (20, 22, "accepted 2\n"),
+    (22, 36, "refused 3 line 3 E03\n"),
+    (36, 38, "accepted 3\n"),
+    (38, 66, "refused 4 line 4 E03\n"),
+    (66, 68, "accepted 4\n"),
+    (68, 123, "refused 5 line 5 E03\n"),
+    (123, 125, "accepted 5\n"),
+    (125, 148, "refused 6 line 7 E03\n"),
+    (148, 150, "accepted 6\n"),
+    (150, 174, "refused 7 line 8 E03\n"),
+    (174, 176, "accepted 7\n"),
+    (176, 234, "refused 8 line 9 E03\n"),
     // A colon, behind a colon and a term; it is the front of a sign that may stand there.
-    (234, "refused 8 line 9 E02\n"),
-    (235, "refused 8 line 9 E03\n"),
-    (259, "accepted 8\n"),
+    (234, 235, "refused 8 line 9 E02\n"),
+    (235, 259, "refused 8 line 9 E03\n"),
+    (259, 261, "accepted 8\n"),
 ];
-
-fn last_line(length: usize) -> &'static str {
-    let mut line = "";
-    for (first, last) in &FRONTS {
-        if *first <= length {
-            line = *last;
-        }
-    }
-    line
-}
 
 #[test]
 fn reports_each_front_of_a_file(rt: HostRuntime) -> Result<(), Fail> {
     let alloc = rt.alloc();
     let words = words_of(alloc, &["check", "--quiet", "f.dk"])?;
     let bytes = NUMBERS.as_bytes();
-    for length in 0..261 {
-        let front = bytes.get(..length).ok_or("so many bytes")?;
-        let mut shelf = shelf_with(alloc, front, 4096, &[])?;
-        let mut sink = MemSink::new(alloc, 100, 4096, Vec::new(alloc))?;
-        run(&rt, alloc, words.as_slice(), &mut shelf, &mut sink, &NoGate);
-        assert_eq!(rt;
-            sink.bytes(),
-            last_line(length).as_bytes(),
-            "at {length} bytes"
-        );
+    for (first, end, last) in FRONTS {
+        for length in first..end {
+            let front = bytes.get(..length).ok_or("so many bytes")?;
+            let mut shelf = shelf_with(alloc, front, 4096, &[])?;
+            let mut sink = MemSink::new(alloc, 100, 4096, Vec::new(alloc))?;
+            run(&rt, alloc, words.as_slice(), &mut shelf, &mut sink, &NoGate);
+            assert_eq!(rt; sink.bytes(), last.as_bytes(), "at {length} bytes");
+        }
     }
     Ok(())
 }
