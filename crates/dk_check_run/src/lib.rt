@@ -11,6 +11,8 @@ pub use gate::NoGate;
 pub use top::{run, run_with};
 
 #[cfg(test)]
+mod failure_tests;
+#[cfg(test)]
 mod front_tests;
 #[cfg(test)]
 mod make_tests;
