@@ -43,19 +43,24 @@ fn take_each(alloc: Global, reading: &mut Reading, fed: Fed) -> Result<(), Fault
     }
 }
 
-fn commands_of(alloc: Global, text: &str) -> Result<Vec<Scoped>, Fault> {
-    let limits = Limits::standard();
-    let mut lexer = Lexer::new(limits);
-    let mut reading = Reading {
-        parser: Parser::new(alloc, limits),
-        names: Names::new(alloc)?,
-        commands: Vec::new(alloc),
-    };
+// Each byte of a text, and its end.
+fn take_text(alloc: Global, reading: &mut Reading, text: &str) -> Result<(), Fault> {
+    let mut lexer = Lexer::new(Limits::standard());
     for byte in text.as_bytes() {
         let fed = lexer.feed(alloc, *byte)?;
-        take_each(alloc, &mut reading, fed)?;
+        take_each(alloc, reading, fed)?;
     }
-    take_each(alloc, &mut reading, lexer.finish(alloc))?;
+    take_each(alloc, reading, lexer.finish(alloc))
+}
+
+fn commands_of(alloc: Global, text: &str) -> Result<Vec<Scoped>, Fault> {
+    let names = Names::new(alloc)?;
+    let mut reading = Reading {
+        parser: Parser::new(alloc, Limits::standard()),
+        names,
+        commands: Vec::new(alloc),
+    };
+    take_text(alloc, &mut reading, text)?;
     Ok(reading.commands)
 }
 
