@@ -210,7 +210,8 @@ fn captures_are_abstracted_over_their_arguments(rt: HostRuntime) -> Result<(), F
     for (bound, arguments, told) in [(3, [1, 0], false), (3, [0, 0], true), (4, [1, 0], true)] {
         assert_eq!(rt;
             mentions(rt.alloc(), &mut pool, bound, &arguments, &from)?,
-            told
+            told,
+            "at {bound}"
         );
     }
     Ok(())
