@@ -286,7 +286,7 @@ fn a_stored_term_has_each_node_once(rt: HostRuntime) -> Result<(), Fail> {
     Ok(())
 }
 
-// `x : 0 1 -> (y => R2 0) (y : 1 => Type Kind)`.
+// `x : 0 1 -> (y => r 0) (y : 1 => Type Kind)`: numbers are variables, r is a rule variable.
 fn boxed(alloc: Global) -> Result<Term, NoMemory> {
     let domain = make_app(alloc, Term::Var(0), Term::Var(1))?;
     let bare = make_bare(alloc, make_app(alloc, Term::Rvar(2), Term::Var(0))?)?;
@@ -312,7 +312,7 @@ fn boxed_terms_are_stored_and_come_back(rt: HostRuntime) -> Result<(), Fail> {
     Ok(())
 }
 
-// `0 1 -> (y => R2 0) (y => Type Kind)`.
+// The same without its annotation.
 fn bared(alloc: Global) -> Result<Term, NoMemory> {
     let domain = make_app(alloc, Term::Var(0), Term::Var(1))?;
     let bare = make_bare(alloc, make_app(alloc, Term::Rvar(2), Term::Var(0))?)?;
