@@ -7,21 +7,22 @@ use Rattle.dk_terms.specs.declared.terminal.Terminal.{Terminal}
 use Rattle.dk_terms.specs.declared.terminal.Terminal.TheVariants as terminal
 use Rattle.dk_parser.specs.Written.{Written, written_qualified, written_star, written_apply, written_arrow, written_product, written_bare, written_annotated, WrittenParam, written_declare}
 use Rattle.dk_parser.specs.Grammar.{colon, dot, arrow, double_arrow, open_bracket, close_bracket, param, SpellsBinder, spells_binder, spells_no_binder, SpellsAtom, spells_name, spells_qualified, spells_star, spells_wildcard, spells_brackets, SpellsApplication, spells_head, spells_applied, SpellsTerm, spells_application, spells_arrow, spells_product, spells_bracketed_product, spells_bare, spells_annotated, SpellsParams, spells_no_params, spells_params}
-use Rattle.dk_parser.specs.Parsing.{Role, at_front, domain, Application, due, bindable, applied, bracketed, bracket_frame, arrow_frame, product_frame, bare_frame, annotated_frame, Frames, bottom, on, TermSoFar, term_due, pushed, binder_term, application_more, application_binder, takes_atom, application_term, in_frames, unwound, unwound_all, next_open, next_close, next_close_term, next_close_domain, next_arrow, framed, term_next, term_argument, term_done, application_ended, in_bracket, takes, Head, level_behind, with_param, Purpose, as_param, as_type, as_body, CommandSoFar, head_due, binder_due, binder_colon_due, in_term, behind_term, term_goes, term_ends, in_term_next}
+use Rattle.dk_parser.specs.Parsing.{Role, at_front, domain, Application, due, bindable, applied, bracketed, Frame, bracket_frame, arrow_frame, product_frame, bare_frame, annotated_frame, Frames, bottom, on, TermSoFar, term_due, pushed, binder_term, Around, around_term, around, application_more, application_binder, takes_atom, application_term, in_frames, unwound, unwound_all, unwound_all_by, unwound_by, next_open, next_close, next_close_term, next_close_domain, next_arrow, framed, term_next, term_argument, term_done, application_ended, in_bracket, takes, Head, level_behind, with_param, Purpose, as_param, as_type, as_body, CommandSoFar, head_due, binder_due, binder_colon_due, in_term, behind_term, term_goes, term_ends, in_term_next}
 use Rattle.dk_parser.proofs.Machine.{ended, run_by, run}
+
+-- a term in a frame that is no bracket
+abbrev pub wrapped : Frame → Written → Written
+wrapped (bracket_frame s) a = a
+wrapped (arrow_frame b) a = written_arrow b a
+wrapped (product_frame v b) a = written_product v b a
+wrapped (bare_frame v) a = written_bare v a
+wrapped (annotated_frame v b) a = written_annotated v b a
 
 -- a term that goes on is no whole one in a bracket
 unwound_in : (fs : Frames) (a : Written) (q : TermSoFar) → unwound fs a ≡ Some q → in_bracket fs ≡ true
 unwound_in (bottom level) a q e = cc
 unwound_in (on d (bracket_frame s) fs) a q e = refl
-unwound_in (on d (arrow_frame b) fs) a q e = unwound_in fs (written_arrow b a) q e
-unwound_in (on d (product_frame v b) fs) a q e = unwound_in fs (written_product v b a) q e
-unwound_in (on d (bare_frame v) fs) a q e = unwound_in fs (written_bare v a) q e
-unwound_in (on d (annotated_frame v b) fs) a q e = unwound_in fs (written_annotated v b a) q e
-
-close_term_in : (fs : Frames) (o : Option Written) (q : TermSoFar) → next_close_term fs o ≡ Some q → in_bracket fs ≡ true
-close_term_in fs None q e = cc
-close_term_in fs (Some a) q e = unwound_in fs a q e
+unwound_in (on d f fs) a q e = unwound_in fs (wrapped f a) q e
 
 close_domain_in : (fs : Frames) (v : Option (List ℕ)) (a : Written) (q : TermSoFar) → next_close_domain fs v a ≡ Some q → in_bracket fs ≡ true
 close_domain_in (on d (bracket_frame (due at_front)) fs) v a q e = refl
@@ -29,32 +30,20 @@ close_domain_in fs v a q e = cc
 
 close_in : (fs : Frames) (s : Application) (q : TermSoFar) → next_close fs s ≡ Some q → in_bracket fs ≡ true
 close_in fs (applied (domain v) a n) q e = close_domain_in fs v a q e
-close_in fs (applied at_front a n) q e = close_term_in fs (Some a) q e
-close_in fs (bindable v) q e = close_term_in fs (Some (binder_term v)) q e
-close_in fs (due role) q e = cc
-close_in fs (bracketed v a) q e = cc
+close_in fs (applied at_front a n) q e = unwound_in fs a q e
+close_in fs (bindable v) q e = unwound_in fs (binder_term v) q e
+close_in fs s q e = cc
 
 -- what a term goes on with is a terminal of a term
 pub next_takes : (p q : TermSoFar) (x : Terminal) → term_next p x ≡ Some q → takes p x ≡ true
-next_takes p q (terminal.Name n) e = refl
-next_takes p q terminal.Wildcard e = refl
-next_takes p q (terminal.Qualified m n) e = refl
-next_takes p q terminal.Star e = refl
-next_takes p q (terminal.Sign sign.OpenBracket) e = refl
 next_takes p q (terminal.Sign sign.CloseBracket) e = close_in p.frames p.application q e
-next_takes p q (terminal.Sign sign.Colon) e = refl
-next_takes p q (terminal.Sign sign.Arrow) e = refl
-next_takes p q (terminal.Sign sign.DoubleArrow) e = refl
 next_takes p q x e = cc
 
 -- no bracket is open around a whole term
 whole_out : (fs : Frames) (a b : Written) → unwound_all fs a ≡ Some b → in_bracket fs ≡ false
 whole_out (bottom level) a b e = refl
 whole_out (on d (bracket_frame s) fs) a b e = cc
-whole_out (on d (arrow_frame c) fs) a b e = whole_out fs (written_arrow c a) b e
-whole_out (on d (product_frame v c) fs) a b e = whole_out fs (written_product v c a) b e
-whole_out (on d (bare_frame v) fs) a b e = whole_out fs (written_bare v a) b e
-whole_out (on d (annotated_frame v c) fs) a b e = whole_out fs (written_annotated v c a) b e
+whole_out (on d f fs) a b e = whole_out fs (wrapped f a) b e
 
 ended_out : (o : Option Written) (fs : Frames) (b : Written) → application_ended fs o ≡ Some b → in_bracket fs ≡ false
 ended_out None fs b e = cc
@@ -225,22 +214,27 @@ module _ (purpose : Purpose) where
       let r = h fs at_front rest in
       record { frames = fs; application = r.application; runs = r.runs; last = a; ends_in = behind_whole a r.application r.kind; closes = refl; ends_all = refl }
 
-  arrow_runs : (xs ys : List Terminal) (a b : Written) → ApplicationRuns xs a → TermRuns ys b → TermRuns (xs ++ arrow ∷ ys) (written_arrow a b)
-  arrow_runs xs ys a b h k fs rest =
-      let r = h fs at_front (arrow ∷ (ys ++ rest)) in
-      let q = k (pushed (arrow_frame a) fs) rest in
+  -- what leads into a frame, and a term behind it, is a term
+  framed_run : (f : Frame) (fs : Frames) (xs ys : List Terminal) (b : Written) (rest : List Terminal) → around f b ≡ around_term (wrapped f b) → run (wrap (at fs (due at_front))) (xs ++ rest) ≡ run (wrap (at (pushed f fs) (due at_front))) (ys ++ rest) → TermRuns ys b → TermRun fs xs (wrapped f b) rest
+  framed_run f fs xs ys b rest e leads k =
+      let q = k (pushed f fs) rest in
       record {
         frames = q.frames;
         application = q.application;
-        runs = ap (run (wrap (at fs (due at_front)))) (append_assoc xs (arrow ∷ ys) rest)
-            ∙ r.runs
-            ∙ stepped (at fs r.application) (at (pushed (arrow_frame a) fs) (due at_front)) arrow (ys ++ rest) (behind_arrow fs a r.application r.kind)
-            ∙ q.runs;
+        runs = leads ∙ q.runs;
         last = q.last;
         ends_in = q.ends_in;
-        closes = q.closes;
-        ends_all = q.ends_all;
+        closes = q.closes ∙ ap (λ (r : Around). unwound_by r (λ t. unwound fs t) fs) e;
+        ends_all = q.ends_all ∙ ap (λ (r : Around). unwound_all_by r (λ t. unwound_all fs t)) e;
       }
+
+  arrow_runs : (xs ys : List Terminal) (a b : Written) → ApplicationRuns xs a → TermRuns ys b → TermRuns (xs ++ arrow ∷ ys) (written_arrow a b)
+  arrow_runs xs ys a b h k fs rest =
+      let r = h fs at_front (arrow ∷ (ys ++ rest)) in
+      framed_run (arrow_frame a) fs (xs ++ arrow ∷ ys) ys b rest refl
+      (ap (run (wrap (at fs (due at_front)))) (append_assoc xs (arrow ∷ ys) rest)
+      ∙ r.runs
+      ∙ stepped (at fs r.application) (at (pushed (arrow_frame a) fs) (due at_front)) arrow (ys ++ rest) (behind_arrow fs a r.application r.kind)) k
 
   -- a binder and its domain
   domain_runs : (x : Terminal) (v : Option (List ℕ)) (xs : List Terminal) (a : Written) → SpellsBinder x v → ApplicationRuns xs a → (fs : Frames) (rest : List Terminal) →
@@ -255,74 +249,31 @@ module _ (purpose : Purpose) where
             ∙ ap (λ s. run (wrap (at fs s)) rest) d.1,
       )
 
-  product_runs : (x : Terminal) (v : Option (List ℕ)) (xs ys : List Terminal) (a b : Written) → SpellsBinder x v → ApplicationRuns xs a → TermRuns ys b → TermRuns (x ∷ colon ∷ (xs ++ arrow ∷ ys)) (written_product v a b)
-  product_runs x v xs ys a b s h k fs rest =
-      let d = domain_runs x v xs a s h fs (arrow ∷ (ys ++ rest)) in
-      let q = k (pushed (product_frame v a) fs) rest in
-      record {
-        frames = q.frames;
-        application = q.application;
-        runs = ap (λ zs. run (wrap (at fs (due at_front))) (x ∷ colon ∷ zs)) (append_assoc xs (arrow ∷ ys) rest)
-            ∙ d.1
-            ∙ stepped (at fs (applied (domain v) a d.0)) (at (pushed (product_frame v a) fs) (due at_front)) arrow (ys ++ rest) refl
-            ∙ q.runs;
-        last = q.last;
-        ends_in = q.ends_in;
-        closes = q.closes;
-        ends_all = q.ends_all;
-      }
+  -- a binder, its domain, and a sign that goes on behind them
+  behind_domain_runs : (f : Frame) (mark : Terminal) (x : Terminal) (v : Option (List ℕ)) (xs ys : List Terminal) (a b : Written) → around f b ≡ around_term (wrapped f b) → ((fs : Frames) (n : ℕ) → term_next (at fs (applied (domain v) a n)) mark ≡ framed f fs) → SpellsBinder x v → ApplicationRuns xs a → TermRuns ys b → TermRuns (x ∷ colon ∷ (xs ++ mark ∷ ys)) (wrapped f b)
+  behind_domain_runs f mark x v xs ys a b e steps s h k fs rest =
+      let d = domain_runs x v xs a s h fs (mark ∷ (ys ++ rest)) in
+      framed_run f fs (x ∷ colon ∷ (xs ++ mark ∷ ys)) ys b rest e
+      (ap (λ zs. run (wrap (at fs (due at_front))) (x ∷ colon ∷ zs)) (append_assoc xs (mark ∷ ys) rest)
+      ∙ d.1
+      ∙ stepped (at fs (applied (domain v) a d.0)) (at (pushed f fs) (due at_front)) mark (ys ++ rest) (steps fs d.0)) k
 
   bare_runs : (x : Terminal) (v : Option (List ℕ)) (ys : List Terminal) (b : Written) → SpellsBinder x v → TermRuns ys b → TermRuns (x ∷ double_arrow ∷ ys) (written_bare v b)
   bare_runs x v ys b s k fs rest =
-      let q = k (pushed (bare_frame v) fs) rest in
-      record {
-        frames = q.frames;
-        application = q.application;
-        runs = stepped (at fs (due at_front)) (at fs (bindable v)) x (double_arrow ∷ (ys ++ rest)) (binder_next fs x v s)
-            ∙ stepped (at fs (bindable v)) (at (pushed (bare_frame v) fs) (due at_front)) double_arrow (ys ++ rest) refl
-            ∙ q.runs;
-        last = q.last;
-        ends_in = q.ends_in;
-        closes = q.closes;
-        ends_all = q.ends_all;
-      }
-
-  annotated_runs : (x : Terminal) (v : Option (List ℕ)) (xs ys : List Terminal) (a b : Written) → SpellsBinder x v → ApplicationRuns xs a → TermRuns ys b → TermRuns (x ∷ colon ∷ (xs ++ double_arrow ∷ ys)) (written_annotated v a b)
-  annotated_runs x v xs ys a b s h k fs rest =
-      let d = domain_runs x v xs a s h fs (double_arrow ∷ (ys ++ rest)) in
-      let q = k (pushed (annotated_frame v a) fs) rest in
-      record {
-        frames = q.frames;
-        application = q.application;
-        runs = ap (λ zs. run (wrap (at fs (due at_front))) (x ∷ colon ∷ zs)) (append_assoc xs (double_arrow ∷ ys) rest)
-            ∙ d.1
-            ∙ stepped (at fs (applied (domain v) a d.0)) (at (pushed (annotated_frame v a) fs) (due at_front)) double_arrow (ys ++ rest) refl
-            ∙ q.runs;
-        last = q.last;
-        ends_in = q.ends_in;
-        closes = q.closes;
-        ends_all = q.ends_all;
-      }
+      framed_run (bare_frame v) fs (x ∷ double_arrow ∷ ys) ys b rest refl
+      (stepped (at fs (due at_front)) (at fs (bindable v)) x (double_arrow ∷ (ys ++ rest)) (binder_next fs x v s)
+      ∙ stepped (at fs (bindable v)) (at (pushed (bare_frame v) fs) (due at_front)) double_arrow (ys ++ rest) refl) k
 
   bracketed_runs : (x : Terminal) (v : Option (List ℕ)) (xs ys : List Terminal) (a b : Written) → SpellsBinder x v → ApplicationRuns xs a → TermRuns ys b → TermRuns (open_bracket ∷ x ∷ colon ∷ (xs ++ close_bracket ∷ arrow ∷ ys)) (written_product v a b)
   bracketed_runs x v xs ys a b s h k fs rest =
       let inside = pushed (bracket_frame (due at_front)) fs in
       let d = domain_runs x v xs a s h inside (close_bracket ∷ arrow ∷ (ys ++ rest)) in
-      let q = k (pushed (product_frame v a) fs) rest in
-      record {
-        frames = q.frames;
-        application = q.application;
-        runs = ap (λ zs. run (wrap (at fs (due at_front))) (open_bracket ∷ x ∷ colon ∷ zs)) (append_assoc xs (close_bracket ∷ arrow ∷ ys) rest)
-            ∙ stepped (at fs (due at_front)) (at inside (due at_front)) open_bracket (x ∷ colon ∷ (xs ++ close_bracket ∷ arrow ∷ (ys ++ rest))) refl
-            ∙ d.1
-            ∙ stepped (at inside (applied (domain v) a d.0)) (at fs (bracketed v a)) close_bracket (arrow ∷ (ys ++ rest)) refl
-            ∙ stepped (at fs (bracketed v a)) (at (pushed (product_frame v a) fs) (due at_front)) arrow (ys ++ rest) refl
-            ∙ q.runs;
-        last = q.last;
-        ends_in = q.ends_in;
-        closes = q.closes;
-        ends_all = q.ends_all;
-      }
+      framed_run (product_frame v a) fs (open_bracket ∷ x ∷ colon ∷ (xs ++ close_bracket ∷ arrow ∷ ys)) ys b rest refl
+      (ap (λ zs. run (wrap (at fs (due at_front))) (open_bracket ∷ x ∷ colon ∷ zs)) (append_assoc xs (close_bracket ∷ arrow ∷ ys) rest)
+      ∙ stepped (at fs (due at_front)) (at inside (due at_front)) open_bracket (x ∷ colon ∷ (xs ++ close_bracket ∷ arrow ∷ (ys ++ rest))) refl
+      ∙ d.1
+      ∙ stepped (at inside (applied (domain v) a d.0)) (at fs (bracketed v a)) close_bracket (arrow ∷ (ys ++ rest)) refl
+      ∙ stepped (at fs (bracketed v a)) (at (pushed (product_frame v a) fs) (due at_front)) arrow (ys ++ rest) refl) k
 
   mutual
     atom_runs : {ys : List Terminal} {a : Written} → SpellsAtom ys a → AtomRuns ys a
@@ -339,10 +290,10 @@ module _ (purpose : Purpose) where
     term_runs : {xs : List Terminal} {a : Written} → SpellsTerm xs a → TermRuns xs a
     term_runs (spells_application {xs} {a} h) = whole_application xs a (application_runs h)
     term_runs (spells_arrow {xs} {ys} {a} {b} h k) = arrow_runs xs ys a b (application_runs h) (term_runs k)
-    term_runs (spells_product {x} {v} {xs} {ys} {a} {b} s h k) = product_runs x v xs ys a b s (application_runs h) (term_runs k)
+    term_runs (spells_product {x} {v} {xs} {ys} {a} {b} s h k) = behind_domain_runs (product_frame v a) arrow x v xs ys a b refl (λ fs n. refl) s (application_runs h) (term_runs k)
     term_runs (spells_bracketed_product {x} {v} {xs} {ys} {a} {b} s h k) = bracketed_runs x v xs ys a b s (application_runs h) (term_runs k)
     term_runs (spells_bare {x} {v} {ys} {b} s k) = bare_runs x v ys b s (term_runs k)
-    term_runs (spells_annotated {x} {v} {xs} {ys} {a} {b} s h k) = annotated_runs x v xs ys a b s (application_runs h) (term_runs k)
+    term_runs (spells_annotated {x} {v} {xs} {ys} {a} {b} s h k) = behind_domain_runs (annotated_frame v a) double_arrow x v xs ys a b refl (λ fs n. refl) s (application_runs h) (term_runs k)
 
   -- a whole term and the terminal that ends it
   pub term_complete : {xs : List Terminal} {a : Written} → SpellsTerm xs a → (level : ℕ) (x : Terminal) (rest : List Terminal) → Enders x → run (in_term purpose (term_due level)) (xs ++ x ∷ rest) ≡ run_by (behind_term purpose a x) (λ q. run q rest) rest

@@ -1,7 +1,7 @@
 -- Reading is exact: what the parser makes of a list of tokens is its one reading.
 use Rattle.std.proofs.Common.{◌≡◌, ℕ, ◌<◌, ◌≤◌, Bool, true, false, List, [], ◌∷◌, ◌++◌, refl, sym, ap, ◌∙◌, subst, append_assoc, arith, inl, inr, append-nil}
+use Rattle.std.proofs.lemmas.Bool.{le-ltb, lt-ltb, ltb-false, ltb-true}
 use Rattle.std.specs.Prelude.{Option, Some, None, IsSome, option_map, unwrap_or, if◌then◌else◌, nat_lt, ◌⊎◌}
-use Rattle.std.proofs.lemmas.Bool.Decides.{nat_tests}
 use Rattle.dk_model.specs.declared.code.Code.{Code}
 use Rattle.dk_model.specs.declared.code.Code.TheVariants.{E02, E04, E06}
 use Rattle.dk_model.specs.declared.limits.Limits.{Limits}
@@ -15,7 +15,7 @@ use Rattle.dk_parser.specs.Levels.{level_or_argument, IsWithin}
 use Rattle.dk_parser.specs.Parsing.{CommandSoFar, command_due, Advance, goes, ends, refuses, advanced, Parsing, started, more, refused, Turn, turn, turn_refused, turn_by_step, turn_by_terminal, turn_by_fault, parsing_from, answered, commands_from}
 use Rattle.dk_parser.specs.Reading.{IsFault, IsFront, TokenReading, with_command, Reads, reads_nothing, reads_front, reads_fault, reads_command}
 use Rattle.dk_parser.specs.Steps.{fault_of, read_tokens, Extends}
-use Rattle.dk_parser.proofs.Machine.{going, ended, stuck, run_by, run, run_next, run_goes, front_goes}
+use Rattle.dk_parser.proofs.Machine.{no_append, Run, going, ended, stuck, run_by, run, run_next, run_goes, front_goes}
 use Rattle.dk_parser.proofs.Commands.{complete}
 use Rattle.dk_parser.proofs.Reached.{sound, begins}
 use Rattle.dk_parser.proofs.Leveled.{loaded, end_load, profile_refused}
@@ -26,14 +26,6 @@ use Rattle.dk_parser.proofs.Turns.{reading_at}
 terminals_append : (ts us : List Token) → terminals (ts ++ us) ≡ terminals ts ++ terminals us
 terminals_append [] us = refl
 terminals_append (t ∷ ts) us = ap (λ xs. terminal_of t ∷ xs) (terminals_append ts us)
-
-none_left : (ts : List Token) → terminals ts ≡ [] → ts ≡ []
-none_left [] e = refl
-none_left (t ∷ ts) e = cc
-
-no_append : (xs ys : List Terminal) (y : Terminal) → xs ++ y ∷ ys ≡ [] → ⊥
-no_append [] ys y e = cc
-no_append (x ∷ xs) ys y e = cc
 
 -- a terminal of a list with one terminal more is the last one, or one of the list without it
 last_split : (xs front rest : List Terminal) (x y : Terminal) → xs ++ x ∷ [] ≡ front ++ y ∷ rest → ((front ≡ xs) × (y ≡ x)) ⊎ ((zs : List Terminal) × (xs ≡ front ++ y ∷ zs))
@@ -172,23 +164,11 @@ not_profile_ends p form x e is =
     let r : advanced p x ≡ refuses = ap (advanced p) is ∙ profile_refused p in
     cc
 
-below : (limit n : ℕ) → nat_lt limit n ≡ true → limit < n
-below limit n e = grind (arith, nat_tests)
-
-within : (limit n : ℕ) → nat_lt limit n ≡ false → n ≤ limit
-within limit n e = grind (arith, nat_tests)
-
 nothing_within : (limit : ℕ) → 0 ≤ limit
 nothing_within limit = omega arith
 
 none_below : (limit : ℕ) → limit < 0 → ⊥
 none_below limit h = omega arith
-
-within_test : (limit n : ℕ) → n ≤ limit → nat_lt limit n ≡ false
-within_test limit n h = grind (arith, nat_tests)
-
-below_test : (limit n : ℕ) → limit < n → nat_lt limit n ≡ true
-below_test limit n h = grind (arith, nat_tests)
 
 -- what no part takes begins no command
 refused_begins : (xs : List Terminal) (p : CommandSoFar) (x : Terminal) → run command_due xs ≡ going p → advanced p x ≡ refuses → Begins (xs ++ x ∷ []) → ⊥
@@ -221,13 +201,13 @@ module _ (limits : Limits) where
   exact_goes : (front : List Token) (p q : CommandSoFar) (made : ℕ) (t : Token) (us : List Token) (b : Bool) → run command_due (terminals front) ≡ going p → IsWithin limits.levels (terminals front) → advanced p (terminal_of t) ≡ goes made q → nat_lt limits.levels made ≡ b → Behind us → Reads limits (front ++ t ∷ us) (read_from (state_at limits (first_begun front) p) (t ∷ us))
   exact_goes front p q made t us true is w e b later =
       let other = not_profile_goes p q made (terminal_of t) e in
-      let deep : limits.levels < level_or_argument (terminals front) (terminal_of t) = subst (λ n. limits.levels < n) (sym (loaded (terminals front) p q made (terminal_of t) is e)) (below limits.levels made b) in
+      let deep : limits.levels < level_or_argument (terminals front) (terminal_of t) = subst (λ n. limits.levels < n) (sym (loaded (terminals front) p q made (terminal_of t) is e)) (ltb-true limits.levels made b) in
       subst (Reads limits (front ++ t ∷ us)) (sym (too_deep_read limits front p t us made q other e b))
       (reads_fault {front = front} {code = E04} t us (front_ok front p is w) (goes_begins (terminals front) p q made (terminal_of t) is e, deep))
   exact_goes front p q made t us false is w e b later =
       let other = not_profile_goes p q made (terminal_of t) e in
       let next : run command_due (terminals (front ++ t ∷ [])) ≡ going q = ap (run command_due) (terminals_more front t) ∙ run_goes command_due p q made (terminals front) (terminal_of t) is e in
-      let deep : level_or_argument (terminals front) (terminal_of t) ≤ limits.levels = subst (λ n. n ≤ limits.levels) (sym (loaded (terminals front) p q made (terminal_of t) is e)) (within limits.levels made b) in
+      let deep : level_or_argument (terminals front) (terminal_of t) ≤ limits.levels = subst (λ n. n ≤ limits.levels) (sym (loaded (terminals front) p q made (terminal_of t) is e)) (ltb-false limits.levels made b) in
       let w_next : IsWithin limits.levels (terminals (front ++ t ∷ [])) = subst (IsWithin limits.levels) (sym (terminals_more front t)) (within_more limits.levels (terminals front) (terminal_of t) w deep) in
       subst (λ ts. Reads limits ts (read_from (state_at limits (first_begun front) p) (t ∷ us))) (append_assoc front (t ∷ []) us)
       (subst (Reads limits ((front ++ t ∷ []) ++ us)) (sym (goes_read limits front p t us made q other e b)) (later (front ++ t ∷ []) q next w_next))
@@ -287,63 +267,56 @@ refuses_step (goes made q) xs p x is n e = absurd (n (goes_begins xs p q made x 
 refuses_step (ends form) xs p x is n e = absurd (n (ends_begins xs p x form is e))
 refuses_step refuses xs p x is n e = e
 
-module _ (limits : Limits) where
-  -- what is behind a front reads on from it
+-- what is behind a front reads on from it, where both together run so
+module _ (limits : Limits) (whole : Run) (reading : List Token → TokenReading) (rest : List Token) where
   abbrev Walks : List Token → Type 0
-  Walks us = (front : List Token) (p q : CommandSoFar) (rest : List Token) → run command_due (terminals front) ≡ going p → run command_due (terminals (front ++ us)) ≡ going q → IsWithin limits.levels (terminals (front ++ us)) →
-      read_from (state_at limits (first_begun front) p) (us ++ rest) ≡ read_from (state_at limits (first_begun (front ++ us)) q) rest
+  Walks us = (front : List Token) (p : CommandSoFar) → run command_due (terminals front) ≡ going p → run command_due (terminals (front ++ us)) ≡ whole → IsWithin limits.levels (terminals (front ++ us)) →
+      read_from (state_at limits (first_begun front) p) (us ++ rest) ≡ reading (front ++ us)
 
-  walk_goes : (front : List Token) (p r q : CommandSoFar) (made : ℕ) (t : Token) (us rest : List Token) → run command_due (terminals front) ≡ going p → advanced p (terminal_of t) ≡ goes made r → run command_due (terminals (front ++ t ∷ us)) ≡ going q → IsWithin limits.levels (terminals (front ++ t ∷ us)) → Walks us →
-      read_from (state_at limits (first_begun front) p) (t ∷ (us ++ rest)) ≡ read_from (state_at limits (first_begun (front ++ t ∷ us)) q) rest
-  walk_goes front p r q made t us rest is e whole w later =
+  walk_goes : (front : List Token) (p q : CommandSoFar) (made : ℕ) (t : Token) (us : List Token) → run command_due (terminals front) ≡ going p → advanced p (terminal_of t) ≡ goes made q → run command_due (terminals (front ++ t ∷ us)) ≡ whole → IsWithin limits.levels (terminals (front ++ t ∷ us)) → Walks us →
+      read_from (state_at limits (first_begun front) p) (t ∷ (us ++ rest)) ≡ reading (front ++ t ∷ us)
+  walk_goes front p q made t us is e runs w later =
       let lists : (front ++ t ∷ []) ++ us ≡ front ++ t ∷ us = append_assoc front (t ∷ []) us in
-      let next : run command_due (terminals (front ++ t ∷ [])) ≡ going r = ap (run command_due) (terminals_more front t) ∙ run_goes command_due p r made (terminals front) (terminal_of t) is e in
-      let test : nat_lt limits.levels made ≡ false = within_test limits.levels made (subst (λ n. n ≤ limits.levels) (loaded (terminals front) p r made (terminal_of t) is e) (w (terminals front) (terminals us) (terminal_of t) (terminals_append front (t ∷ us)))) in
-      goes_read limits front p t (us ++ rest) made r (not_profile_goes p r made (terminal_of t) e) e test
-      ∙ later (front ++ t ∷ []) r q rest next (subst (λ ts. run command_due (terminals ts) ≡ going q) (sym lists) whole) (subst (λ ts. IsWithin limits.levels (terminals ts)) (sym lists) w)
-      ∙ ap (λ ts. read_from (state_at limits (first_begun ts) q) rest) lists
+      let next : run command_due (terminals (front ++ t ∷ [])) ≡ going q = ap (run command_due) (terminals_more front t) ∙ run_goes command_due p q made (terminals front) (terminal_of t) is e in
+      let test : nat_lt limits.levels made ≡ false = le-ltb limits.levels made (subst (λ n. n ≤ limits.levels) (loaded (terminals front) p q made (terminal_of t) is e) (w (terminals front) (terminals us) (terminal_of t) (terminals_append front (t ∷ us)))) in
+      goes_read limits front p t (us ++ rest) made q (not_profile_goes p q made (terminal_of t) e) e test
+      ∙ later (front ++ t ∷ []) q next (subst (λ ts. run command_due (terminals ts) ≡ whole) (sym lists) runs) (subst (λ ts. IsWithin limits.levels (terminals ts)) (sym lists) w)
+      ∙ ap reading lists
 
-  walk : (us : List Token) → Walks us
-  walk [] front p q rest is whole w =
-      let whole_front : run command_due (terminals front) ≡ going q = subst (λ ts. run command_due (terminals ts) ≡ going q) (append-nil front) whole in
-      let same : p ≡ q = cc in
-      ap (λ p. read_from (state_at limits (first_begun front) p) rest) same
-      ∙ ap (λ ts. read_from (state_at limits (first_begun ts) q) rest) (sym (append-nil front))
-  walk (t ∷ us) front p q rest is whole w =
-      let r = stuck_goes (advanced p (terminal_of t)) p (terminal_of t) (terminals us) q refl (sym (step_run front p t us is) ∙ whole) in
-      walk_goes front p r.1 q r.0 t us rest is r.2 whole w (walk us)
+abbrev front_reading : Limits → CommandSoFar → List Token → List Token → TokenReading
+front_reading limits q rest ts = read_from (state_at limits (first_begun ts) q) rest
 
-  -- a whole command is read as one
-  abbrev Ends : List Token → Type 0
-  Ends us = (front : List Token) (p : CommandSoFar) (form : WrittenForm) (rest : List Token) → run command_due (terminals front) ≡ going p → run command_due (terminals (front ++ us)) ≡ ended form [] → IsWithin limits.levels (terminals (front ++ us)) →
-      read_from (state_at limits (first_begun front) p) (us ++ rest) ≡ with_command (record { line = first_line (front ++ us); form = form }) (read_tokens limits rest)
+walk : (limits : Limits) (q : CommandSoFar) (rest us : List Token) → Walks limits (going q) (front_reading limits q rest) rest us
+walk limits q rest [] front p is whole w =
+    let whole_front : run command_due (terminals front) ≡ going q = subst (λ ts. run command_due (terminals ts) ≡ going q) (append-nil front) whole in
+    let same : p ≡ q = cc in
+    ap (λ p. read_from (state_at limits (first_begun front) p) rest) same ∙ ap (front_reading limits q rest) (sym (append-nil front))
+walk limits q rest (t ∷ us) front p is whole w =
+    let r = stuck_goes (advanced p (terminal_of t)) p (terminal_of t) (terminals us) q refl (sym (step_run front p t us is) ∙ whole) in
+    walk_goes limits (going q) (front_reading limits q rest) rest front p r.1 r.0 t us is r.2 whole w (walk limits q rest us)
 
-  end_goes : (front : List Token) (p r : CommandSoFar) (made : ℕ) (form : WrittenForm) (t : Token) (us rest : List Token) → run command_due (terminals front) ≡ going p → advanced p (terminal_of t) ≡ goes made r → run command_due (terminals (front ++ t ∷ us)) ≡ ended form [] → IsWithin limits.levels (terminals (front ++ t ∷ us)) → Ends us →
-      read_from (state_at limits (first_begun front) p) (t ∷ (us ++ rest)) ≡ with_command (record { line = first_line (front ++ t ∷ us); form = form }) (read_tokens limits rest)
-  end_goes front p r made form t us rest is e whole w later =
-      let lists : (front ++ t ∷ []) ++ us ≡ front ++ t ∷ us = append_assoc front (t ∷ []) us in
-      let next : run command_due (terminals (front ++ t ∷ [])) ≡ going r = ap (run command_due) (terminals_more front t) ∙ run_goes command_due p r made (terminals front) (terminal_of t) is e in
-      let test : nat_lt limits.levels made ≡ false = within_test limits.levels made (subst (λ n. n ≤ limits.levels) (loaded (terminals front) p r made (terminal_of t) is e) (w (terminals front) (terminals us) (terminal_of t) (terminals_append front (t ∷ us)))) in
-      goes_read limits front p t (us ++ rest) made r (not_profile_goes p r made (terminal_of t) e) e test
-      ∙ later (front ++ t ∷ []) r form rest next (subst (λ ts. run command_due (terminals ts) ≡ ended form []) (sym lists) whole) (subst (λ ts. IsWithin limits.levels (terminals ts)) (sym lists) w)
-      ∙ ap (λ ts. with_command (record { line = first_line ts; form = form }) (read_tokens limits rest)) lists
+-- a whole command is read as one
+abbrev command_reading : Limits → WrittenForm → List Token → List Token → TokenReading
+command_reading limits form rest ts = with_command (record { line = first_line ts; form = form }) (read_tokens limits rest)
 
-  end_step : (s : Advance) (front : List Token) (p : CommandSoFar) (form : WrittenForm) (t : Token) (us rest : List Token) → run command_due (terminals front) ≡ going p → advanced p (terminal_of t) ≡ s → run_by s (λ r. run r (terminals us)) (terminals us) ≡ ended form [] → run command_due (terminals (front ++ t ∷ us)) ≡ ended form [] → IsWithin limits.levels (terminals (front ++ t ∷ us)) → Ends us →
-      read_from (state_at limits (first_begun front) p) (t ∷ (us ++ rest)) ≡ with_command (record { line = first_line (front ++ t ∷ us); form = form }) (read_tokens limits rest)
-  end_step (goes made r) front p form t us rest is e left whole w later = end_goes front p r made form t us rest is e whole w later
-  end_step (ends f) front p form t [] rest is e left whole w later =
-      let same : f ≡ form = cc in
-      ends_read limits front p t rest f (not_profile_ends p f (terminal_of t) e) e
-      ∙ ap (λ f. with_command (record { line = first_line (front ++ t ∷ []); form = f }) (read_tokens limits rest)) same
-  end_step (ends f) front p form t (u ∷ us) rest is e left whole w later = cc
-  end_step refuses front p form t us rest is e left whole w later = cc
+abbrev Ends : Limits → WrittenForm → List Token → List Token → Type 0
+Ends limits form rest us = Walks limits (ended form []) (command_reading limits form rest) rest us
 
-  end_walk : (us : List Token) → Ends us
-  end_walk [] front p form rest is whole w =
-      let whole_front : run command_due (terminals front) ≡ ended form [] = subst (λ ts. run command_due (terminals ts) ≡ ended form []) (append-nil front) whole in
-      cc
-  end_walk (t ∷ us) front p form rest is whole w =
-      end_step (advanced p (terminal_of t)) front p form t us rest is refl (sym (step_run front p t us is) ∙ whole) whole w (end_walk us)
+end_step : (limits : Limits) (s : Advance) (front : List Token) (p : CommandSoFar) (form : WrittenForm) (t : Token) (us rest : List Token) → run command_due (terminals front) ≡ going p → advanced p (terminal_of t) ≡ s → run_by s (λ r. run r (terminals us)) (terminals us) ≡ ended form [] → run command_due (terminals (front ++ t ∷ us)) ≡ ended form [] → IsWithin limits.levels (terminals (front ++ t ∷ us)) → Ends limits form rest us →
+    read_from (state_at limits (first_begun front) p) (t ∷ (us ++ rest)) ≡ command_reading limits form rest (front ++ t ∷ us)
+end_step limits (goes made r) front p form t us rest is e left whole w later = walk_goes limits (ended form []) (command_reading limits form rest) rest front p r made t us is e whole w later
+end_step limits (ends f) front p form t [] rest is e left whole w later =
+    let same : f ≡ form = cc in
+    ends_read limits front p t rest f (not_profile_ends p f (terminal_of t) e) e ∙ ap (λ f. command_reading limits f rest (front ++ t ∷ [])) same
+end_step limits (ends f) front p form t (u ∷ us) rest is e left whole w later = cc
+end_step limits refuses front p form t us rest is e left whole w later = cc
+
+end_walk : (limits : Limits) (form : WrittenForm) (rest us : List Token) → Ends limits form rest us
+end_walk limits form rest [] front p is whole w =
+    let whole_front : run command_due (terminals front) ≡ ended form [] = subst (λ ts. run command_due (terminals ts) ≡ ended form []) (append-nil front) whole in
+    cc
+end_walk limits form rest (t ∷ us) front p is whole w =
+    end_step limits (advanced p (terminal_of t)) front p form t us rest is refl (sym (step_run front p t us is) ∙ whole) whole w (end_walk limits form rest us)
 
 -- the part that a front leads to
 front_part : (limits : Limits) (ts : List Token) → IsFront limits ts → (p : CommandSoFar) × (run command_due (terminals ts) ≡ going p)
@@ -356,7 +329,7 @@ fault_read E02 limits front p t rest f is h = refused_read limits front p t rest
 fault_read E04 limits front p t rest f is h =
     let q = begins_goes (advanced p (terminal_of t)) (terminals front) p (terminal_of t) limits.levels is h.1 h.0 refl in
     let deep : limits.levels < q.0 = subst (λ n. limits.levels < n) (loaded (terminals front) p q.1 q.0 (terminal_of t) is q.2) h.1 in
-    too_deep_read limits front p t rest q.0 q.1 (not_profile_goes p q.1 q.0 (terminal_of t) q.2) q.2 (below_test limits.levels q.0 deep)
+    too_deep_read limits front p t rest q.0 q.1 (not_profile_goes p q.1 q.0 (terminal_of t) q.2) q.2 (lt-ltb limits.levels q.0 deep)
 fault_read code limits front p t rest f is h = absurd h
 
 -- there is one reading
@@ -364,12 +337,12 @@ pub only : {limits : Limits} {ts : List Token} {r : TokenReading} → Reads limi
 only reads_nothing = refl
 only (reads_front {limits} {t} {ts} f) =
     let p = front_part limits (t ∷ ts) f in
-    sym (ap (read_tokens limits) (sym (append-nil (t ∷ ts))) ∙ walk limits (t ∷ ts) [] command_due p.0 [] refl p.1 f.within)
+    sym (ap (read_tokens limits) (sym (append-nil (t ∷ ts))) ∙ walk limits p.0 [] (t ∷ ts) [] command_due refl p.1 f.within)
 only (reads_fault {limits} {front} {code} t rest f h) =
     let p = front_part limits front f in
-    sym (walk limits front [] command_due p.0 (t ∷ rest) refl p.1 f.within ∙ fault_read code limits front p.0 t rest f p.1 h)
+    sym (walk limits p.0 (t ∷ rest) front [] command_due refl p.1 f.within ∙ fault_read code limits front p.0 t rest f p.1 h)
 only (reads_command {limits} {ts} {us} {c} {r} s w h) =
-    sym (end_walk limits ts [] command_due c.form us refl (complete s.form) w
+    sym (end_walk limits c.form us ts [] command_due refl (complete s.form) w
     ∙ ap (λ line. with_command (record { line = line; form = c.form }) (read_tokens limits us)) (sym s.line)
     ∙ ap (with_command c) (sym (only h)))
 

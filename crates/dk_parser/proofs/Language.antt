@@ -1,19 +1,20 @@
 -- The terminals that lead to a part of a term.
 use Rattle.std.proofs.Common.{◌≡◌, ℕ, ◌+◌, Bool, true, false, List, [], ◌∷◌, ◌++◌, refl, sym, ap, ◌∙◌, subst, append_assoc, append-nil}
+use Rattle.std.proofs.lemmas.Option.{same_Some}
 use Rattle.std.specs.Prelude.{Option, Some, None}
 use Rattle.dk_lexer.specs.declared.token.Sign.TheVariants as sign
 use Rattle.dk_terms.specs.declared.terminal.Terminal.{Terminal}
 use Rattle.dk_terms.specs.declared.terminal.Terminal.TheVariants as terminal
 use Rattle.dk_parser.specs.Written.{Written, written_qualified, written_star, written_apply, written_arrow, written_product, written_bare, written_annotated}
 use Rattle.dk_parser.specs.Grammar.{colon, arrow, double_arrow, open_bracket, close_bracket, SpellsBinder, spells_binder, spells_no_binder, SpellsAtom, spells_name, spells_qualified, spells_star, spells_wildcard, spells_brackets, SpellsApplication, spells_head, spells_applied, SpellsTerm, spells_application, spells_arrow, spells_product, spells_bracketed_product, spells_bare, spells_annotated}
-use Rattle.dk_parser.specs.Parsing.{at_front, domain, Application, due, bindable, applied, bracketed, Frame, bracket_frame, arrow_frame, product_frame, bare_frame, annotated_frame, Frames, bottom, on, TermSoFar, pushed, binder_term, application_more, application_binder, takes_atom, application_term, in_frames, unwound, unwound_all, next_open, next_close, next_close_term, next_close_domain, next_colon, next_arrow, next_double_arrow, framed, term_next, term_done, application_ended}
-use Rattle.dk_parser.proofs.Complete.{at, atom_more}
+use Rattle.dk_parser.specs.Parsing.{at_front, domain, Application, due, bindable, applied, bracketed, Frame, bracket_frame, arrow_frame, product_frame, bare_frame, annotated_frame, Frames, bottom, on, TermSoFar, pushed, binder_term, application_more, application_binder, takes_atom, application_term, in_frames, unwound, unwound_all, next_open, next_close, next_close_domain, next_colon, next_arrow, next_double_arrow, framed, term_next, term_done, application_ended}
+use Rattle.dk_parser.proofs.Complete.{at, atom_more, wrapped}
 
 binder_atom : {x : Terminal} {v : Option (List ℕ)} → SpellsBinder x v → SpellsAtom (x ∷ []) (binder_term v)
 binder_atom spells_binder = spells_name
 binder_atom spells_no_binder = spells_wildcard
 
-a_term : SpellsTerm (terminal.Star ∷ []) written_star
+pub a_term : SpellsTerm (terminal.Star ∷ []) written_star
 a_term = spells_application (spells_head spells_star)
 
 -- these terminals lead to this application
@@ -28,10 +29,7 @@ SpellsSoFar ws (bracketed v a) = (x : Terminal) × (us : List Terminal) × (ws �
 -- these terminals make this frame; but for a bracket, a term behind them makes a term of them
 abbrev SpellsFrame : List Terminal → Frame → Type 0
 SpellsFrame vs (bracket_frame s) = (ws : List Terminal) × (vs ≡ ws ++ open_bracket ∷ []) × SpellsSoFar ws s × (takes_atom s ≡ true)
-SpellsFrame vs (arrow_frame a) = (zs : List Terminal) (b : Written) → SpellsTerm zs b → SpellsTerm (vs ++ zs) (written_arrow a b)
-SpellsFrame vs (product_frame v a) = (zs : List Terminal) (b : Written) → SpellsTerm zs b → SpellsTerm (vs ++ zs) (written_product v a b)
-SpellsFrame vs (bare_frame v) = (zs : List Terminal) (b : Written) → SpellsTerm zs b → SpellsTerm (vs ++ zs) (written_bare v b)
-SpellsFrame vs (annotated_frame v a) = (zs : List Terminal) (b : Written) → SpellsTerm zs b → SpellsTerm (vs ++ zs) (written_annotated v a b)
+SpellsFrame vs f = (zs : List Terminal) (b : Written) → SpellsTerm zs b → SpellsTerm (vs ++ zs) (wrapped f b)
 
 abbrev SpellsFrames : List Terminal → Frames → Type 0
 SpellsFrames ys (bottom level) = ys ≡ []
@@ -48,63 +46,49 @@ pub record ReachedTerm (xs : List Terminal) (p : TermSoFar) : Type 0 where
 pub nothing_reached : (level : ℕ) → ReachedTerm [] (at (bottom level) (due at_front))
 nothing_reached level = record { before = []; here = []; is = refl; frames = refl; application = refl }
 
-some_application : (s t : Application) → Some s ≡ Some t → s ≡ t
-some_application s t e = cc
-
-some_so_far : (p q : TermSoFar) → Some p ≡ Some q → p ≡ q
-some_so_far p q e = cc
-
-some_term : (a b : Written) → Some a ≡ Some b → a ≡ b
-some_term a b e = cc
-
-behind : (ws ys zs : List Terminal) → ws ≡ zs → ws ++ ys ≡ zs ++ ys
+pub behind : (ws ys zs : List Terminal) → ws ≡ zs → ws ++ ys ≡ zs ++ ys
 behind ws ys zs e = ap (λ us. us ++ ys) e
 
 -- one atom more
 application_add : (s t : Application) (ws ys : List Terminal) (a : Written) → SpellsSoFar ws s → SpellsAtom ys a → application_more s a ≡ Some t → SpellsSoFar (ws ++ ys) t
 application_add (due at_front) t ws ys a h k e =
-    subst (SpellsSoFar (ws ++ ys)) (some_application (applied at_front a 1) t e)
+    subst (SpellsSoFar (ws ++ ys)) (same_Some (applied at_front a 1) t e)
     (subst (λ us. SpellsApplication us a) (sym (behind ws ys [] h)) (spells_head k))
 application_add (due (domain v)) t ws ys a h k e =
-    subst (SpellsSoFar (ws ++ ys)) (some_application (applied (domain v) a 1) t e)
+    subst (SpellsSoFar (ws ++ ys)) (same_Some (applied (domain v) a 1) t e)
     (h.0, ys, behind ws ys (h.0 ∷ colon ∷ []) h.1, h.2, spells_head k)
 application_add (bindable v) t ws ys a h k e =
-    subst (SpellsSoFar (ws ++ ys)) (some_application (applied at_front (written_apply (binder_term v) a) 2) t e)
+    subst (SpellsSoFar (ws ++ ys)) (same_Some (applied at_front (written_apply (binder_term v) a) 2) t e)
     (subst (λ us. SpellsApplication us (written_apply (binder_term v) a)) (sym (behind ws ys (h.0 ∷ []) h.1)) (spells_applied (spells_head (binder_atom h.2)) k))
 application_add (applied at_front f n) t ws ys a h k e =
-    subst (SpellsSoFar (ws ++ ys)) (some_application (applied at_front (written_apply f a) (n + 1)) t e) (spells_applied h k)
+    subst (SpellsSoFar (ws ++ ys)) (same_Some (applied at_front (written_apply f a) (n + 1)) t e) (spells_applied h k)
 application_add (applied (domain v) f n) t ws ys a h k e =
-    subst (SpellsSoFar (ws ++ ys)) (some_application (applied (domain v) (written_apply f a) (n + 1)) t e)
+    subst (SpellsSoFar (ws ++ ys)) (same_Some (applied (domain v) (written_apply f a) (n + 1)) t e)
     (h.0, h.1 ++ ys, behind ws ys (h.0 ∷ colon ∷ h.1) h.2, h.3, spells_applied h.4 k)
 application_add (bracketed v b) t ws ys a h k e = cc
 
 application_bind : (s t : Application) (ws : List Terminal) (x : Terminal) (v : Option (List ℕ)) → SpellsSoFar ws s → SpellsBinder x v → application_binder s v ≡ Some t → SpellsSoFar (ws ++ x ∷ []) t
 application_bind (due at_front) t ws x v h k e =
-    subst (SpellsSoFar (ws ++ x ∷ [])) (some_application (bindable v) t e) (x, behind ws (x ∷ []) [] h, k)
-application_bind (due (domain w)) t ws x v h k e = application_add (due (domain w)) t ws (x ∷ []) (binder_term v) h (binder_atom k) e
-application_bind (bindable w) t ws x v h k e = application_add (bindable w) t ws (x ∷ []) (binder_term v) h (binder_atom k) e
-application_bind (applied role f n) t ws x v h k e = application_add (applied role f n) t ws (x ∷ []) (binder_term v) h (binder_atom k) e
-application_bind (bracketed w b) t ws x v h k e = cc
+    subst (SpellsSoFar (ws ++ x ∷ [])) (same_Some (bindable v) t e) (x, behind ws (x ∷ []) [] h, k)
+application_bind s t ws x v h k e = application_add s t ws (x ∷ []) (binder_term v) h (binder_atom k) e
 
 -- where a term may end behind it, it is an application
 application_sound : (s : Application) (ws : List Terminal) (a : Written) → SpellsSoFar ws s → application_term s ≡ Some a → SpellsApplication ws a
-application_sound (due role) ws a h e = cc
 application_sound (bindable v) ws a h e =
-    subst (SpellsApplication ws) (some_term (binder_term v) a e) (subst (λ us. SpellsApplication us (binder_term v)) (sym h.1) (spells_head (binder_atom h.2)))
-application_sound (applied at_front b n) ws a h e = subst (SpellsApplication ws) (some_term b a e) h
-application_sound (applied (domain v) b n) ws a h e = cc
-application_sound (bracketed v b) ws a h e = cc
+    subst (SpellsApplication ws) (same_Some (binder_term v) a e) (subst (λ us. SpellsApplication us (binder_term v)) (sym h.1) (spells_head (binder_atom h.2)))
+application_sound (applied at_front b n) ws a h e = subst (SpellsApplication ws) (same_Some b a e) h
+application_sound s ws a h e = cc
 
 -- a application in its frames
 application_reached : (xs ys ws zs : List Terminal) (fs : Frames) (o : Option Application) (q : TermSoFar) → xs ≡ ys ++ ws → SpellsFrames ys fs → ((t : Application) → o ≡ Some t → SpellsSoFar (ws ++ zs) t) → in_frames fs o ≡ Some q → ReachedTerm (xs ++ zs) q
 application_reached xs ys ws zs fs None q is k h e = cc
 application_reached xs ys ws zs fs (Some t) q is k h e =
-    subst (ReachedTerm (xs ++ zs)) (some_so_far (at fs t) q e)
+    subst (ReachedTerm (xs ++ zs)) (same_Some (at fs t) q e)
     (record { before = ys; here = ws ++ zs; is = behind xs zs (ys ++ ws) is ∙ append_assoc ys ws zs; frames = k; application = h t refl })
 
 framed_reached : (xs ys ws : List Terminal) (x : Terminal) (f : Frame) (fs : Frames) (q : TermSoFar) → xs ≡ ys ++ ws → SpellsFrames ys fs → SpellsFrame (ws ++ x ∷ []) f → framed f fs ≡ Some q → ReachedTerm (xs ++ x ∷ []) q
 framed_reached xs ys ws x f fs q is k h e =
-    subst (ReachedTerm (xs ++ x ∷ [])) (some_so_far (at (pushed f fs) (due at_front)) q e)
+    subst (ReachedTerm (xs ++ x ∷ [])) (same_Some (at (pushed f fs) (due at_front)) q e)
     (record {
       before = ys ++ (ws ++ x ∷ []);
       here = [];
@@ -144,7 +128,7 @@ bracket_spelt us ws zs xs e = behind xs (close_bracket ∷ []) ((us ++ (ws ++ op
 bracket_reached : (o : Option Application) (s : Application) (xs us ws zs : List Terminal) (fs : Frames) (a : Written) (q : TermSoFar) → xs ≡ (us ++ (ws ++ open_bracket ∷ [])) ++ zs → SpellsFrames us fs → SpellsSoFar ws s → SpellsTerm zs a → application_more s a ≡ o → in_frames fs o ≡ Some q → ReachedTerm (xs ++ close_bracket ∷ []) q
 bracket_reached None s xs us ws zs fs a q is k h t m e = cc
 bracket_reached (Some r) s xs us ws zs fs a q is k h t m e =
-    subst (ReachedTerm (xs ++ close_bracket ∷ [])) (some_so_far (at fs r) q e)
+    subst (ReachedTerm (xs ++ close_bracket ∷ [])) (same_Some (at fs r) q e)
     (record {
       before = us;
       here = ws ++ (open_bracket ∷ (zs ++ close_bracket ∷ []));
@@ -158,25 +142,15 @@ unwound_reached (bottom level) xs ys zs a q is k t e = cc
 unwound_reached (on d (bracket_frame s) fs) xs ys zs a q is k t e =
     let f = k.4 in
     bracket_reached (application_more s a) s xs k.0 f.0 zs fs a q (is ∙ behind ys zs (k.0 ++ (f.0 ++ open_bracket ∷ [])) (k.2 ∙ ap (λ vs. k.0 ++ vs) f.1)) k.3 f.2 t refl e
-unwound_reached (on d (arrow_frame b) fs) xs ys zs a q is k t e =
-    unwound_reached fs xs k.0 (k.1 ++ zs) (written_arrow b a) q (is ∙ behind ys zs (k.0 ++ k.1) k.2 ∙ append_assoc k.0 k.1 zs) k.3 (k.4 zs a t) e
-unwound_reached (on d (product_frame v b) fs) xs ys zs a q is k t e =
-    unwound_reached fs xs k.0 (k.1 ++ zs) (written_product v b a) q (is ∙ behind ys zs (k.0 ++ k.1) k.2 ∙ append_assoc k.0 k.1 zs) k.3 (k.4 zs a t) e
-unwound_reached (on d (bare_frame v) fs) xs ys zs a q is k t e =
-    unwound_reached fs xs k.0 (k.1 ++ zs) (written_bare v a) q (is ∙ behind ys zs (k.0 ++ k.1) k.2 ∙ append_assoc k.0 k.1 zs) k.3 (k.4 zs a t) e
-unwound_reached (on d (annotated_frame v b) fs) xs ys zs a q is k t e =
-    unwound_reached fs xs k.0 (k.1 ++ zs) (written_annotated v b a) q (is ∙ behind ys zs (k.0 ++ k.1) k.2 ∙ append_assoc k.0 k.1 zs) k.3 (k.4 zs a t) e
-
-close_reached : (o : Option Written) (s : Application) (fs : Frames) (xs ys ws : List Terminal) (q : TermSoFar) → xs ≡ ys ++ ws → SpellsFrames ys fs → SpellsSoFar ws s → application_term s ≡ o → next_close_term fs o ≡ Some q → ReachedTerm (xs ++ close_bracket ∷ []) q
-close_reached None s fs xs ys ws q is k h t e = cc
-close_reached (Some a) s fs xs ys ws q is k h t e = unwound_reached fs xs ys ws a q is k (spells_application (application_sound s ws a h t)) e
+unwound_reached (on d f fs) xs ys zs a q is k t e =
+    unwound_reached fs xs k.0 (k.1 ++ zs) (wrapped f a) q (is ∙ behind ys zs (k.0 ++ k.1) k.2 ∙ append_assoc k.0 k.1 zs) k.3 (k.4 zs a t) e
 
 domain_reached : (fs : Frames) (v : Option (List ℕ)) (a : Written) (xs ys ws : List Terminal) (x : Terminal) (us : List Terminal) (q : TermSoFar) → xs ≡ ys ++ ws → SpellsFrames ys fs → ws ≡ x ∷ colon ∷ us → SpellsBinder x v → SpellsApplication us a → next_close_domain fs v a ≡ Some q → ReachedTerm (xs ++ close_bracket ∷ []) q
 domain_reached (on d (bracket_frame (due at_front)) fs) v a xs ys ws x us q is k w b h e =
     let f = k.4 in
     let front : ys ≡ k.0 ++ open_bracket ∷ [] = k.2 ∙ ap (λ vs. k.0 ++ vs) (f.1 ∙ behind f.0 (open_bracket ∷ []) [] f.2) in
     let all : xs ≡ (k.0 ++ open_bracket ∷ []) ++ (x ∷ colon ∷ us) = is ∙ behind ys ws (k.0 ++ open_bracket ∷ []) front ∙ ap (λ vs. (k.0 ++ open_bracket ∷ []) ++ vs) w in
-    subst (ReachedTerm (xs ++ close_bracket ∷ [])) (some_so_far (at fs (bracketed v a)) q e)
+    subst (ReachedTerm (xs ++ close_bracket ∷ [])) (same_Some (at fs (bracketed v a)) q e)
     (record {
       before = k.0;
       here = open_bracket ∷ x ∷ colon ∷ (us ++ close_bracket ∷ []);
@@ -193,14 +167,13 @@ open_reached false s fs xs ys ws q is k h t e = cc
 
 closed_reached : (s : Application) (fs : Frames) (xs ys ws : List Terminal) (q : TermSoFar) → xs ≡ ys ++ ws → SpellsFrames ys fs → SpellsSoFar ws s → next_close fs s ≡ Some q → ReachedTerm (xs ++ close_bracket ∷ []) q
 closed_reached (applied (domain v) a n) fs xs ys ws q is k h e = domain_reached fs v a xs ys ws h.0 h.1 q is k h.2 h.3 h.4 e
-closed_reached (applied at_front a n) fs xs ys ws q is k h e = close_reached (Some a) (applied at_front a n) fs xs ys ws q is k h refl e
-closed_reached (bindable v) fs xs ys ws q is k h e = close_reached (Some (binder_term v)) (bindable v) fs xs ys ws q is k h refl e
-closed_reached (due role) fs xs ys ws q is k h e = cc
-closed_reached (bracketed v a) fs xs ys ws q is k h e = cc
+closed_reached (applied at_front a n) fs xs ys ws q is k h e = unwound_reached fs xs ys ws a q is k (spells_application h) e
+closed_reached (bindable v) fs xs ys ws q is k h e = unwound_reached fs xs ys ws (binder_term v) q is k (spells_application (application_sound (bindable v) ws (binder_term v) h refl)) e
+closed_reached s fs xs ys ws q is k h e = cc
 
 colon_reached : (s : Application) (fs : Frames) (xs ys ws : List Terminal) (q : TermSoFar) → xs ≡ ys ++ ws → SpellsFrames ys fs → SpellsSoFar ws s → next_colon fs s ≡ Some q → ReachedTerm (xs ++ colon ∷ []) q
 colon_reached (bindable v) fs xs ys ws q is k h e =
-    subst (ReachedTerm (xs ++ colon ∷ [])) (some_so_far (at fs (due (domain v))) q e)
+    subst (ReachedTerm (xs ++ colon ∷ [])) (same_Some (at fs (due (domain v))) q e)
     (record {
       before = ys;
       here = ws ++ colon ∷ [];
@@ -237,16 +210,10 @@ term_reached xs p x q h e = cc
 
 -- a term that may end here is spelt
 unwound_all_sound : (fs : Frames) (ys zs : List Terminal) (a b : Written) → SpellsFrames ys fs → SpellsTerm zs a → unwound_all fs a ≡ Some b → SpellsTerm (ys ++ zs) b
-unwound_all_sound (bottom level) ys zs a b k t e = subst (SpellsTerm (ys ++ zs)) (some_term a b e) (subst (λ us. SpellsTerm us a) (sym (behind ys zs [] k)) t)
+unwound_all_sound (bottom level) ys zs a b k t e = subst (SpellsTerm (ys ++ zs)) (same_Some a b e) (subst (λ us. SpellsTerm us a) (sym (behind ys zs [] k)) t)
 unwound_all_sound (on d (bracket_frame s) fs) ys zs a b k t e = cc
-unwound_all_sound (on d (arrow_frame c) fs) ys zs a b k t e =
-    subst (λ us. SpellsTerm us b) (sym (behind ys zs (k.0 ++ k.1) k.2 ∙ append_assoc k.0 k.1 zs)) (unwound_all_sound fs k.0 (k.1 ++ zs) (written_arrow c a) b k.3 (k.4 zs a t) e)
-unwound_all_sound (on d (product_frame v c) fs) ys zs a b k t e =
-    subst (λ us. SpellsTerm us b) (sym (behind ys zs (k.0 ++ k.1) k.2 ∙ append_assoc k.0 k.1 zs)) (unwound_all_sound fs k.0 (k.1 ++ zs) (written_product v c a) b k.3 (k.4 zs a t) e)
-unwound_all_sound (on d (bare_frame v) fs) ys zs a b k t e =
-    subst (λ us. SpellsTerm us b) (sym (behind ys zs (k.0 ++ k.1) k.2 ∙ append_assoc k.0 k.1 zs)) (unwound_all_sound fs k.0 (k.1 ++ zs) (written_bare v a) b k.3 (k.4 zs a t) e)
-unwound_all_sound (on d (annotated_frame v c) fs) ys zs a b k t e =
-    subst (λ us. SpellsTerm us b) (sym (behind ys zs (k.0 ++ k.1) k.2 ∙ append_assoc k.0 k.1 zs)) (unwound_all_sound fs k.0 (k.1 ++ zs) (written_annotated v c a) b k.3 (k.4 zs a t) e)
+unwound_all_sound (on d f fs) ys zs a b k t e =
+    subst (λ us. SpellsTerm us b) (sym (behind ys zs (k.0 ++ k.1) k.2 ∙ append_assoc k.0 k.1 zs)) (unwound_all_sound fs k.0 (k.1 ++ zs) (wrapped f a) b k.3 (k.4 zs a t) e)
 
 ended_sound : (o : Option Written) (xs : List Terminal) (p : TermSoFar) (b : Written) → ReachedTerm xs p → application_term p.application ≡ o → application_ended p.frames o ≡ Some b → SpellsTerm xs b
 ended_sound None xs p b h t e = cc
@@ -313,17 +280,8 @@ frames_begun (on d (bracket_frame s) fs) ys zs a k t =
       term = two.term;
       spelt = subst (λ us. SpellsTerm us two.term) (brackets_begun k.0 f.0 zs ys one.rest two.rest (k.2 ∙ ap (λ vs. k.0 ++ vs) f.1)) two.spelt;
     }
-frames_begun (on d (arrow_frame b) fs) ys zs a k t =
-    let r = frames_begun fs k.0 (k.1 ++ zs) (written_arrow b a) k.3 (k.4 zs a t) in
-    record { rest = r.rest; term = r.term; spelt = subst (λ us. SpellsTerm us r.term) (frame_begun k.0 k.1 zs r.rest ys k.2) r.spelt }
-frames_begun (on d (product_frame v b) fs) ys zs a k t =
-    let r = frames_begun fs k.0 (k.1 ++ zs) (written_product v b a) k.3 (k.4 zs a t) in
-    record { rest = r.rest; term = r.term; spelt = subst (λ us. SpellsTerm us r.term) (frame_begun k.0 k.1 zs r.rest ys k.2) r.spelt }
-frames_begun (on d (bare_frame v) fs) ys zs a k t =
-    let r = frames_begun fs k.0 (k.1 ++ zs) (written_bare v a) k.3 (k.4 zs a t) in
-    record { rest = r.rest; term = r.term; spelt = subst (λ us. SpellsTerm us r.term) (frame_begun k.0 k.1 zs r.rest ys k.2) r.spelt }
-frames_begun (on d (annotated_frame v b) fs) ys zs a k t =
-    let r = frames_begun fs k.0 (k.1 ++ zs) (written_annotated v b a) k.3 (k.4 zs a t) in
+frames_begun (on d f fs) ys zs a k t =
+    let r = frames_begun fs k.0 (k.1 ++ zs) (wrapped f a) k.3 (k.4 zs a t) in
     record { rest = r.rest; term = r.term; spelt = subst (λ us. SpellsTerm us r.term) (frame_begun k.0 k.1 zs r.rest ys k.2) r.spelt }
 
 pub term_begun : (xs : List Terminal) (p : TermSoFar) → ReachedTerm xs p → (rest : List Terminal) × (a : Written) × SpellsTerm (xs ++ rest) a

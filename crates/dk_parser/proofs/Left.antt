@@ -1,5 +1,6 @@
 -- The terminals that lead to a part of a left side.
 use Rattle.std.proofs.Common.{◌≡◌, ℕ, ◌+◌, List, [], ◌∷◌, ◌++◌, refl, sym, ap, ◌∙◌, subst, append_assoc, append-nil}
+use Rattle.std.proofs.lemmas.Option.{same_Some}
 use Rattle.std.specs.Prelude.{Option, Some, None}
 use Rattle.dk_lexer.specs.declared.token.Sign.TheVariants as sign
 use Rattle.dk_terms.specs.declared.terminal.Terminal.{Terminal}
@@ -7,6 +8,7 @@ use Rattle.dk_terms.specs.declared.terminal.Terminal.TheVariants as terminal
 use Rattle.dk_parser.specs.Written.{WrittenPattern, pattern_qualified, pattern_apply, pattern_bare}
 use Rattle.dk_parser.specs.Grammar.{double_arrow, open_bracket, close_bracket, SpellsBinder, spells_binder, spells_no_binder, SpellsPatternAtom, spells_pattern_name, spells_pattern_qualified, spells_pattern_wildcard, spells_pattern_brackets, SpellsPatternApplication, spells_pattern_head, spells_pattern_applied, SpellsPattern, spells_pattern_application, spells_pattern_bare}
 use Rattle.dk_parser.specs.Parsing.{LeftApplication, pattern_due, pattern_bindable, pattern_applied, Binders, binder_on, PatternFrames, no_bracket, bracket_on, LeftSoFar, left_due, binder_pattern, pattern_more, pattern_binder, left_pattern, under_binders, with_atom, with_binder, pattern_opened, pattern_closed, pattern_bound, pattern_next, pattern_done, done_outside}
+use Rattle.dk_parser.proofs.Language.{behind}
 
 binder_atom : {x : Terminal} {v : Option (List ℕ)} → SpellsBinder x v → SpellsPatternAtom (x ∷ []) (binder_pattern v)
 binder_atom spells_binder = spells_pattern_name
@@ -37,15 +39,6 @@ pub record ReachedLeft (xs : List Terminal) (part : LeftSoFar) : Type 0 where
 pub left_reached_nothing : ReachedLeft [] left_due
 left_reached_nothing = record { before = []; here = []; is = refl; frames = refl; application = refl }
 
-some_so_far : (p q : LeftSoFar) → Some p ≡ Some q → p ≡ q
-some_so_far p q e = cc
-
-some_pattern : (p q : WrittenPattern) → Some p ≡ Some q → p ≡ q
-some_pattern p q e = cc
-
-behind : (ws ys zs : List Terminal) → ws ≡ zs → ws ++ ys ≡ zs ++ ys
-behind ws ys zs e = ap (λ us. us ++ ys) e
-
 application_add : (s : LeftApplication) (ws ys : List Terminal) (p : WrittenPattern) → SpellsLeftSoFar ws s → SpellsPatternAtom ys p → SpellsLeftSoFar (ws ++ ys) (pattern_more s p)
 application_add pattern_due ws ys p h k = subst (λ us. SpellsPatternApplication us p) (sym (behind ws ys [] h)) (spells_pattern_head k)
 application_add (pattern_bindable v) ws ys p h k =
@@ -60,8 +53,8 @@ application_bind (pattern_applied f n) ws x v h k = application_add (pattern_app
 application_sound : (s : LeftApplication) (ws : List Terminal) (p : WrittenPattern) → SpellsLeftSoFar ws s → left_pattern s ≡ Some p → SpellsPatternApplication ws p
 application_sound pattern_due ws p h e = cc
 application_sound (pattern_bindable v) ws p h e =
-    subst (SpellsPatternApplication ws) (some_pattern (binder_pattern v) p e) (subst (λ us. SpellsPatternApplication us (binder_pattern v)) (sym h.1) (spells_pattern_head (binder_atom h.2)))
-application_sound (pattern_applied q n) ws p h e = subst (SpellsPatternApplication ws) (some_pattern q p e) h
+    subst (SpellsPatternApplication ws) (same_Some (binder_pattern v) p e) (subst (λ us. SpellsPatternApplication us (binder_pattern v)) (sym h.1) (spells_pattern_head (binder_atom h.2)))
+application_sound (pattern_applied q n) ws p h e = subst (SpellsPatternApplication ws) (same_Some q p e) h
 
 -- an atom more, of one terminal or of several
 pub left_atom_reached : (xs ys : List Terminal) (part : LeftSoFar) (p : WrittenPattern) → ReachedLeft xs part → SpellsPatternAtom ys p → ReachedLeft (xs ++ ys) (with_atom part p)
@@ -99,7 +92,7 @@ closed_reached no_bracket o xs before here q is k h e = cc
 closed_reached (bracket_on d s vs fs) None xs before here q is k h e = cc
 closed_reached (bracket_on d s vs fs) (Some p) xs before here q is k h e =
     let all : xs ≡ (k.0 ++ (k.1 ++ open_bracket ∷ k.2)) ++ here = is ∙ behind before here (k.0 ++ (k.1 ++ open_bracket ∷ k.2)) k.3 in
-    subst (ReachedLeft (xs ++ close_bracket ∷ [])) (some_so_far (record { frames = fs; application = pattern_more s (under_binders vs p) }) q e)
+    subst (ReachedLeft (xs ++ close_bracket ∷ [])) (same_Some (record { frames = fs; application = pattern_more s (under_binders vs p) }) q e)
     (record {
       before = k.0;
       here = k.1 ++ (open_bracket ∷ ((k.2 ++ here) ++ close_bracket ∷ []));
@@ -114,7 +107,7 @@ bound_lists us ws bs x = simp append_assoc
 bound_reached : (fs : PatternFrames) (s : LeftApplication) (xs before here : List Terminal) (q : LeftSoFar) → xs ≡ before ++ here → SpellsPatternFrames before fs → SpellsLeftSoFar here s → pattern_bound fs s ≡ Some q → ReachedLeft (xs ++ double_arrow ∷ []) q
 bound_reached (bracket_on d s vs fs) (pattern_bindable v) xs before here q is k h e =
     let all : xs ≡ (k.0 ++ (k.1 ++ open_bracket ∷ k.2)) ++ h.0 ∷ [] = is ∙ behind before here (k.0 ++ (k.1 ++ open_bracket ∷ k.2)) k.3 ∙ ap (λ zs. (k.0 ++ (k.1 ++ open_bracket ∷ k.2)) ++ zs) h.1 in
-    subst (ReachedLeft (xs ++ double_arrow ∷ [])) (some_so_far (record { frames = bracket_on (d + 1) s (binder_on v vs) fs; application = pattern_due }) q e)
+    subst (ReachedLeft (xs ++ double_arrow ∷ [])) (same_Some (record { frames = bracket_on (d + 1) s (binder_on v vs) fs; application = pattern_due }) q e)
     (record {
       before = k.0 ++ (k.1 ++ (open_bracket ∷ (k.2 ++ (h.0 ∷ double_arrow ∷ []))));
       here = [];
@@ -126,10 +119,10 @@ bound_reached fs s xs before here q is k h e = cc
 
 -- one terminal more of a left side
 pub left_reached : (xs : List Terminal) (part : LeftSoFar) (x : Terminal) (q : LeftSoFar) → ReachedLeft xs part → pattern_next part x ≡ Some q → ReachedLeft (xs ++ x ∷ []) q
-left_reached xs part (terminal.Name n) q h e = subst (ReachedLeft (xs ++ terminal.Name n ∷ [])) (some_so_far (with_binder part (Some n)) q e) (binder_reached xs (terminal.Name n) part (Some n) h spells_binder)
-left_reached xs part terminal.Wildcard q h e = subst (ReachedLeft (xs ++ terminal.Wildcard ∷ [])) (some_so_far (with_binder part None) q e) (binder_reached xs terminal.Wildcard part None h spells_no_binder)
-left_reached xs part (terminal.Qualified m n) q h e = subst (ReachedLeft (xs ++ terminal.Qualified m n ∷ [])) (some_so_far (with_atom part (pattern_qualified m n)) q e) (left_atom_reached xs (terminal.Qualified m n ∷ []) part (pattern_qualified m n) h spells_pattern_qualified)
-left_reached xs part (terminal.Sign sign.OpenBracket) q h e = subst (ReachedLeft (xs ++ open_bracket ∷ [])) (some_so_far (pattern_opened part) q e) (opened_reached xs part h)
+left_reached xs part (terminal.Name n) q h e = subst (ReachedLeft (xs ++ terminal.Name n ∷ [])) (same_Some (with_binder part (Some n)) q e) (binder_reached xs (terminal.Name n) part (Some n) h spells_binder)
+left_reached xs part terminal.Wildcard q h e = subst (ReachedLeft (xs ++ terminal.Wildcard ∷ [])) (same_Some (with_binder part None) q e) (binder_reached xs terminal.Wildcard part None h spells_no_binder)
+left_reached xs part (terminal.Qualified m n) q h e = subst (ReachedLeft (xs ++ terminal.Qualified m n ∷ [])) (same_Some (with_atom part (pattern_qualified m n)) q e) (left_atom_reached xs (terminal.Qualified m n ∷ []) part (pattern_qualified m n) h spells_pattern_qualified)
+left_reached xs part (terminal.Sign sign.OpenBracket) q h e = subst (ReachedLeft (xs ++ open_bracket ∷ [])) (same_Some (pattern_opened part) q e) (opened_reached xs part h)
 left_reached xs part (terminal.Sign sign.CloseBracket) q h e = closed_reached part.frames (left_pattern part.application) xs h.before h.here q h.is h.frames (λ p m. application_sound part.application h.here p h.application m) e
 left_reached xs part (terminal.Sign sign.DoubleArrow) q h e = bound_reached part.frames part.application xs h.before h.here q h.is h.frames h.application e
 left_reached xs part x q h e = cc

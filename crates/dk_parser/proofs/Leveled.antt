@@ -1,5 +1,6 @@
 -- The load of a terminal is the one that the step to the next part gives.
 use Rattle.std.proofs.Common.{◌≡◌, ℕ, suc, ◌+◌, List, [], ◌∷◌, ◌++◌, refl, sym, ap, ◌∙◌, subst, arith}
+use Rattle.std.proofs.lemmas.Option.{same_Some}
 use Rattle.std.specs.Prelude.{Bool, true, false, Option, Some, None, length, max}
 use Rattle.std.proofs.lemmas.Bool.Decides.{nat_tests}
 use Rattle.dk_model.specs.declared.signature.SymSort.{SymSort}
@@ -7,23 +8,33 @@ use Rattle.dk_model.specs.declared.signature.SymSort.TheVariants.{Static, Defina
 use Rattle.dk_lexer.specs.declared.token.Sign.TheVariants as sign
 use Rattle.dk_terms.specs.declared.terminal.Terminal.{Terminal}
 use Rattle.dk_terms.specs.declared.terminal.Terminal.TheVariants as terminal
-use Rattle.dk_parser.specs.Written.{Written, written_qualified, written_star, written_apply, written_arrow, written_product, written_bare, written_annotated, WrittenParam, WrittenPattern, pattern_qualified, pattern_guard, WrittenForm}
+use Rattle.dk_parser.specs.Written.{Written, written_qualified, written_star, written_apply, WrittenParam, WrittenPattern, pattern_qualified, pattern_guard, WrittenForm}
 use Rattle.dk_parser.specs.Grammar.{dot, param, entry}
 use Rattle.dk_parser.specs.Levels.{Group, empty_group, atom_more, Groups, no_groups, with_inner, closed, groups_behind, Side, in_head, behind_head, on_left, Standing, at_start, params_closed, side_at_colon, standing_behind, standing_from, standing, arrows_of, level_of, argument_in, level_or_argument}
-use Rattle.dk_parser.specs.Parsing.{at_front, domain, Application, due, bindable, applied, bracketed, Frame, bracket_frame, arrow_frame, product_frame, bare_frame, annotated_frame, Frames, bottom, on, TermSoFar, depth, pushed, binder_term, atoms, application_more, application_binder, takes_atom, in_frames, unwound, next_open, next_close, next_close_term, next_close_domain, next_colon, next_arrow, next_double_arrow, framed, term_next, term_argument, term_done, in_bracket, takes, LeftApplication, pattern_due, pattern_bindable, pattern_applied, Binders, no_binders, binder_on, PatternFrames, no_bracket, bracket_on, LeftSoFar, pattern_depth, pattern_atoms, pattern_more, pattern_binder, left_pattern, under_binders, with_atom, with_binder, pattern_opened, pattern_closed, pattern_bound, pattern_next, pattern_argument, pattern_done, RuleHead, with_entry, with_rule, Head, level_behind, with_param, Purpose, as_param, as_type, as_body, as_entry, as_guard, as_right, CommandSoFar, command_due, name_due, head_due, binder_due, binder_colon_due, rule_name_due, rule_brace_due, square_due, context_due, entry_due, entry_named, in_left, in_term, Advance, goes, ends, refuses, body_due, body_behind_head, body_behind_type, dot_behind_type, behind_entry, behind_rule, behind_term, named_next, left_goes, right_due, guard_due, left_next, term_goes, term_ends, in_term_next, head_next, advanced}
+use Rattle.dk_parser.specs.Parsing.{at_front, domain, Application, due, bindable, applied, bracketed, Frame, bracket_frame, arrow_frame, product_frame, bare_frame, annotated_frame, Frames, bottom, on, TermSoFar, depth, pushed, binder_term, atoms, application_more, application_binder, takes_atom, in_frames, unwound, next_open, next_close, next_close_domain, next_colon, next_arrow, next_double_arrow, framed, term_next, term_argument, term_done, in_bracket, takes, LeftApplication, pattern_due, pattern_bindable, Binders, no_binders, binder_on, PatternFrames, no_bracket, bracket_on, LeftSoFar, pattern_depth, pattern_atoms, pattern_more, pattern_binder, left_pattern, under_binders, with_atom, with_binder, pattern_opened, pattern_closed, pattern_bound, pattern_next, pattern_argument, pattern_done, RuleHead, with_entry, with_rule, Head, level_behind, with_param, Purpose, as_param, as_type, as_body, as_entry, as_guard, as_right, CommandSoFar, command_due, name_due, head_due, binder_due, binder_colon_due, rule_name_due, rule_brace_due, square_due, context_due, entry_due, entry_named, in_left, in_term, Advance, goes, ends, refuses, body_due, body_behind_head, body_behind_type, dot_behind_type, behind_entry, behind_rule, behind_term, named_next, left_goes, right_due, guard_due, left_next, term_goes, term_ends, in_term_next, head_next, advanced}
 use Rattle.dk_parser.proofs.Machine.{going, run, follow}
-use Rattle.dk_parser.proofs.Complete.{at, next_takes, close_enders}
+use Rattle.dk_parser.proofs.Complete.{at, close_enders, next_takes, wrapped}
 
 -- a term in these groups, behind so many parameters
 module _ (params : ℕ) (under : List Group) where
-  -- the groups of a part of a term in these groups, with so many arrows and atoms more in the innermost
-  abbrev groups_of : Frames → ℕ → ℕ → Groups
-  groups_of (bottom level) k n = record { inner = record { arrows = k; atoms = n }; outer = under }
-  groups_of (on d (bracket_frame s) fs) k n = record { inner = record { arrows = k; atoms = n }; outer = (groups_of fs 0 (atoms s + 1)).inner ∷ (groups_of fs 0 (atoms s + 1)).outer }
-  groups_of (on d (arrow_frame a) fs) k n = groups_of fs (k + 1) n
-  groups_of (on d (product_frame v a) fs) k n = groups_of fs (k + 1) n
-  groups_of (on d (bare_frame v) fs) k n = groups_of fs (k + 1) n
-  groups_of (on d (annotated_frame v a) fs) k n = groups_of fs (k + 1) n
+  -- the arrows in the innermost bracket that is open, and the groups around it
+  abbrev arrows_in : Frames → ℕ
+  arrows_in (bottom level) = 0
+  arrows_in (on d (bracket_frame s) fs) = 0
+  arrows_in (on d f fs) = arrows_in fs + 1
+
+  abbrev groups_around : Frames → List Group
+  groups_around (bottom level) = under
+  groups_around (on d (bracket_frame s) fs) = record { arrows = arrows_in fs; atoms = atoms s + 1 } ∷ groups_around fs
+  groups_around (on d f fs) = groups_around fs
+
+  -- the groups of a part of a term, with so many atoms in the innermost
+  abbrev groups_of : Frames → ℕ → Groups
+  groups_of fs n = record { inner = record { arrows = arrows_in fs; atoms = n }; outer = groups_around fs }
+
+  -- behind an arrow
+  abbrev arrow_in : Frames → Groups
+  arrow_in fs = record { inner = record { arrows = arrows_in fs + 1; atoms = 0 }; outer = groups_around fs }
 
   -- the frames count the levels
   abbrev Counted : Frames → Type 0
@@ -31,67 +42,19 @@ module _ (params : ℕ) (under : List Group) where
   Counted (on d f fs) = (d ≡ depth fs + 1) × Counted fs
 
   abbrev part_groups : TermSoFar → Groups
-  part_groups p = groups_of p.frames 0 (atoms p.application)
+  part_groups p = groups_of p.frames (atoms p.application)
 
-  atoms_more : (fs : Frames) (k n : ℕ) → record { inner = record { arrows = (groups_of fs k n).inner.arrows; atoms = (groups_of fs k n).inner.atoms + 1 }; outer = (groups_of fs k n).outer } ≡ groups_of fs k (n + 1)
-  atoms_more (bottom level) k n = refl
-  atoms_more (on d (bracket_frame s) fs) k n = refl
-  atoms_more (on d (arrow_frame a) fs) k n = atoms_more fs (k + 1) n
-  atoms_more (on d (product_frame v a) fs) k n = atoms_more fs (k + 1) n
-  atoms_more (on d (bare_frame v) fs) k n = atoms_more fs (k + 1) n
-  atoms_more (on d (annotated_frame v a) fs) k n = atoms_more fs (k + 1) n
+  level_in : (base arrows rest depth_fs d : ℕ) → d ≡ depth_fs + 1 → base + (arrows + rest) ≡ depth_fs → base + ((arrows + 1) + rest) ≡ d
+  level_in base arrows rest depth_fs d e h = omega arith
 
-  atoms_over : (fs : Frames) (k n : ℕ) → record { inner = record { arrows = (groups_of fs k n).inner.arrows; atoms = 0 }; outer = (groups_of fs k n).outer } ≡ groups_of fs k 0
-  atoms_over (bottom level) k n = refl
-  atoms_over (on d (bracket_frame s) fs) k n = refl
-  atoms_over (on d (arrow_frame a) fs) k n = atoms_over fs (k + 1) n
-  atoms_over (on d (product_frame v a) fs) k n = atoms_over fs (k + 1) n
-  atoms_over (on d (bare_frame v) fs) k n = atoms_over fs (k + 1) n
-  atoms_over (on d (annotated_frame v a) fs) k n = atoms_over fs (k + 1) n
-
-  arrows_more : (fs : Frames) (k n : ℕ) → record { inner = record { arrows = (groups_of fs k n).inner.arrows + 1; atoms = 0 }; outer = (groups_of fs k n).outer } ≡ groups_of fs (k + 1) 0
-  arrows_more (bottom level) k n = refl
-  arrows_more (on d (bracket_frame s) fs) k n = refl
-  arrows_more (on d (arrow_frame a) fs) k n = arrows_more fs (k + 1) n
-  arrows_more (on d (product_frame v a) fs) k n = arrows_more fs (k + 1) n
-  arrows_more (on d (bare_frame v) fs) k n = arrows_more fs (k + 1) n
-  arrows_more (on d (annotated_frame v a) fs) k n = arrows_more fs (k + 1) n
-
-  inner_atoms : (fs : Frames) (k n : ℕ) → (groups_of fs k n).inner.atoms ≡ n
-  inner_atoms (bottom level) k n = refl
-  inner_atoms (on d (bracket_frame s) fs) k n = refl
-  inner_atoms (on d (arrow_frame a) fs) k n = inner_atoms fs (k + 1) n
-  inner_atoms (on d (product_frame v a) fs) k n = inner_atoms fs (k + 1) n
-  inner_atoms (on d (bare_frame v) fs) k n = inner_atoms fs (k + 1) n
-  inner_atoms (on d (annotated_frame v a) fs) k n = inner_atoms fs (k + 1) n
-
-  level_bracket : (base k arrows rest depth_fs d : ℕ) → d ≡ depth_fs + 1 → base + (arrows + rest) ≡ depth_fs + 0 → base + (k + ((arrows + 1) + rest)) ≡ d + k
-  level_bracket base k arrows rest depth_fs d e h = omega arith
-
-  level_arrow : (k level depth_fs d : ℕ) → d ≡ depth_fs + 1 → level ≡ depth_fs + (k + 1) → level ≡ d + k
-  level_arrow k level depth_fs d e h = omega arith
-
-  level_bottom : (base rest level k : ℕ) → level ≡ base + rest → base + (k + rest) ≡ level + k
-  level_bottom base rest level k e = omega arith
-
-  abbrev group_level : Groups → ℕ
-  group_level gs = params + (gs.inner.arrows + arrows_of gs.outer)
+  level_begun : (base arrows level : ℕ) → level ≡ base + arrows → base + (0 + arrows) ≡ level
+  level_begun base arrows level e = omega arith
 
   -- the level is the one that the frames count
-  level_depth : (fs : Frames) (k n : ℕ) → Counted fs → group_level (groups_of fs k n) ≡ depth fs + k
-  level_depth (bottom level) k n c = level_bottom params (arrows_of under) level k c
-  level_depth (on d (bracket_frame s) fs) k n c =
-      level_bracket params k (groups_of fs 0 (atoms s + 1)).inner.arrows (arrows_of (groups_of fs 0 (atoms s + 1)).outer) (depth fs) d c.0 (level_depth fs 0 (atoms s + 1) c.1)
-  level_depth (on d (arrow_frame a) fs) k n c = level_arrow k _ (depth fs) d c.0 (level_depth fs (k + 1) n c.1)
-  level_depth (on d (product_frame v a) fs) k n c = level_arrow k _ (depth fs) d c.0 (level_depth fs (k + 1) n c.1)
-  level_depth (on d (bare_frame v) fs) k n c = level_arrow k _ (depth fs) d c.0 (level_depth fs (k + 1) n c.1)
-  level_depth (on d (annotated_frame v a) fs) k n c = level_arrow k _ (depth fs) d c.0 (level_depth fs (k + 1) n c.1)
-
-  nothing_more : (n : ℕ) → n + 0 ≡ n
-  nothing_more n = omega arith
-
-  so_far_depth : (p : TermSoFar) → Counted p.frames → group_level (part_groups p) ≡ depth p.frames
-  so_far_depth p c = level_depth p.frames 0 (atoms p.application) c ∙ nothing_more (depth p.frames)
+  so_far_level : (fs : Frames) → Counted fs → params + (arrows_in fs + arrows_of (groups_around fs)) ≡ depth fs
+  so_far_level (bottom level) c = level_begun params (arrows_of under) level c
+  so_far_level (on d (bracket_frame s) fs) c = level_begun params _ d (sym (level_in params (arrows_in fs) (arrows_of (groups_around fs)) (depth fs) d c.0 (so_far_level fs c.1)))
+  so_far_level (on d f fs) c = level_in params (arrows_in fs) (arrows_of (groups_around fs)) (depth fs) d c.0 (so_far_level fs c.1)
 
   -- these are the groups of a part
   record IsGrouped (gs : Groups) (q : TermSoFar) : Type 0 where
@@ -99,101 +62,64 @@ module _ (params : ℕ) (under : List Group) where
     pub counted : Counted q.frames
 
   grouped_at : (gs : Groups) (p q : TermSoFar) → Some p ≡ Some q → IsGrouped gs p → IsGrouped gs q
-  grouped_at gs p q e h =
-      let same : p ≡ q = cc in
-      subst (IsGrouped gs) same h
+  grouped_at gs p q e h = subst (IsGrouped gs) (same_Some p q e) h
 
   application_atoms : (s t : Application) (a : Written) → application_more s a ≡ Some t → atoms s + 1 ≡ atoms t
-  application_atoms (due role) t a e =
-      let same : applied role a 1 ≡ t = cc in
-      ap atoms same
-  application_atoms (bindable v) t a e =
-      let same : applied at_front (written_apply (binder_term v) a) 2 ≡ t = cc in
-      ap atoms same
-  application_atoms (applied role f n) t a e =
-      let same : applied role (written_apply f a) (n + 1) ≡ t = cc in
-      ap atoms same
+  application_atoms (due role) t a e = ap atoms (same_Some (applied role a 1) t e)
+  application_atoms (bindable v) t a e = ap atoms (same_Some (applied at_front (written_apply (binder_term v) a) 2) t e)
+  application_atoms (applied role f n) t a e = ap atoms (same_Some (applied role (written_apply f a) (n + 1)) t e)
   application_atoms (bracketed v b) t a e = cc
 
   binder_atoms : (s t : Application) (v : Option (List ℕ)) → application_binder s v ≡ Some t → atoms s + 1 ≡ atoms t
-  binder_atoms (due at_front) t v e =
-      let same : bindable v ≡ t = cc in
-      ap atoms same
-  binder_atoms (due (domain w)) t v e = application_atoms (due (domain w)) t (binder_term v) e
-  binder_atoms (bindable w) t v e = application_atoms (bindable w) t (binder_term v) e
-  binder_atoms (applied role f n) t v e = application_atoms (applied role f n) t (binder_term v) e
-  binder_atoms (bracketed w b) t v e = cc
+  binder_atoms (due at_front) t v e = ap atoms (same_Some (bindable v) t e)
+  binder_atoms s t v e = application_atoms s t (binder_term v) e
 
   -- an atom
-  atom_grouped : (o : Option Application) (fs : Frames) (n : ℕ) (q : TermSoFar) → Counted fs → ((t : Application) → o ≡ Some t → n + 1 ≡ atoms t) → in_frames fs o ≡ Some q →
-      IsGrouped (record { inner = record { arrows = (groups_of fs 0 n).inner.arrows; atoms = (groups_of fs 0 n).inner.atoms + 1 }; outer = (groups_of fs 0 n).outer }) q
+  atom_grouped : (o : Option Application) (fs : Frames) (n : ℕ) (q : TermSoFar) → Counted fs → ((t : Application) → o ≡ Some t → n + 1 ≡ atoms t) → in_frames fs o ≡ Some q → IsGrouped (groups_of fs (n + 1)) q
   atom_grouped None fs n q c h e = cc
-  atom_grouped (Some t) fs n q c h e =
-      grouped_at _ (at fs t) q e (record { same = atoms_more fs 0 n ∙ ap (groups_of fs 0) (h t refl); counted = c })
+  atom_grouped (Some t) fs n q c h e = grouped_at _ (at fs t) q e (record { same = ap (groups_of fs) (h t refl); counted = c })
 
   -- a frame
-  arrow_grouped : (f : Frame) (fs : Frames) (n : ℕ) (q : TermSoFar) → Counted fs → ((d : ℕ) → groups_of (on d f fs) 0 0 ≡ groups_of fs 1 0) → framed f fs ≡ Some q →
-      IsGrouped (record { inner = record { arrows = (groups_of fs 0 n).inner.arrows + 1; atoms = 0 }; outer = (groups_of fs 0 n).outer }) q
-  arrow_grouped f fs n q c h e =
-      grouped_at _ (at (pushed f fs) (due at_front)) q e (record { same = arrows_more fs 0 n ∙ sym (h (depth fs + 1)); counted = (refl, c) })
+  arrow_grouped : (f : Frame) (fs : Frames) (q : TermSoFar) → Counted fs → ((d : ℕ) → groups_of (on d f fs) 0 ≡ arrow_in fs) → framed f fs ≡ Some q → IsGrouped (arrow_in fs) q
+  arrow_grouped f fs q c h e = grouped_at _ (at (pushed f fs) (due at_front)) q e (record { same = sym (h (depth fs + 1)); counted = (refl, c) })
 
-  open_grouped : (b : Bool) (s : Application) (fs : Frames) (q : TermSoFar) → Counted fs → next_open b fs s ≡ Some q →
-      IsGrouped (record { inner = empty_group; outer = record { arrows = (groups_of fs 0 (atoms s)).inner.arrows; atoms = (groups_of fs 0 (atoms s)).inner.atoms + 1 } ∷ (groups_of fs 0 (atoms s)).outer }) q
-  open_grouped true s fs q c e =
-      grouped_at _ (at (pushed (bracket_frame s) fs) (due at_front)) q e
-      (record { same = ap (λ (gs : Groups). record { inner = empty_group; outer = gs.inner ∷ gs.outer }) (atoms_more fs 0 (atoms s)); counted = (refl, c) })
+  open_grouped : (b : Bool) (s : Application) (fs : Frames) (q : TermSoFar) → Counted fs → next_open b fs s ≡ Some q → IsGrouped (groups_of (on 0 (bracket_frame s) fs) 0) q
+  open_grouped true s fs q c e = grouped_at _ (at (pushed (bracket_frame s) fs) (due at_front)) q e (record { same = refl; counted = (refl, c) })
   open_grouped false s fs q c e = cc
 
   -- a bracket that closes
   abbrev out : Groups → Groups
   out gs = closed gs gs.outer
 
-  bracket_grouped : (o : Option Application) (s : Application) (fs : Frames) (k n : ℕ) (d : ℕ) (q : TermSoFar) → Counted fs → ((t : Application) → o ≡ Some t → atoms s + 1 ≡ atoms t) → in_frames fs o ≡ Some q → IsGrouped (out (groups_of (on d (bracket_frame s) fs) k n)) q
-  bracket_grouped None s fs k n d q c h e = cc
-  bracket_grouped (Some t) s fs k n d q c h e =
-      grouped_at _ (at fs t) q e (record { same = ap (groups_of fs 0) (h t refl); counted = c })
+  unwound_grouped : (fs : Frames) (a : Written) (g : Group) (q : TermSoFar) → Counted fs → unwound fs a ≡ Some q → IsGrouped (out (record { inner = g; outer = groups_around fs })) q
+  unwound_grouped (bottom level) a g q c e = cc
+  unwound_grouped (on d (bracket_frame s) fs) a g q c e = atom_grouped (application_more s a) fs (atoms s) q c.1 (λ t h. application_atoms s t a h) e
+  unwound_grouped (on d f fs) a g q c e = unwound_grouped fs (wrapped f a) g q c.1 e
 
-  unwound_grouped : (fs : Frames) (a : Written) (k n : ℕ) (q : TermSoFar) → Counted fs → unwound fs a ≡ Some q → IsGrouped (out (groups_of fs k n)) q
-  unwound_grouped (bottom level) a k n q c e = cc
-  unwound_grouped (on d (bracket_frame s) fs) a k n q c e = bracket_grouped (application_more s a) s fs k n d q c.1 (λ t h. application_atoms s t a h) e
-  unwound_grouped (on d (arrow_frame b) fs) a k n q c e = unwound_grouped fs (written_arrow b a) (k + 1) n q c.1 e
-  unwound_grouped (on d (product_frame v b) fs) a k n q c e = unwound_grouped fs (written_product v b a) (k + 1) n q c.1 e
-  unwound_grouped (on d (bare_frame v) fs) a k n q c e = unwound_grouped fs (written_bare v a) (k + 1) n q c.1 e
-  unwound_grouped (on d (annotated_frame v b) fs) a k n q c e = unwound_grouped fs (written_annotated v b a) (k + 1) n q c.1 e
-
-  closed_grouped : (o : Option Written) (fs : Frames) (n : ℕ) (q : TermSoFar) → Counted fs → next_close_term fs o ≡ Some q → IsGrouped (out (groups_of fs 0 n)) q
-  closed_grouped None fs n q c e = cc
-  closed_grouped (Some a) fs n q c e = unwound_grouped fs a 0 n q c e
-
-  domain_grouped : (fs : Frames) (v : Option (List ℕ)) (a : Written) (n : ℕ) (q : TermSoFar) → Counted fs → next_close_domain fs v a ≡ Some q → IsGrouped (out (groups_of fs 0 n)) q
-  domain_grouped (on d (bracket_frame (due at_front)) fs) v a n q c e =
-      grouped_at _ (at fs (bracketed v a)) q e (record { same = refl; counted = c.1 })
+  domain_grouped : (fs : Frames) (v : Option (List ℕ)) (a : Written) (n : ℕ) (q : TermSoFar) → Counted fs → next_close_domain fs v a ≡ Some q → IsGrouped (out (groups_of fs n)) q
+  domain_grouped (on d (bracket_frame (due at_front)) fs) v a n q c e = grouped_at _ (at fs (bracketed v a)) q e (record { same = refl; counted = c.1 })
   domain_grouped fs v a n q c e = cc
 
-  close_grouped : (s : Application) (fs : Frames) (q : TermSoFar) → Counted fs → next_close fs s ≡ Some q → IsGrouped (out (groups_of fs 0 (atoms s))) q
+  close_grouped : (s : Application) (fs : Frames) (q : TermSoFar) → Counted fs → next_close fs s ≡ Some q → IsGrouped (out (groups_of fs (atoms s))) q
   close_grouped (applied (domain v) a n) fs q c e = domain_grouped fs v a n q c e
-  close_grouped (applied at_front a n) fs q c e = closed_grouped (Some a) fs n q c e
-  close_grouped (bindable v) fs q c e = closed_grouped (Some (binder_term v)) fs 1 q c e
-  close_grouped (due role) fs q c e = cc
-  close_grouped (bracketed v a) fs q c e = cc
+  close_grouped (applied at_front a n) fs q c e = unwound_grouped fs a (record { arrows = arrows_in fs; atoms = n }) q c e
+  close_grouped (bindable v) fs q c e = unwound_grouped fs (binder_term v) (record { arrows = arrows_in fs; atoms = 1 }) q c e
+  close_grouped s fs q c e = cc
 
-  colon_grouped : (s : Application) (fs : Frames) (q : TermSoFar) → Counted fs → next_colon fs s ≡ Some q →
-      IsGrouped (record { inner = record { arrows = (groups_of fs 0 (atoms s)).inner.arrows; atoms = 0 }; outer = (groups_of fs 0 (atoms s)).outer }) q
-  colon_grouped (bindable v) fs q c e = grouped_at _ (at fs (due (domain v))) q e (record { same = atoms_over fs 0 1; counted = c })
+  colon_grouped : (s : Application) (fs : Frames) (q : TermSoFar) → Counted fs → next_colon fs s ≡ Some q → IsGrouped (groups_of fs 0) q
+  colon_grouped (bindable v) fs q c e = grouped_at _ (at fs (due (domain v))) q e (record { same = refl; counted = c })
   colon_grouped s fs q c e = cc
 
-  next_arrow_grouped : (s : Application) (fs : Frames) (q : TermSoFar) → Counted fs → next_arrow fs s ≡ Some q →
-      IsGrouped (record { inner = record { arrows = (groups_of fs 0 (atoms s)).inner.arrows + 1; atoms = 0 }; outer = (groups_of fs 0 (atoms s)).outer }) q
+  next_arrow_grouped : (s : Application) (fs : Frames) (q : TermSoFar) → Counted fs → next_arrow fs s ≡ Some q → IsGrouped (arrow_in fs) q
   next_arrow_grouped (due role) fs q c e = cc
-  next_arrow_grouped (bindable v) fs q c e = arrow_grouped (arrow_frame (binder_term v)) fs 1 q c (λ d. refl) e
-  next_arrow_grouped (applied at_front a n) fs q c e = arrow_grouped (arrow_frame a) fs n q c (λ d. refl) e
-  next_arrow_grouped (applied (domain v) a n) fs q c e = arrow_grouped (product_frame v a) fs n q c (λ d. refl) e
-  next_arrow_grouped (bracketed v a) fs q c e = arrow_grouped (product_frame v a) fs 1 q c (λ d. refl) e
+  next_arrow_grouped (bindable v) fs q c e = arrow_grouped (arrow_frame (binder_term v)) fs q c (λ d. refl) e
+  next_arrow_grouped (applied at_front a n) fs q c e = arrow_grouped (arrow_frame a) fs q c (λ d. refl) e
+  next_arrow_grouped (applied (domain v) a n) fs q c e = arrow_grouped (product_frame v a) fs q c (λ d. refl) e
+  next_arrow_grouped (bracketed v a) fs q c e = arrow_grouped (product_frame v a) fs q c (λ d. refl) e
 
-  next_double_grouped : (s : Application) (fs : Frames) (q : TermSoFar) → Counted fs → next_double_arrow fs s ≡ Some q →
-      IsGrouped (record { inner = record { arrows = (groups_of fs 0 (atoms s)).inner.arrows + 1; atoms = 0 }; outer = (groups_of fs 0 (atoms s)).outer }) q
-  next_double_grouped (bindable v) fs q c e = arrow_grouped (bare_frame v) fs 1 q c (λ d. refl) e
-  next_double_grouped (applied (domain v) a n) fs q c e = arrow_grouped (annotated_frame v a) fs n q c (λ d. refl) e
+  next_double_grouped : (s : Application) (fs : Frames) (q : TermSoFar) → Counted fs → next_double_arrow fs s ≡ Some q → IsGrouped (arrow_in fs) q
+  next_double_grouped (bindable v) fs q c e = arrow_grouped (bare_frame v) fs q c (λ d. refl) e
+  next_double_grouped (applied (domain v) a n) fs q c e = arrow_grouped (annotated_frame v a) fs q c (λ d. refl) e
   next_double_grouped s fs q c e = cc
 
   -- one terminal more of a term
@@ -218,10 +144,18 @@ abbrev binder_count : Binders → ℕ
 binder_count no_binders = 0
 binder_count (binder_on v vs) = binder_count vs + 1
 
+-- the binders of the innermost bracket, and the groups around it
+abbrev binders_in : PatternFrames → ℕ
+binders_in no_bracket = 0
+binders_in (bracket_on d s vs fs) = binder_count vs
+
+abbrev frames_around : PatternFrames → List Group
+frames_around no_bracket = []
+frames_around (bracket_on d s vs fs) = record { arrows = binders_in fs; atoms = pattern_atoms s + 1 } ∷ frames_around fs
+
 -- the groups of a part of a left side, with so many atoms in the innermost
 abbrev frame_groups : PatternFrames → ℕ → Groups
-frame_groups no_bracket n = record { inner = record { arrows = 0; atoms = n }; outer = [] }
-frame_groups (bracket_on d s vs fs) n = record { inner = record { arrows = binder_count vs; atoms = n }; outer = (frame_groups fs (pattern_atoms s + 1)).inner ∷ (frame_groups fs (pattern_atoms s + 1)).outer }
+frame_groups fs n = record { inner = record { arrows = binders_in fs; atoms = n }; outer = frames_around fs }
 
 abbrev left_groups : LeftSoFar → Groups
 left_groups part = frame_groups part.frames (pattern_atoms part.application)
@@ -234,18 +168,9 @@ LeftCounted (bracket_on d s vs fs) = (d ≡ (pattern_depth fs + 1) + binder_coun
 level_in_bracket : (d depth_fs binders arrows rest : ℕ) → d ≡ (depth_fs + 1) + binders → arrows + rest ≡ depth_fs → binders + ((arrows + 1) + rest) ≡ d
 level_in_bracket d depth_fs binders arrows rest e h = omega arith
 
-left_level : (fs : PatternFrames) (n : ℕ) → LeftCounted fs → (frame_groups fs n).inner.arrows + arrows_of (frame_groups fs n).outer ≡ pattern_depth fs
-left_level no_bracket n c = refl
-left_level (bracket_on d s vs fs) n c =
-    level_in_bracket d (pattern_depth fs) (binder_count vs) (frame_groups fs (pattern_atoms s + 1)).inner.arrows (arrows_of (frame_groups fs (pattern_atoms s + 1)).outer) c.0 (left_level fs (pattern_atoms s + 1) c.1)
-
-left_atoms : (fs : PatternFrames) (n : ℕ) → (frame_groups fs n).inner.atoms ≡ n
-left_atoms no_bracket n = refl
-left_atoms (bracket_on d s vs fs) n = refl
-
-left_atoms_more : (fs : PatternFrames) (n : ℕ) → with_inner atom_more (frame_groups fs n) ≡ frame_groups fs (n + 1)
-left_atoms_more no_bracket n = refl
-left_atoms_more (bracket_on d s vs fs) n = refl
+left_level : (fs : PatternFrames) → LeftCounted fs → binders_in fs + arrows_of (frames_around fs) ≡ pattern_depth fs
+left_level no_bracket c = refl
+left_level (bracket_on d s vs fs) c = level_in_bracket d (pattern_depth fs) (binder_count vs) (binders_in fs) (arrows_of (frames_around fs)) c.0 (left_level fs c.1)
 
 -- the groups around a guard
 abbrev guard_under : LeftSoFar → List Group
@@ -256,17 +181,12 @@ abbrev params_of : Purpose → ℕ
 params_of (as_param h v) = level_behind h
 params_of (as_type h) = level_behind h
 params_of (as_body h typ) = level_behind h
-params_of (as_entry h n) = 0
-params_of (as_guard h part) = 0
-params_of (as_right h l) = 0
+params_of purpose = 0
 
 abbrev side_of : Purpose → Side
 side_of (as_param h v) = in_head
-side_of (as_type h) = behind_head
-side_of (as_body h typ) = behind_head
-side_of (as_entry h n) = behind_head
 side_of (as_guard h part) = on_left
-side_of (as_right h l) = behind_head
+side_of purpose = behind_head
 
 abbrev name_group : ℕ → Group
 name_group n = record { arrows = 0; atoms = n + 1 }
@@ -276,11 +196,8 @@ param_group n = record { arrows = 0; atoms = (n + 1) + 1 } ∷ []
 
 abbrev under_of : Purpose → List Group
 under_of (as_param h v) = param_group (level_behind h)
-under_of (as_type h) = []
-under_of (as_body h typ) = []
-under_of (as_entry h n) = []
 under_of (as_guard h part) = guard_under part
-under_of (as_right h l) = []
+under_of purpose = []
 
 abbrev term_groups : Purpose → TermSoFar → Groups
 term_groups purpose p = part_groups (params_of purpose) (under_of purpose) p
@@ -290,12 +207,8 @@ CountedIn purpose fs = Counted (params_of purpose) (under_of purpose) fs
 
 -- the left side around a guard counts the levels
 abbrev CountedAround : Purpose → Type 0
-CountedAround (as_param h v) = Unit {0}
-CountedAround (as_type h) = Unit {0}
-CountedAround (as_body h typ) = Unit {0}
-CountedAround (as_entry h n) = Unit {0}
 CountedAround (as_guard h part) = LeftCounted part.frames
-CountedAround (as_right h l) = Unit {0}
+CountedAround purpose = Unit {0}
 
 abbrev rule_standing : Groups → Standing
 rule_standing gs = standing_in 0 behind_head gs
@@ -303,21 +216,28 @@ rule_standing gs = standing_in 0 behind_head gs
 abbrev one_atom : Groups
 one_atom = record { inner = record { arrows = 0; atoms = 1 }; outer = [] }
 
--- this is where a part of a command stands
+-- where a part of a command stands, and what it counts
+abbrev standing_at : CommandSoFar → Standing
+standing_at (head_due h) = standing_in (level_behind h) in_head (record { inner = name_group (level_behind h); outer = [] })
+standing_at (binder_due h) = standing_in (level_behind h) in_head (record { inner = empty_group; outer = param_group (level_behind h) })
+standing_at (binder_colon_due h v) = standing_in (level_behind h) in_head (record { inner = record { arrows = 0; atoms = 1 }; outer = param_group (level_behind h) })
+standing_at (rule_name_due h) = rule_standing no_groups
+standing_at (rule_brace_due h) = rule_standing one_atom
+standing_at (square_due h) = rule_standing one_atom
+standing_at (context_due h) = rule_standing no_groups
+standing_at (entry_due h) = rule_standing no_groups
+standing_at (entry_named h n) = rule_standing one_atom
+standing_at (in_left h part) = standing_in 0 on_left (left_groups part)
+standing_at (in_term purpose p) = standing_in (params_of purpose) (side_of purpose) (term_groups purpose p)
+standing_at part = at_start
+
+abbrev CountedAt : CommandSoFar → Type 0
+CountedAt (in_left h part) = LeftCounted part.frames
+CountedAt (in_term purpose p) = CountedIn purpose p.frames × CountedAround purpose
+CountedAt part = Unit {0}
+
 abbrev StandsAt : Standing → CommandSoFar → Type 0
-StandsAt st command_due = st ≡ at_start
-StandsAt st (name_due s) = st ≡ at_start
-StandsAt st (head_due h) = st ≡ standing_in (level_behind h) in_head (record { inner = name_group (level_behind h); outer = [] })
-StandsAt st (binder_due h) = st ≡ standing_in (level_behind h) in_head (record { inner = empty_group; outer = param_group (level_behind h) })
-StandsAt st (binder_colon_due h v) = st ≡ standing_in (level_behind h) in_head (record { inner = record { arrows = 0; atoms = 1 }; outer = param_group (level_behind h) })
-StandsAt st (rule_name_due h) = st ≡ rule_standing no_groups
-StandsAt st (rule_brace_due h) = st ≡ rule_standing one_atom
-StandsAt st (square_due h) = st ≡ rule_standing one_atom
-StandsAt st (context_due h) = st ≡ rule_standing no_groups
-StandsAt st (entry_due h) = st ≡ rule_standing no_groups
-StandsAt st (entry_named h n) = st ≡ rule_standing one_atom
-StandsAt st (in_left h part) = (st ≡ standing_in 0 on_left (left_groups part)) × LeftCounted part.frames
-StandsAt st (in_term purpose p) = (st ≡ standing_in (params_of purpose) (side_of purpose) (term_groups purpose p)) × CountedIn purpose p.frames × CountedAround purpose
+StandsAt st p = (st ≡ standing_at p) × CountedAt p
 
 -- the load of a terminal that stands behind this
 abbrev load_in : Standing → Terminal → ℕ
@@ -329,54 +249,34 @@ Stepped st x (goes made q) = StandsAt (standing_behind st x) q × (load_in st x 
 Stepped st x (ends form) = x ≡ dot
 Stepped st x refuses = Unit {0}
 
-stepped_from : (st at_it : Standing) (x : Terminal) (s : Advance) → st ≡ at_it → Stepped at_it x s → Stepped st x s
-stepped_from st at_it x s e h = subst (λ (st : Standing). Stepped st x s) (sym e) h
-
 -- Terms
 
-closed_two : (side : Side) (g : Group) (gs : List Group) (m : ℕ) → (gs ≡ [] → ⊥) → params_closed side (g ∷ gs) m ≡ m
-closed_two in_head g [] m h = absurd (h refl)
-closed_two in_head g (f ∷ gs) m h = refl
-closed_two behind_head g gs m h = refl
-closed_two on_left g gs m h = refl
+some_under : (params : ℕ) (g : Group) (gs : List Group) (fs : Frames) → groups_around params (g ∷ gs) fs ≡ [] → ⊥
+some_under params g gs (bottom level) e = cc
+some_under params g gs (on d (bracket_frame s) fs) e = cc
+some_under params g gs (on d f fs) e = some_under params g gs fs e
 
-some_under : (params : ℕ) (g : Group) (gs : List Group) (fs : Frames) (k n : ℕ) → (groups_of params (g ∷ gs) fs k n).outer ≡ [] → ⊥
-some_under params g gs (bottom level) k n e = cc
-some_under params g gs (on d (bracket_frame s) fs) k n e = cc
-some_under params g gs (on d (arrow_frame a) fs) k n e = some_under params g gs fs (k + 1) n e
-some_under params g gs (on d (product_frame v a) fs) k n e = some_under params g gs fs (k + 1) n e
-some_under params g gs (on d (bare_frame v) fs) k n e = some_under params g gs fs (k + 1) n e
-some_under params g gs (on d (annotated_frame v a) fs) k n e = some_under params g gs fs (k + 1) n e
+closed_two : (g : Group) (gs : List Group) (m : ℕ) → (gs ≡ [] → ⊥) → params_closed in_head (g ∷ gs) m ≡ m
+closed_two g [] m h = absurd (h refl)
+closed_two g (f ∷ gs) m h = refl
 
 -- a bracket within a parameter closes no parameter
-inner_closed : (params : ℕ) (g : Group) (gs : List Group) (fs : Frames) (k n : ℕ) (side : Side) (m : ℕ) → in_bracket fs ≡ true → params_closed side (groups_of params (g ∷ gs) fs k n).outer m ≡ m
-inner_closed params g gs (bottom level) k n side m e = cc
-inner_closed params g gs (on d (bracket_frame s) fs) k n side m e =
-    closed_two side (groups_of params (g ∷ gs) fs 0 (atoms s + 1)).inner (groups_of params (g ∷ gs) fs 0 (atoms s + 1)).outer m (some_under params g gs fs 0 (atoms s + 1))
-inner_closed params g gs (on d (arrow_frame a) fs) k n side m e = inner_closed params g gs fs (k + 1) n side m e
-inner_closed params g gs (on d (product_frame v a) fs) k n side m e = inner_closed params g gs fs (k + 1) n side m e
-inner_closed params g gs (on d (bare_frame v) fs) k n side m e = inner_closed params g gs fs (k + 1) n side m e
-inner_closed params g gs (on d (annotated_frame v a) fs) k n side m e = inner_closed params g gs fs (k + 1) n side m e
+inner_closed : (params : ℕ) (g : Group) (gs : List Group) (fs : Frames) (m : ℕ) → in_bracket fs ≡ true → params_closed in_head (groups_around params (g ∷ gs) fs) m ≡ m
+inner_closed params g gs (bottom level) m e = cc
+inner_closed params g gs (on d (bracket_frame s) fs) m e = closed_two (record { arrows = arrows_in params (g ∷ gs) fs; atoms = atoms s + 1 }) (groups_around params (g ∷ gs) fs) m (some_under params g gs fs)
+inner_closed params g gs (on d f fs) m e = inner_closed params g gs fs m e
 
 colon_in_head : (gs : List Group) → (gs ≡ [] → ⊥) → side_at_colon in_head gs ≡ in_head
 colon_in_head [] h = absurd (h refl)
 colon_in_head (g ∷ gs) h = refl
 
 params_stay : (purpose : Purpose) (p : TermSoFar) → in_bracket p.frames ≡ true → params_closed (side_of purpose) (term_groups purpose p).outer (params_of purpose) ≡ params_of purpose
-params_stay (as_param h v) p e = inner_closed (level_behind h) (record { arrows = 0; atoms = (level_behind h + 1) + 1 }) [] p.frames 0 (atoms p.application) in_head (level_behind h) e
-params_stay (as_type h) p e = refl
-params_stay (as_body h typ) p e = refl
-params_stay (as_entry h n) p e = refl
-params_stay (as_guard h part) p e = refl
-params_stay (as_right h l) p e = refl
+params_stay (as_param h v) p e = inner_closed (level_behind h) (record { arrows = 0; atoms = (level_behind h + 1) + 1 }) [] p.frames (level_behind h) e
+params_stay purpose p e = refl
 
 side_stays : (purpose : Purpose) (p : TermSoFar) → side_at_colon (side_of purpose) (term_groups purpose p).outer ≡ side_of purpose
-side_stays (as_param h v) p = colon_in_head (term_groups (as_param h v) p).outer (some_under (level_behind h) (record { arrows = 0; atoms = (level_behind h + 1) + 1 }) [] p.frames 0 (atoms p.application))
-side_stays (as_type h) p = refl
-side_stays (as_body h typ) p = refl
-side_stays (as_entry h n) p = refl
-side_stays (as_guard h part) p = refl
-side_stays (as_right h l) p = refl
+side_stays (as_param h v) p = colon_in_head (term_groups (as_param h v) p).outer (some_under (level_behind h) (record { arrows = 0; atoms = (level_behind h + 1) + 1 }) [] p.frames)
+side_stays purpose p = refl
 
 -- a terminal of a term changes its groups alone
 term_stands : (purpose : Purpose) (p q : TermSoFar) (x : Terminal) → term_next p x ≡ Some q → standing_behind (standing_in (params_of purpose) (side_of purpose) (term_groups purpose p)) x ≡ standing_in (params_of purpose) (side_of purpose) (groups_behind (term_groups purpose p) x)
@@ -395,11 +295,6 @@ term_stands purpose p q (terminal.Sign sign.CloseBrace) e = cc
 term_stands purpose p q x e = refl
 
 argument_same : (purpose : Purpose) (p q : TermSoFar) (x : Terminal) → term_next p x ≡ Some q → argument_in (standing_in (params_of purpose) (side_of purpose) (term_groups purpose p)) x ≡ term_argument p x
-argument_same purpose p q (terminal.Name n) e = inner_atoms (params_of purpose) (under_of purpose) p.frames 0 (atoms p.application)
-argument_same purpose p q (terminal.Qualified m n) e = inner_atoms (params_of purpose) (under_of purpose) p.frames 0 (atoms p.application)
-argument_same purpose p q terminal.Star e = inner_atoms (params_of purpose) (under_of purpose) p.frames 0 (atoms p.application)
-argument_same purpose p q terminal.Wildcard e = inner_atoms (params_of purpose) (under_of purpose) p.frames 0 (atoms p.application)
-argument_same purpose p q (terminal.Sign sign.OpenBracket) e = inner_atoms (params_of purpose) (under_of purpose) p.frames 0 (atoms p.application)
 argument_same purpose p q (terminal.Sign sign.OpenBrace) e = cc
 argument_same purpose p q x e = refl
 
@@ -408,7 +303,7 @@ term_stepped None purpose p x c d e = tt
 term_stepped (Some q) purpose p x c d e =
     let k = term_grouped (params_of purpose) (under_of purpose) p q x c e in
     let s = term_stands purpose p q x e ∙ ap (standing_in (params_of purpose) (side_of purpose)) k.same in
-    ((s, k.counted, d), ap (λ l. max l (argument_in (standing_in (params_of purpose) (side_of purpose) (term_groups purpose p)) x)) (ap level_of s ∙ so_far_depth (params_of purpose) (under_of purpose) q k.counted) ∙ ap (max (depth q.frames)) (argument_same purpose p q x e))
+    ((s, (k.counted, d)), ap (λ l. max l (argument_in (standing_in (params_of purpose) (side_of purpose) (term_groups purpose p)) x)) (ap level_of s ∙ so_far_level (params_of purpose) (under_of purpose) q.frames k.counted) ∙ ap (max (depth q.frames)) (argument_same purpose p q x e))
 
 -- Steps of a command
 
@@ -425,7 +320,7 @@ max_level : (n : ℕ) → max (n + 0) 0 ≡ n
 max_level n = grind (arith, nat_tests)
 
 body_stepped : (h : Head) (typ : Option Written) (gs : Groups) (side : Side) → Stepped (standing_in (level_behind h) side gs) (terminal.Sign sign.Defined) (body_due h typ)
-body_stepped h typ gs side = ((refl, nothing_behind (level_behind h), tt), max_level (level_behind h))
+body_stepped h typ gs side = ((refl, (nothing_behind (level_behind h), tt)), max_level (level_behind h))
 
 body_behind_type_stepped : (s : SymSort) (h : Head) (a : Written) (gs : Groups) → Stepped (standing_in (level_behind h) behind_head gs) (terminal.Sign sign.Defined) (body_behind_type s h a)
 body_behind_type_stepped Static h a gs = tt
@@ -449,13 +344,10 @@ one_more (q ∷ ps) p =
     suc_more (length (ps ++ p ∷ [])) (length ps) h
 
 -- outside of its brackets, a term's groups are those around it
-outer_under : (params : ℕ) (under : List Group) (fs : Frames) (k n : ℕ) → in_bracket fs ≡ false → (groups_of params under fs k n).outer ≡ under
-outer_under params under (bottom level) k n e = refl
-outer_under params under (on d (bracket_frame s) fs) k n e = cc
-outer_under params under (on d (arrow_frame a) fs) k n e = outer_under params under fs (k + 1) n e
-outer_under params under (on d (product_frame v a) fs) k n e = outer_under params under fs (k + 1) n e
-outer_under params under (on d (bare_frame v) fs) k n e = outer_under params under fs (k + 1) n e
-outer_under params under (on d (annotated_frame v a) fs) k n e = outer_under params under fs (k + 1) n e
+outer_under : (params : ℕ) (under : List Group) (fs : Frames) → in_bracket fs ≡ false → groups_around params under fs ≡ under
+outer_under params under (bottom level) e = refl
+outer_under params under (on d (bracket_frame s) fs) e = cc
+outer_under params under (on d f fs) e = outer_under params under fs e
 
 abbrev head_standing : ℕ → Standing
 head_standing n = standing_in n in_head (record { inner = name_group n; outer = [] })
@@ -466,28 +358,26 @@ param_stands n gs e = ap (λ outer. standing_in (params_closed in_head outer n) 
 param_stepped : (h : Head) (v : Option (List ℕ)) (a : Written) (gs : Groups) → gs.outer ≡ param_group (level_behind h) → Stepped (standing_in (level_behind h) in_head gs) (terminal.Sign sign.CloseBracket) (goes (level_behind h + 1) (head_due (with_param h v a)))
 param_stepped h v a gs e =
     let s = param_stands (level_behind h) gs e in
-    (s ∙ ap head_standing (sym (one_more h.params (param v a))), ap (λ (st : Standing). max (level_of st) 0) s ∙ max_level (level_behind h + 1))
+    ((s ∙ ap head_standing (sym (one_more h.params (param v a))), tt), ap (λ (st : Standing). max (level_of st) 0) s ∙ max_level (level_behind h + 1))
 
 entry_stepped : (h : RuleHead) (x : Terminal) (gs : Groups) → Stepped (rule_standing gs) x (behind_entry h x)
-entry_stepped h (terminal.Sign sign.Comma) gs = (refl, refl)
+entry_stepped h (terminal.Sign sign.Comma) gs = ((refl, tt), refl)
 entry_stepped h (terminal.Sign sign.CloseSquare) gs = ((refl, tt), refl)
 entry_stepped h x gs = tt
 
 rule_stepped : (h : RuleHead) (x : Terminal) (gs : Groups) → Stepped (rule_standing gs) x (behind_rule h x)
 rule_stepped h (terminal.Sign sign.Dot) gs = refl
-rule_stepped h (terminal.Sign sign.OpenSquare) gs = (refl, refl)
-rule_stepped h (terminal.Sign sign.OpenBrace) gs = (refl, refl)
+rule_stepped h (terminal.Sign sign.OpenSquare) gs = ((refl, tt), refl)
+rule_stepped h (terminal.Sign sign.OpenBrace) gs = ((refl, tt), refl)
 rule_stepped h x gs = tt
 
 more_atoms : (s : LeftApplication) (p : WrittenPattern) → pattern_atoms s + 1 ≡ pattern_atoms (pattern_more s p)
 more_atoms pattern_due p = refl
-more_atoms (pattern_bindable v) p = refl
-more_atoms (pattern_applied f n) p = refl
+more_atoms s p = refl
 
 more_binders : (s : LeftApplication) (v : Option (List ℕ)) → pattern_atoms s + 1 ≡ pattern_atoms (pattern_binder s v)
 more_binders pattern_due v = refl
-more_binders (pattern_bindable w) v = refl
-more_binders (pattern_applied f n) v = refl
+more_binders s v = refl
 
 abbrev left_standing : Groups → Standing
 left_standing gs = standing_in 0 on_left gs
@@ -497,9 +387,7 @@ guarded gs = closed gs gs.outer
 
 guard_closes : (gs : Groups) (part : LeftSoFar) (p : WrittenPattern) → gs.outer ≡ guard_under part → guarded gs ≡ left_groups (with_atom part p)
 guard_closes gs part p e =
-    ap (closed gs) e
-    ∙ left_atoms_more part.frames (pattern_atoms part.application)
-    ∙ ap (frame_groups part.frames) (more_atoms part.application p)
+    ap (closed gs) e ∙ ap (frame_groups part.frames) (more_atoms part.application p)
 
 max_left : (m n : ℕ) → m ≡ n → max (0 + m) 0 ≡ n
 max_left m n e = grind (arith, nat_tests)
@@ -507,17 +395,17 @@ max_left m n e = grind (arith, nat_tests)
 guard_stepped : (h : RuleHead) (part : LeftSoFar) (a : Written) (gs : Groups) → LeftCounted part.frames → gs.outer ≡ guard_under part → Stepped (left_standing gs) (terminal.Sign sign.CloseBrace) (goes (pattern_depth part.frames) (in_left h (with_atom part (pattern_guard a))))
 guard_stepped h part a gs c e =
     let k = guard_closes gs part (pattern_guard a) e in
-    ((ap left_standing k, c), ap (λ gs. max (level_of (left_standing gs)) 0) k ∙ max_left _ (pattern_depth part.frames) (left_level part.frames (pattern_atoms (pattern_more part.application (pattern_guard a))) c))
+    ((ap left_standing k, c), ap (λ gs. max (level_of (left_standing gs)) 0) k ∙ max_left _ (pattern_depth part.frames) (left_level part.frames c))
 
 behind_stepped : (purpose : Purpose) (p : TermSoFar) (a : Written) (x : Terminal) → takes p x ≡ false → term_done p ≡ Some a → CountedAround purpose → Stepped (standing_in (params_of purpose) (side_of purpose) (term_groups purpose p)) x (behind_term purpose a x)
 behind_stepped (as_param h v) p a (terminal.Sign sign.CloseBracket) e d c =
-    param_stepped h v a (term_groups (as_param h v) p) (outer_under (level_behind h) (param_group (level_behind h)) p.frames 0 (atoms p.application) e)
+    param_stepped h v a (term_groups (as_param h v) p) (outer_under (level_behind h) (param_group (level_behind h)) p.frames e)
 behind_stepped (as_type h) p a (terminal.Sign sign.Dot) e d c = dot_stepped h.sort h a (standing_in (level_behind h) behind_head (term_groups (as_type h) p))
 behind_stepped (as_type h) p a (terminal.Sign sign.Defined) e d c = body_behind_type_stepped h.sort h a (term_groups (as_type h) p)
 behind_stepped (as_body h typ) p b (terminal.Sign sign.Dot) e d c = refl
 behind_stepped (as_entry h n) p a x e d c = entry_stepped (with_entry h (entry n (Some a))) x (term_groups (as_entry h n) p)
 behind_stepped (as_guard h part) p a (terminal.Sign sign.CloseBrace) e d c =
-    guard_stepped h part a (term_groups (as_guard h part) p) c (outer_under 0 (guard_under part) p.frames 0 (atoms p.application) (close_enders p a d))
+    guard_stepped h part a (term_groups (as_guard h part) p) c (outer_under 0 (guard_under part) p.frames (close_enders p a d))
 behind_stepped (as_right h l) p a x e d c = rule_stepped (with_rule h l a) x (term_groups (as_right h l) p)
 behind_stepped purpose p a x e d c = tt
 
@@ -530,20 +418,20 @@ in_term_stepped true purpose p x c d e = term_stepped (term_next p x) purpose p 
 in_term_stepped false purpose p x c d e = ends_stepped (term_done p) purpose p x e refl d
 
 head_stepped : (h : Head) (x : Terminal) → Stepped (head_standing (level_behind h)) x (head_next h x)
-head_stepped h (terminal.Sign sign.OpenBracket) = (refl, max_same (level_behind h + 1))
-head_stepped h (terminal.Sign sign.Colon) = ((refl, nothing_behind (level_behind h), tt), max_level (level_behind h))
+head_stepped h (terminal.Sign sign.OpenBracket) = ((refl, tt), max_same (level_behind h + 1))
+head_stepped h (terminal.Sign sign.Colon) = ((refl, (nothing_behind (level_behind h), tt)), max_level (level_behind h))
 head_stepped h (terminal.Sign sign.Defined) = body_behind_head_stepped h.sort h (record { inner = name_group (level_behind h); outer = [] })
 head_stepped h x = tt
 
 -- Rules
 
 named_stepped : (h : RuleHead) (n : List ℕ) (x : Terminal) → Stepped (rule_standing one_atom) x (named_next h n x)
-named_stepped h n (terminal.Sign sign.Colon) = ((refl, refl, tt), refl)
+named_stepped h n (terminal.Sign sign.Colon) = ((refl, (refl, tt)), refl)
 named_stepped h n x = entry_stepped (with_entry h (entry n None)) x one_atom
 
 right_stepped : (o : Option WrittenPattern) (h : RuleHead) (gs : Groups) → Stepped (left_standing gs) (terminal.Sign sign.LongArrow) (right_due h o)
 right_stepped None h gs = tt
-right_stepped (Some l) h gs = ((refl, refl, tt), refl)
+right_stepped (Some l) h gs = ((refl, (refl, tt)), refl)
 
 level_in_guard : (arrows rest depth_fs : ℕ) → arrows + rest ≡ depth_fs → depth_fs + 1 ≡ 0 + ((arrows + 1) + rest)
 level_in_guard arrows rest depth_fs e = omega arith
@@ -553,31 +441,25 @@ level_of_guard arrows rest depth_fs e = omega arith
 
 guard_begins : (h : RuleHead) (part : LeftSoFar) → LeftCounted part.frames → Stepped (left_standing (left_groups part)) (terminal.Sign sign.OpenBrace) (guard_due h part)
 guard_begins h part c =
-    let l = left_level part.frames (pattern_atoms part.application) c in
-    let gs = left_groups part in (
-      (refl, level_in_guard gs.inner.arrows (arrows_of gs.outer) (pattern_depth part.frames) l, c),
-      ap (λ n. max n gs.inner.atoms) (level_of_guard gs.inner.arrows (arrows_of gs.outer) (pattern_depth part.frames) l) ∙ ap (max (pattern_depth part.frames + 1)) (left_atoms part.frames (pattern_atoms part.application)),
-    )
-
-some_left : (p q : LeftSoFar) → Some p ≡ Some q → p ≡ q
-some_left p q e = cc
+    let l = left_level part.frames c in
+    let gs = left_groups part in
+    ((refl, (level_in_guard gs.inner.arrows (arrows_of gs.outer) (pattern_depth part.frames) l, c)), ap (λ n. max n gs.inner.atoms) (level_of_guard gs.inner.arrows (arrows_of gs.outer) (pattern_depth part.frames) l))
 
 -- where a left side stands behind a terminal
 abbrev LeftStands : LeftSoFar → Terminal → LeftSoFar → Type 0
 LeftStands part x q = (standing_behind (left_standing (left_groups part)) x ≡ left_standing (left_groups q)) × LeftCounted q.frames
 
 to_left : (part p q : LeftSoFar) (x : Terminal) → Some p ≡ Some q → LeftStands part x p → LeftStands part x q
-to_left part p q x e h = subst (λ q. LeftStands part x q) (some_left p q e) h
+to_left part p q x e h = subst (λ q. LeftStands part x q) (same_Some p q e) h
 
 atom_stands : (part : LeftSoFar) (p : WrittenPattern) → left_standing (with_inner atom_more (left_groups part)) ≡ left_standing (left_groups (with_atom part p))
-atom_stands part p = ap left_standing (left_atoms_more part.frames (pattern_atoms part.application) ∙ ap (frame_groups part.frames) (more_atoms part.application p))
+atom_stands part p = ap (λ n. left_standing (frame_groups part.frames n)) (more_atoms part.application p)
 
 binder_stands : (part : LeftSoFar) (v : Option (List ℕ)) → left_standing (with_inner atom_more (left_groups part)) ≡ left_standing (left_groups (with_binder part v))
-binder_stands part v = ap left_standing (left_atoms_more part.frames (pattern_atoms part.application) ∙ ap (frame_groups part.frames) (more_binders part.application v))
+binder_stands part v = ap (λ n. left_standing (frame_groups part.frames n)) (more_binders part.application v)
 
 opened_stands : (part : LeftSoFar) → LeftCounted part.frames → LeftStands part (terminal.Sign sign.OpenBracket) (pattern_opened part)
-opened_stands part c =
-    (ap (λ (gs : Groups). left_standing (record { inner = empty_group; outer = gs.inner ∷ gs.outer })) (left_atoms_more part.frames (pattern_atoms part.application)), (nothing_behind (pattern_depth part.frames + 1), c))
+opened_stands part c = (refl, (nothing_behind (pattern_depth part.frames + 1), c))
 
 closed_stands : (fs : PatternFrames) (s : LeftApplication) (o : Option WrittenPattern) (q : LeftSoFar) → LeftCounted fs → pattern_closed fs o ≡ Some q → LeftStands (record { frames = fs; application = s }) (terminal.Sign sign.CloseBracket) q
 closed_stands no_bracket s o q c e = cc
@@ -605,11 +487,7 @@ left_stands part q (terminal.Sign sign.DoubleArrow) c e = bound_stands part.fram
 left_stands part q x c e = cc
 
 left_argument : (part q : LeftSoFar) (x : Terminal) → pattern_next part x ≡ Some q → argument_in (left_standing (left_groups part)) x ≡ pattern_argument part x
-left_argument part q (terminal.Name n) e = left_atoms part.frames (pattern_atoms part.application)
-left_argument part q terminal.Wildcard e = left_atoms part.frames (pattern_atoms part.application)
-left_argument part q (terminal.Qualified m n) e = left_atoms part.frames (pattern_atoms part.application)
 left_argument part q terminal.Star e = cc
-left_argument part q (terminal.Sign sign.OpenBracket) e = left_atoms part.frames (pattern_atoms part.application)
 left_argument part q (terminal.Sign sign.OpenBrace) e = cc
 left_argument part q x e = refl
 
@@ -620,7 +498,7 @@ left_goes_stepped : (o : Option LeftSoFar) (h : RuleHead) (part : LeftSoFar) (x 
 left_goes_stepped None h part x c e = tt
 left_goes_stepped (Some q) h part x c e =
     let s = left_stands part q x c e in
-    (s, ap (λ n. max n (argument_in (left_standing (left_groups part)) x)) (ap level_of s.0 ∙ zero_more _ (pattern_depth q.frames) (left_level q.frames (pattern_atoms q.application) s.1)) ∙ ap (max (pattern_depth q.frames)) (left_argument part q x e))
+    (s, ap (λ n. max n (argument_in (left_standing (left_groups part)) x)) (ap level_of s.0 ∙ zero_more _ (pattern_depth q.frames) (left_level q.frames s.1)) ∙ ap (max (pattern_depth q.frames)) (left_argument part q x e))
 
 left_stepped : (h : RuleHead) (part : LeftSoFar) (x : Terminal) → LeftCounted part.frames → Stepped (left_standing (left_groups part)) x (left_next h part x)
 left_stepped h part (terminal.Sign sign.LongArrow) c = right_stepped (pattern_done part) h (left_groups part)
@@ -628,40 +506,31 @@ left_stepped h part (terminal.Sign sign.OpenBrace) c = guard_begins h part c
 left_stepped h part x c = left_goes_stepped (pattern_next part x) h part x c refl
 
 -- one terminal more of a command
+advance_from : (p : CommandSoFar) (x : Terminal) → CountedAt p → Stepped (standing_at p) x (advanced p x)
+advance_from command_due (terminal.Name n) c = ((refl, tt), refl)
+advance_from command_due terminal.Def c = ((refl, tt), refl)
+advance_from command_due terminal.Thm c = ((refl, tt), refl)
+advance_from command_due (terminal.Sign sign.OpenSquare) c = ((refl, tt), refl)
+advance_from command_due (terminal.Sign sign.OpenBrace) c = ((refl, tt), refl)
+advance_from (name_due s) (terminal.Name n) c = ((refl, tt), refl)
+advance_from (head_due h) x c = head_stepped h x
+advance_from (binder_due h) (terminal.Name n) c = ((refl, tt), max_none (level_behind h + 1))
+advance_from (binder_due h) terminal.Wildcard c = ((refl, tt), max_none (level_behind h + 1))
+advance_from (binder_colon_due h v) (terminal.Sign sign.Colon) c = ((refl, (refl, tt)), max_none (level_behind h + 1))
+advance_from (rule_name_due h) (terminal.Name n) c = ((refl, tt), refl)
+advance_from (rule_name_due h) (terminal.Qualified m n) c = ((refl, tt), refl)
+advance_from (rule_brace_due h) (terminal.Sign sign.CloseBrace) c = ((refl, tt), refl)
+advance_from (square_due h) (terminal.Sign sign.OpenSquare) c = ((refl, tt), refl)
+advance_from (context_due h) (terminal.Sign sign.CloseSquare) c = ((refl, tt), refl)
+advance_from (context_due h) (terminal.Name n) c = ((refl, tt), refl)
+advance_from (entry_due h) (terminal.Name n) c = ((refl, tt), refl)
+advance_from (entry_named h n) x c = named_stepped h n x
+advance_from (in_left h part) x c = left_stepped h part x c
+advance_from (in_term purpose p) x c = in_term_stepped (takes p x) purpose p x c.0 c.1 refl
+advance_from p x c = tt
+
 advance_stepped : (st : Standing) (p : CommandSoFar) (x : Terminal) → StandsAt st p → Stepped st x (advanced p x)
-advance_stepped st command_due (terminal.Name n) e = stepped_from st at_start (terminal.Name n) (advanced command_due (terminal.Name n)) e (refl, refl)
-advance_stepped st command_due terminal.Def e = stepped_from st at_start terminal.Def (advanced command_due terminal.Def) e (refl, refl)
-advance_stepped st command_due terminal.Thm e = stepped_from st at_start terminal.Thm (advanced command_due terminal.Thm) e (refl, refl)
-advance_stepped st command_due (terminal.Sign sign.OpenSquare) e = stepped_from st at_start (terminal.Sign sign.OpenSquare) (advanced command_due (terminal.Sign sign.OpenSquare)) e (refl, refl)
-advance_stepped st command_due (terminal.Sign sign.OpenBrace) e = stepped_from st at_start (terminal.Sign sign.OpenBrace) (advanced command_due (terminal.Sign sign.OpenBrace)) e (refl, refl)
-advance_stepped st command_due x e = tt
-advance_stepped st (name_due s) (terminal.Name n) e = stepped_from st at_start (terminal.Name n) (advanced (name_due s) (terminal.Name n)) e (refl, refl)
-advance_stepped st (name_due s) x e = tt
-advance_stepped st (head_due h) x e = stepped_from st (head_standing (level_behind h)) x (head_next h x) e (head_stepped h x)
-advance_stepped st (binder_due h) (terminal.Name n) e =
-    stepped_from st (standing_in (level_behind h) in_head (record { inner = empty_group; outer = param_group (level_behind h) })) (terminal.Name n) (advanced (binder_due h) (terminal.Name n)) e (refl, max_none (level_behind h + 1))
-advance_stepped st (binder_due h) terminal.Wildcard e =
-    stepped_from st (standing_in (level_behind h) in_head (record { inner = empty_group; outer = param_group (level_behind h) })) terminal.Wildcard (advanced (binder_due h) terminal.Wildcard) e (refl, max_none (level_behind h + 1))
-advance_stepped st (binder_due h) x e = tt
-advance_stepped st (binder_colon_due h v) (terminal.Sign sign.Colon) e =
-    stepped_from st (standing_in (level_behind h) in_head (record { inner = record { arrows = 0; atoms = 1 }; outer = param_group (level_behind h) })) (terminal.Sign sign.Colon) (advanced (binder_colon_due h v) (terminal.Sign sign.Colon)) e ((refl, refl, tt), max_none (level_behind h + 1))
-advance_stepped st (binder_colon_due h v) x e = tt
-advance_stepped st (rule_name_due h) (terminal.Name n) e = stepped_from st (rule_standing no_groups) (terminal.Name n) (advanced (rule_name_due h) (terminal.Name n)) e (refl, refl)
-advance_stepped st (rule_name_due h) (terminal.Qualified m n) e = stepped_from st (rule_standing no_groups) (terminal.Qualified m n) (advanced (rule_name_due h) (terminal.Qualified m n)) e (refl, refl)
-advance_stepped st (rule_name_due h) x e = tt
-advance_stepped st (rule_brace_due h) (terminal.Sign sign.CloseBrace) e = stepped_from st (rule_standing one_atom) (terminal.Sign sign.CloseBrace) (advanced (rule_brace_due h) (terminal.Sign sign.CloseBrace)) e (refl, refl)
-advance_stepped st (rule_brace_due h) x e = tt
-advance_stepped st (square_due h) (terminal.Sign sign.OpenSquare) e = stepped_from st (rule_standing one_atom) (terminal.Sign sign.OpenSquare) (advanced (square_due h) (terminal.Sign sign.OpenSquare)) e (refl, refl)
-advance_stepped st (square_due h) x e = tt
-advance_stepped st (context_due h) (terminal.Sign sign.CloseSquare) e = stepped_from st (rule_standing no_groups) (terminal.Sign sign.CloseSquare) (advanced (context_due h) (terminal.Sign sign.CloseSquare)) e ((refl, tt), refl)
-advance_stepped st (context_due h) (terminal.Name n) e = stepped_from st (rule_standing no_groups) (terminal.Name n) (advanced (context_due h) (terminal.Name n)) e (refl, refl)
-advance_stepped st (context_due h) x e = tt
-advance_stepped st (entry_due h) (terminal.Name n) e = stepped_from st (rule_standing no_groups) (terminal.Name n) (advanced (entry_due h) (terminal.Name n)) e (refl, refl)
-advance_stepped st (entry_due h) x e = tt
-advance_stepped st (entry_named h n) x e = stepped_from st (rule_standing one_atom) x (named_next h n x) e (named_stepped h n x)
-advance_stepped st (in_left h part) x e = stepped_from st (left_standing (left_groups part)) x (left_next h part x) e.0 (left_stepped h part x e.1)
-advance_stepped st (in_term purpose p) x h =
-    stepped_from st (standing_in (params_of purpose) (side_of purpose) (term_groups purpose p)) x (in_term_next (takes p x) purpose p x) h.0 (in_term_stepped (takes p x) purpose p x h.1 h.2 refl)
+advance_stepped st p x h = subst (λ (st : Standing). Stepped st x (advanced p x)) (sym h.0) (advance_from p x h.1)
 
 standing_more : (st : Standing) (xs : List Terminal) (x : Terminal) → standing_from st (xs ++ x ∷ []) ≡ standing_behind (standing_from st xs) x
 standing_more st [] x = refl
@@ -673,7 +542,7 @@ keeps_standing xs p q made x h e =
     subst (λ st. StandsAt st q) (sym (standing_more at_start xs x)) s.0
 
 stands_at : (xs : List Terminal) (p : CommandSoFar) → run command_due xs ≡ going p → StandsAt (standing xs) p
-stands_at xs p is = follow (λ xs p. StandsAt (standing xs) p) keeps_standing refl xs p is
+stands_at xs p is = follow (λ xs p. StandsAt (standing xs) p) keeps_standing (refl, tt) xs p is
 
 -- the load of a terminal is the one that the step gives
 pub loaded : (xs : List Terminal) (p q : CommandSoFar) (made : ℕ) (x : Terminal) → run command_due xs ≡ going p → advanced p x ≡ goes made q → level_or_argument xs x ≡ made
@@ -690,24 +559,9 @@ end_load xs p x form is e =
 profile_behind : (purpose : Purpose) (o : Option Written) → term_ends purpose terminal.Profile o ≡ refuses
 profile_behind purpose None = refl
 profile_behind (as_param h v) (Some a) = refl
-profile_behind (as_type h) (Some a) = refl
-profile_behind (as_body h typ) (Some a) = refl
-profile_behind (as_entry h n) (Some a) = refl
-profile_behind (as_guard h part) (Some a) = refl
-profile_behind (as_right h l) (Some a) = refl
+profile_behind purpose (Some a) = refl
 
 -- a word outside the profile is no part of a command
 pub profile_refused : (p : CommandSoFar) → advanced p terminal.Profile ≡ refuses
-profile_refused command_due = refl
-profile_refused (name_due s) = refl
-profile_refused (head_due h) = refl
-profile_refused (binder_due h) = refl
-profile_refused (binder_colon_due h v) = refl
-profile_refused (rule_name_due h) = refl
-profile_refused (rule_brace_due h) = refl
-profile_refused (square_due h) = refl
-profile_refused (context_due h) = refl
-profile_refused (entry_due h) = refl
-profile_refused (entry_named h n) = refl
-profile_refused (in_left h part) = refl
 profile_refused (in_term purpose p) = profile_behind purpose (term_done p)
+profile_refused p = refl

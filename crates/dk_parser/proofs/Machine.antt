@@ -41,7 +41,7 @@ run_next p q xs x rest e = run_append p xs (x ∷ rest) ∙ ap (λ (r : Run). ru
 pub run_goes : (p q r : CommandSoFar) (made : ℕ) (xs : List Terminal) (x : Terminal) → run p xs ≡ going q → advanced q x ≡ goes made r → run p (xs ++ x ∷ []) ≡ going r
 run_goes p q r made xs x e n = run_next p q xs x [] e ∙ ap (λ (s : Advance). run_by s (λ r. run r []) []) n
 
-no_append : (xs ys : List Terminal) (y : Terminal) → xs ++ y ∷ ys ≡ [] → ⊥
+pub no_append : (xs ys : List Terminal) (y : Terminal) → xs ++ y ∷ ys ≡ [] → ⊥
 no_append [] ys y e = cc
 no_append (x ∷ xs) ys y e = cc
 

@@ -7,12 +7,12 @@ use Rattle.dk_lexer.specs.declared.token.Sign.TheVariants as sign
 use Rattle.dk_terms.specs.declared.terminal.Terminal.{Terminal}
 use Rattle.dk_terms.specs.declared.terminal.Terminal.TheVariants as terminal
 use Rattle.dk_parser.specs.Written.{Written, written_star, WrittenParam, WrittenPattern, pattern_guard, WrittenRule, WrittenForm, written_declare, written_rules}
-use Rattle.dk_parser.specs.Grammar.{colon, defined, dot, open_bracket, close_bracket, open_square, close_square, open_brace, close_brace, comma, long_arrow, param, entry, rule, SpellsBinder, spells_binder, spells_no_binder, SpellsTerm, SpellsParams, spells_no_params, spells_params, SpellsForm, spells_star, spells_head, spells_application, spells_static, spells_definable, spells_definition, spells_typed_definition, spells_theorem, spells_guard, spells_no_rule_name, spells_rule_name, spells_qualified_rule_name, spells_rules, IsBegun}
+use Rattle.dk_parser.specs.Grammar.{colon, defined, dot, open_bracket, close_bracket, open_square, close_square, open_brace, close_brace, comma, long_arrow, param, entry, rule, SpellsBinder, spells_binder, spells_no_binder, SpellsTerm, SpellsParams, spells_no_params, spells_params, SpellsForm, spells_static, spells_definable, spells_definition, spells_typed_definition, spells_theorem, spells_guard, spells_no_rule_name, spells_rule_name, spells_qualified_rule_name, spells_rules, IsBegun}
 use Rattle.dk_parser.specs.Parsing.{TermSoFar, term_due, term_next, term_argument, term_done, takes, Head, level_behind, with_param, LeftSoFar, left_due, pattern_depth, pattern_more, with_atom, pattern_next, pattern_argument, pattern_done, RuleHead, no_rules, with_entry, Purpose, as_param, as_type, as_body, as_entry, as_guard, as_right, CommandSoFar, command_due, name_due, head_due, binder_due, binder_colon_due, rule_name_due, rule_brace_due, square_due, context_due, entry_due, entry_named, in_left, in_term, Advance, goes, ends, refuses, body_due, term_goes, term_ends, in_term_next, behind_entry, behind_rule, behind_term, named_next, left_goes, right_due, left_next, dot_behind_type, body_behind_type, body_behind_head, head_next, advanced}
 use Rattle.dk_parser.proofs.Machine.{going, run, follow}
 use Rattle.dk_parser.proofs.Left.{left_atom_reached, left_sound}
-use Rattle.dk_parser.proofs.Rules.{Due, rules_head, RulesFrom, BehindRule, rules_end, rules_go, RightBehind, LeftBehind, LeftRest, EntriesRest, ContextRest, context_ends, context_goes, BehindEntry, comma_behind, square_behind, NamedRest, typed_rest, named_rest, SquareBehind, RuleBraceBehind, RuleNameBehind, named_is_entry, rules_from, named_rules_from, left_step, left_begins, rule_ended, left_goes_on, entry_ended, named_ended, entries_begin, context_ended, square_begins, rule_brace_begins, rule_name_begins}
-use Rattle.dk_parser.proofs.Language.{ReachedTerm, nothing_reached, term_reached, term_sound, term_begun}
+use Rattle.dk_parser.proofs.Rules.{Due, due_with, rules_head, RulesFrom, BehindRule, rules_end, rules_go, RightBehind, LeftBehind, LeftRest, EntriesRest, ContextRest, context_ends, context_goes, BehindEntry, comma_behind, square_behind, NamedRest, typed_rest, named_rest, SquareBehind, RuleBraceBehind, RuleNameBehind, named_is_entry, rules_from, named_rules_from, left_step, left_begins, rule_ended, left_goes_on, entry_ended, named_ended, entries_begin, context_ended, square_begins, rule_brace_begins, rule_name_begins}
+use Rattle.dk_parser.proofs.Language.{a_term, ReachedTerm, nothing_reached, term_reached, term_sound, term_begun}
 
 -- What may stand behind a part
 
@@ -300,30 +300,22 @@ made command_due terminal.Def xs h = λ zs form r. subst (λ us. SpellsForm ((us
 made command_due terminal.Thm xs h = λ zs form r. subst (λ us. SpellsForm ((us ++ terminal.Thm ∷ []) ++ zs) form) (sym h) (named_is Theorem zs form (terminal.Thm ∷ []) (λ n. refl) r)
 made command_due (terminal.Sign sign.OpenSquare) xs h = λ zs form r. context_begins_rules xs zs form h r
 made command_due (terminal.Sign sign.OpenBrace) xs h = λ zs form r. name_begins_rules xs zs form h r
-made command_due x xs h = tt
 made (name_due s) (terminal.Name n) xs l = lead_more (NameBehind s) (HeadRest s n []) xs (terminal.Name n) l (λ zs form r. record { n = n; rest = zs; is = refl; head = r })
-made (name_due s) x xs l = tt
 made (head_due h) x xs l = made_head h x xs l
 made (binder_due h) (terminal.Name n) xs l = lead_more (BinderBehind h) (ColonBehind h (Some n)) xs (terminal.Name n) l (λ zs form c. record { x = terminal.Name n; v = Some n; rest = zs; is = refl; spelt = spells_binder; colon_behind = c })
 made (binder_due h) terminal.Wildcard xs l = lead_more (BinderBehind h) (ColonBehind h None) xs terminal.Wildcard l (λ zs form c. record { x = terminal.Wildcard; v = None; rest = zs; is = refl; spelt = spells_no_binder; colon_behind = c })
-made (binder_due h) x xs l = tt
 made (binder_colon_due h v) (terminal.Sign sign.Colon) xs l = begin_term (xs ++ colon ∷ []) (as_param h v) (level_behind h + 1) (lead_more (ColonBehind h v) (TermBehind (as_param h v)) xs colon l (λ zs form t. record { rest = zs; is = refl; term = t }))
-made (binder_colon_due h v) x xs l = tt
 made (rule_name_due h) (terminal.Name n) xs l = lead_more (RuleNameBehind h) (RuleBraceBehind h) xs (terminal.Name n) l (λ zs form r. record { x = terminal.Name n; rest = zs; is = refl; spelt = spells_rule_name; brace = r })
 made (rule_name_due h) (terminal.Qualified m n) xs l = lead_more (RuleNameBehind h) (RuleBraceBehind h) xs (terminal.Qualified m n) l (λ zs form r. record { x = terminal.Qualified m n; rest = zs; is = refl; spelt = spells_qualified_rule_name; brace = r })
-made (rule_name_due h) x xs l = tt
 made (rule_brace_due h) (terminal.Sign sign.CloseBrace) xs l = lead_more (RuleBraceBehind h) (SquareBehind h) xs close_brace l (λ zs form r. record { rest = zs; is = refl; square = r })
-made (rule_brace_due h) x xs l = tt
 made (square_due h) (terminal.Sign sign.OpenSquare) xs l = lead_more (SquareBehind h) (ContextRest h) xs open_square l (λ zs form r. record { rest = zs; is = refl; context = r })
-made (square_due h) x xs l = tt
 made (context_due h) (terminal.Sign sign.CloseSquare) xs l = lead_more (ContextRest h) (LeftRest h left_due) xs close_square l (λ zs form r. context_ends (left_begins h zs form r))
 made (context_due h) (terminal.Name n) xs l = lead_more (ContextRest h) (NamedRest h n) xs (terminal.Name n) l (λ zs form r. context_goes (named_is_entry r))
-made (context_due h) x xs l = tt
 made (entry_due h) (terminal.Name n) xs l = lead_more (EntriesRest h) (NamedRest h n) xs (terminal.Name n) l (λ zs form r. named_is_entry r)
-made (entry_due h) x xs l = tt
 made (entry_named h n) x xs l = made_named h n x xs l
 made (in_left h part) x xs l = made_left h part x xs l
 made (in_term purpose p) x xs h = made_in_term (takes p x) purpose p x xs h
+made p x xs h = tt
 
 -- what leads to a part
 pub reached : (xs : List Terminal) (p : CommandSoFar) → run command_due xs ≡ going p → Reached xs p
@@ -334,9 +326,6 @@ pub sound : (xs : List Terminal) (p : CommandSoFar) (x : Terminal) (form : Writt
 sound xs p x form is e = subst (Made (xs ++ x ∷ [])) e (made p x xs (reached xs p is))
 
 -- More of a command is due
-
-a_term : SpellsTerm (terminal.Star ∷ []) written_star
-a_term = spells_application (spells_head spells_star)
 
 type_due : (s : SymSort) (n : List ℕ) (ps : List WrittenParam) (a : Written) → Due (TypeRest s n ps a)
 type_due Static n ps a = record { first = dot; rest = []; form = written_declare Static n ps (Some a) None; is = static_alone }
@@ -350,35 +339,26 @@ head_rest s n ps =
 
 due_behind : (purpose : Purpose) (a : Written) → Due (Behind purpose a)
 due_behind (as_param h v) a =
-    let r = head_rest h.sort h.name (h.params ++ param v a ∷ []) in
-    record { first = close_bracket; rest = r.first ∷ r.rest; form = r.form; is = (r.first ∷ r.rest, refl, r.is) }
+    due_with (BehindHead (with_param h v a)) (Behind (as_param h v) a) close_bracket (λ zs form r. (zs, refl, r)) (head_rest h.sort h.name (h.params ++ param v a ∷ []))
 due_behind (as_type h) a = type_due h.sort h.name h.params a
 due_behind (as_entry h n) a = entry_ended (with_entry h (entry n (Some a)))
 due_behind (as_guard h part) a =
-    let r = left_goes_on h part.frames (pattern_more part.application (pattern_guard a)) in
-    record { first = close_brace; rest = r.first ∷ r.rest; form = r.form; is = (r.first ∷ r.rest, refl, r.is) }
+    due_with (LeftRest h (with_atom part (pattern_guard a))) (Behind (as_guard h part) a) close_brace (λ zs form r. (zs, refl, r)) (left_goes_on h part.frames (pattern_more part.application (pattern_guard a)))
 due_behind (as_right h l) a = rule_ended (h.rules ++ rule h.context l a ∷ [])
 due_behind (as_body h typ) b = record { first = dot; rest = []; form = written_declare h.sort h.name h.params typ (Some b); is = (refl, refl) }
 
 term_begins : (purpose : Purpose) → Due (TermBehind purpose)
 term_begins purpose =
-    let r = due_behind purpose written_star in
-    record { first = terminal.Star; rest = r.first ∷ r.rest; form = r.form; is = record { ys = terminal.Star ∷ []; rest = r.first ∷ r.rest; term = written_star; is = refl; spelt = a_term; behind = r.is } }
+    due_with (Behind purpose written_star) (TermBehind purpose) terminal.Star (λ zs form r. record { ys = terminal.Star ∷ []; rest = zs; term = written_star; is = refl; spelt = a_term; behind = r }) (due_behind purpose written_star)
 
 colon_begins : (h : Head) (v : Option (List ℕ)) → Due (ColonBehind h v)
-colon_begins h v =
-    let r = term_begins (as_param h v) in
-    record { first = colon; rest = r.first ∷ r.rest; form = r.form; is = record { rest = r.first ∷ r.rest; is = refl; term = r.is } }
+colon_begins h v = due_with (TermBehind (as_param h v)) (ColonBehind h v) colon (λ zs form r. record { rest = zs; is = refl; term = r }) (term_begins (as_param h v))
 
 binder_begins : (h : Head) → Due (BinderBehind h)
-binder_begins h =
-    let r = colon_begins h None in
-    record { first = terminal.Wildcard; rest = r.first ∷ r.rest; form = r.form; is = record { x = terminal.Wildcard; v = None; rest = r.first ∷ r.rest; is = refl; spelt = spells_no_binder; colon_behind = r.is } }
+binder_begins h = due_with (ColonBehind h None) (BinderBehind h) terminal.Wildcard (λ zs form r. record { x = terminal.Wildcard; v = None; rest = zs; is = refl; spelt = spells_no_binder; colon_behind = r }) (colon_begins h None)
 
 name_begins : (s : SymSort) → Due (NameBehind s)
-name_begins s =
-    let r = head_rest s [] [] in
-    record { first = terminal.Name []; rest = r.first ∷ r.rest; form = r.form; is = record { n = []; rest = r.first ∷ r.rest; is = refl; head = r.is } }
+name_begins s = due_with (HeadRest s [] []) (NameBehind s) (terminal.Name []) (λ zs form r. record { n = []; rest = zs; is = refl; head = r }) (head_rest s [] [])
 
 due_begun : (xs : List Terminal) (R : List Terminal → WrittenForm → Type 0) → Leads xs R → Due R → IsBegun xs
 due_begun xs R l d = (d.first, d.rest, d.form, l (d.first ∷ d.rest) d.form d.is)

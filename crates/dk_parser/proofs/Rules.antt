@@ -4,9 +4,10 @@ use Rattle.std.specs.Prelude.{Some, None}
 use Rattle.dk_terms.specs.declared.terminal.Terminal.{Terminal}
 use Rattle.dk_terms.specs.declared.terminal.Terminal.TheVariants as terminal
 use Rattle.dk_parser.specs.Written.{Written, written_star, WrittenPattern, pattern_wild, WrittenNote, WrittenRule, WrittenForm, written_rules}
-use Rattle.dk_parser.specs.Grammar.{colon, dot, open_square, close_square, open_brace, close_brace, comma, long_arrow, close_bracket, entry, rule, SpellsTerm, spells_star, spells_head, spells_application, SpellsPatternApplication, spells_pattern_head, spells_pattern_wildcard, SpellsEntry, spells_entry, spells_typed_entry, SpellsEntries, spells_last_entry, spells_more_entries, SpellsContext, spells_no_context, spells_context, SpellsRuleName, spells_rule_name, SpellsRule, spells_rule, SpellsRules, spells_last_rule, spells_more_rules}
+use Rattle.dk_parser.specs.Grammar.{colon, dot, open_square, close_square, open_brace, close_brace, comma, long_arrow, close_bracket, entry, rule, SpellsTerm, SpellsPatternApplication, spells_pattern_head, spells_pattern_wildcard, SpellsEntry, spells_entry, spells_typed_entry, SpellsEntries, spells_last_entry, spells_more_entries, SpellsContext, spells_no_context, spells_context, SpellsRuleName, spells_rule_name, SpellsRule, spells_rule, SpellsRules, spells_last_rule, spells_more_rules}
 use Rattle.dk_parser.specs.Parsing.{LeftApplication, pattern_due, pattern_bindable, pattern_applied, PatternFrames, no_bracket, bracket_on, LeftSoFar, left_due, binder_pattern, pattern_more, left_pattern, under_binders, pattern_closed, pattern_next, RuleHead, with_entry}
 use Rattle.dk_parser.proofs.Left.{ReachedLeft, left_reached_nothing, left_reached, left_sound}
+use Rattle.dk_parser.proofs.Language.{a_term}
 
 -- something may stand behind
 pub record Due (R : List Terminal → WrittenForm → Type 0) : Type 0 where
@@ -14,6 +15,10 @@ pub record Due (R : List Terminal → WrittenForm → Type 0) : Type 0 where
   pub rest : List Terminal
   pub form : WrittenForm
   pub is : R (first ∷ rest) form
+
+-- with a terminal before it
+pub due_with : (R S : List Terminal → WrittenForm → Type 0) (x : Terminal) → ((zs : List Terminal) (form : WrittenForm) → R zs form → S (x ∷ zs) form) → Due R → Due S
+due_with R S x step d = record { first = x; rest = d.first ∷ d.rest; form = d.form; is = step (d.first ∷ d.rest) d.form d.is }
 
 abbrev pub rules_head : List WrittenRule → RuleHead
 rules_head rules = record { rules = rules; context = [] }
@@ -190,9 +195,6 @@ left_begins h zs form k = k [] left_reached_nothing
 
 -- Something may stand behind each
 
-a_term : SpellsTerm (terminal.Star ∷ []) written_star
-a_term = spells_application (spells_head spells_star)
-
 pub rule_ended : (done : List WrittenRule) → Due (BehindRule done)
 rule_ended done = record { first = dot; rest = []; form = written_rules done; is = rules_end }
 
@@ -222,23 +224,14 @@ left_due_at h no_bracket s l e = record {
 }
 left_due_at h (bracket_on d t vs fs) s l e =
     let m = more_some t (under_binders vs l) in
-    let r = left_due_at h fs (pattern_more t (under_binders vs l)) m.0 m.1 in
-    record {
-      first = close_bracket;
-      rest = r.first ∷ r.rest;
-      form = r.form;
-      is = left_step h (left_at (bracket_on d t vs fs) s) (left_at fs (pattern_more t (under_binders vs l))) close_bracket (r.first ∷ r.rest) r.form (ap (pattern_closed (bracket_on d t vs fs)) e) r.is;
-    }
+    let after = left_at fs (pattern_more t (under_binders vs l)) in
+    due_with (LeftRest h after) (LeftRest h (left_at (bracket_on d t vs fs) s)) close_bracket
+    (λ zs form r. left_step h (left_at (bracket_on d t vs fs) s) after close_bracket zs form (ap (pattern_closed (bracket_on d t vs fs)) e) r) (left_due_at h fs (pattern_more t (under_binders vs l)) m.0 m.1)
 
 pub left_goes_on : (h : RuleHead) (fs : PatternFrames) (s : LeftApplication) → Due (LeftRest h (left_at fs s))
 left_goes_on h fs pattern_due =
-    let r = left_due_at h fs (pattern_bindable None) pattern_wild refl in
-    record {
-      first = terminal.Wildcard;
-      rest = r.first ∷ r.rest;
-      form = r.form;
-      is = left_step h (left_at fs pattern_due) (left_at fs (pattern_bindable None)) terminal.Wildcard (r.first ∷ r.rest) r.form refl r.is;
-    }
+    due_with (LeftRest h (left_at fs (pattern_bindable None))) (LeftRest h (left_at fs pattern_due)) terminal.Wildcard
+    (λ zs form r. left_step h (left_at fs pattern_due) (left_at fs (pattern_bindable None)) terminal.Wildcard zs form refl r) (left_due_at h fs (pattern_bindable None) pattern_wild refl)
 left_goes_on h fs (pattern_bindable v) = left_due_at h fs (pattern_bindable v) (binder_pattern v) refl
 left_goes_on h fs (pattern_applied p n) = left_due_at h fs (pattern_applied p n) p refl
 
@@ -251,24 +244,17 @@ named_ended h n =
     record { first = r.first; rest = r.rest; form = r.form; is = named_rest r.is }
 
 pub entries_begin : (h : RuleHead) → Due (EntriesRest h)
-entries_begin h =
-    let r = named_ended h [] in
-    record { first = terminal.Name []; rest = r.first ∷ r.rest; form = r.form; is = named_is_entry r.is }
+entries_begin h = due_with (NamedRest h []) (EntriesRest h) (terminal.Name []) (λ zs form r. named_is_entry r) (named_ended h [])
 
 pub context_ended : (h : RuleHead) → Due (ContextRest h)
 context_ended h = record { first = close_square; rest = terminal.Wildcard ∷ long_arrow ∷ terminal.Star ∷ dot ∷ []; form = first_form h pattern_wild; is = context_ends (left_ended h) }
 
 pub square_begins : (h : RuleHead) → Due (SquareBehind h)
-square_begins h =
-    let r = context_ended h in
-    record { first = open_square; rest = r.first ∷ r.rest; form = r.form; is = record { rest = r.first ∷ r.rest; is = refl; context = r.is } }
+square_begins h = due_with (ContextRest h) (SquareBehind h) open_square (λ zs form r. record { rest = zs; is = refl; context = r }) (context_ended h)
 
 pub rule_brace_begins : (h : RuleHead) → Due (RuleBraceBehind h)
-rule_brace_begins h =
-    let r = square_begins h in
-    record { first = close_brace; rest = r.first ∷ r.rest; form = r.form; is = record { rest = r.first ∷ r.rest; is = refl; square = r.is } }
+rule_brace_begins h = due_with (SquareBehind h) (RuleBraceBehind h) close_brace (λ zs form r. record { rest = zs; is = refl; square = r }) (square_begins h)
 
 pub rule_name_begins : (h : RuleHead) → Due (RuleNameBehind h)
 rule_name_begins h =
-    let r = rule_brace_begins h in
-    record { first = terminal.Name []; rest = r.first ∷ r.rest; form = r.form; is = record { x = terminal.Name []; rest = r.first ∷ r.rest; is = refl; spelt = spells_rule_name; brace = r.is } }
+    due_with (RuleBraceBehind h) (RuleNameBehind h) (terminal.Name []) (λ zs form r. record { x = terminal.Name []; rest = zs; is = refl; spelt = spells_rule_name; brace = r }) (rule_brace_begins h)

@@ -32,14 +32,8 @@ depth_counted level fs = frames_depth (plain.bottom level) fs
 bracket_pushed_by : (f : plain.Frame) (fs : plain.Frames) (t : Bool) → t ≡ is_bracket f → in_bracket (pushed f fs) ≡ (if t then true else in_bracket fs)
 bracket_pushed_by (plain.bracket_frame s) fs true e = refl
 bracket_pushed_by (plain.bracket_frame s) fs false e = cc
-bracket_pushed_by (plain.arrow_frame a) fs false e = refl
-bracket_pushed_by (plain.arrow_frame a) fs true e = cc
-bracket_pushed_by (plain.product_frame v a) fs false e = refl
-bracket_pushed_by (plain.product_frame v a) fs true e = cc
-bracket_pushed_by (plain.bare_frame v) fs false e = refl
-bracket_pushed_by (plain.bare_frame v) fs true e = cc
-bracket_pushed_by (plain.annotated_frame v a) fs false e = refl
-bracket_pushed_by (plain.annotated_frame v a) fs true e = cc
+bracket_pushed_by f fs false e = refl
+bracket_pushed_by f fs true e = cc
 
 -- the innermost frame is a bracket
 pub bracket_found : (level : ℕ) (old new : List Frame) (f : Frame) (t : Bool) → old ≡ new ++ f ∷ [] → t ≡ is_bracket (plain_frame f) → t ≡ true → true ≡ in_bracket (plain_frames level old)
@@ -81,14 +75,7 @@ application_framed fs s false o e = ap (in_frames fs) e
 
 domain_by : (f : plain.Frame) (fs : plain.Frames) (v : Option (List ℕ)) (a : Written) → next_close_domain (pushed f fs) v a ≡ (if opens_domain f then Some (let t : plain.TermSoFar = record { frames = fs; application = plain.bracketed v a } in t) else None)
 domain_by (plain.bracket_frame (plain.due plain.at_front)) fs v a = refl
-domain_by (plain.bracket_frame (plain.due (plain.domain w))) fs v a = refl
-domain_by (plain.bracket_frame (plain.bindable w)) fs v a = refl
-domain_by (plain.bracket_frame (plain.applied role b n)) fs v a = refl
-domain_by (plain.bracket_frame (plain.bracketed w b)) fs v a = refl
-domain_by (plain.arrow_frame b) fs v a = refl
-domain_by (plain.product_frame w b) fs v a = refl
-domain_by (plain.bare_frame w) fs v a = refl
-domain_by (plain.annotated_frame w b) fs v a = refl
+domain_by f fs v a = refl
 
 -- a bracket closes behind a binder and its domain
 pub domain_closed : (level : ℕ) (old new : List Frame) (f : Frame) (t : Bool) (v : Option (List ℕ)) (a : Written) → old ≡ new ++ f ∷ [] → t ≡ opens_domain (plain_frame f) → t ≡ true
