@@ -15,8 +15,12 @@ use board_core::{Book, Checker, Claimed, End, Offer, PutRefused, Task};
 use dk_model::{Listed, NoMemory, Verdict};
 use std::alloc::Global;
 use std::marker::{Model, PhantomData};
+use std::mem;
 use std::sync::{Arc, Wait};
 use ticket_slot::Slot;
+
+/// How many answered jobs are kept for the reader at most.
+const MOST_SPENT: usize = 64;
 
 /// A board that the reader and the workers share. Contracts see the identity that its passes carry.
 pub struct Board<C: Checker> {
@@ -53,14 +57,21 @@ where
     {
         let mut passes = Vec::with_capacity(alloc, workers as usize)?;
         let book = Book::new(alloc)?;
+        let spent = Vec::with_capacity(alloc, MOST_SPENT)?;
         let judged = Judged {
             book,
+            spent,
             checker: PhantomData,
         };
         match Slot::new(alloc, judged) {
             Err(refused) => {
-                let Judged { book, checker: _ } = refused.value;
+                let Judged {
+                    book,
+                    spent,
+                    checker: _,
+                } = refused.value;
                 drop(book);
+                drop(spent);
                 Err(NoMemory)
             }
             Ok((slot, mut seat)) => {
@@ -101,11 +112,13 @@ where
         ensures refused { IfErr result (λ why.
             PutRefusedTold pass.old.seat.me.0 (arc_value job) why pass.new.seat.me.0) }
     {
-        // Longer lists are made before the turn, and what is over is let go after it.
+        // Longer lists are made before the turn, and what is over is let go after it: answered jobs too, two for each that
+        // is put, so that they don't pile up.
         let ReaderPass { seat, count } = pass;
         let offer = Offer::new(self.alloc, job, settled, *count);
         let mut judged = self.slot.lock(rt, seat);
         let (reply, leftover) = judged.book.post(offer);
+        let spent = (judged.spent.pop(), judged.spent.pop());
         let _history = judged.book.history();
         if let Ok(_) = &reply {
             self.slot.add(seat, &judged);
@@ -113,6 +126,7 @@ where
         }
         self.slot.unlock(seat, judged);
         drop(leftover);
+        drop(spent);
         reply
     }
 
@@ -129,9 +143,11 @@ where
         let ReaderPass { mut seat, count: _ } = pass;
         let mut judged = self.slot.lock(rt, &mut seat);
         judged.book.seal(end);
+        let spent = mem::replace(&mut judged.spent, Vec::new(self.alloc));
         let _history = judged.book.history();
         self.slot.add(&mut seat, &judged);
         self.slot.unlock(&mut seat, judged);
+        drop(spent);
         SealedPass { seat }
     }
 
@@ -174,18 +190,20 @@ where
             (Event.Answer pass.old.number task.number verdict) pass.new.seat.me.0 }
         ensures idle { IsIdle pass.new.seat.me.0 }
     {
-        // The share is let go before the turn, so that no job is taken apart in it.
+        // The reader made the job, so the reader lets it go: memory that one thread took and another gives back costs both
+        // more. What there is no place for is let go here, behind the turn, so that no job is taken apart in it.
         let Task {
             number: answered,
             job,
         } = task;
-        drop(job);
         let WorkerPass { seat, number } = pass;
         let mut judged = self.slot.lock(rt, seat);
         judged.book.answer(*number, answered, verdict);
+        let over = keep_for_reader(&mut judged.spent, job);
         let _history = judged.book.history();
         self.slot.add(seat, &judged);
         self.slot.unlock(seat, judged);
+        drop(over);
     }
 
     /// Gives the book once all passes are back and no worker has a task. It has one history: what
@@ -218,7 +236,21 @@ where
             self.slot.join(&mut seat, own);
         }
         let Board { slot, alloc: _ } = self;
-        let Judged { book, checker: _ } = slot.close(seat);
+        let Judged {
+            book,
+            spent,
+            checker: _,
+        } = slot.close(seat);
+        drop(spent);
         book
     }
+}
+
+// Keeps an answered job where there is a place for it; else gives it back.
+fn keep_for_reader<J>(spent: &mut Vec<Arc<J>>, job: Arc<J>) -> Option<Arc<J>> {
+    if spent.len() >= spent.capacity() {
+        return Some(job);
+    }
+    spent.push_reserved(job);
+    None
 }

@@ -1,11 +1,14 @@
 //! What stands behind the tickets: a book, whose history is legal by the verdicts of a checker.
 use board_core::{Book, Checker, Event};
 use std::marker::PhantomData;
+use std::sync::Arc;
 use ticket_slot::Kept;
 
 /// A book whose jobs are checked by `C`.
 pub struct Judged<C: Checker> {
     pub book: Book<C::Job>,
+    /// Answered jobs that the reader hasn't taken back yet.
+    pub spent: Vec<Arc<C::Job>>,
     pub checker: PhantomData<C>,
 }
 

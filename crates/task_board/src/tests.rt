@@ -209,7 +209,7 @@ fn keeps_two_workers_apart_and_stops_at_a_fault(rt: HostRuntime) {
     assert!(rt; book.history() == &history[..]);
 }
 
-// The board keeps no share of a job that was answered, and none of a settled one.
+// The board keeps no share of a settled job, and of an answered one only until the next put or the seal.
 #[test]
 fn lets_a_job_go(rt: HostRuntime) {
     let alloc = rt.alloc();
@@ -228,10 +228,16 @@ fn lets_a_job_go(rt: HostRuntime) {
     let task = must_claim(&rt, &board, &mut worker);
     assert!(rt; Arc::strong_count(&job) == 2, "the worker has it");
     answer(&rt, &board, &mut worker, task, Verdict::Accepted);
-    assert!(rt; Arc::strong_count(&job) == 1, "nobody has it");
+    assert!(rt; Arc::strong_count(&job) == 2, "it waits for the reader");
+    let open = job.clone().expect(&rt, "a share");
+    assert!(rt; board.put(&rt, &mut reader, open, false).is_ok());
+    assert!(rt; Arc::strong_count(&job) == 2, "only the new one waits");
+    let task = must_claim(&rt, &board, &mut worker);
+    answer(&rt, &board, &mut worker, task, Verdict::Accepted);
     let sealed = board.seal(&rt, reader, End::Whole);
+    assert!(rt; Arc::strong_count(&job) == 1, "nobody has it");
     let mut passes = Listed::new(alloc);
     pass_back(&rt, &board, &mut passes, worker);
     let book = board.close(sealed, passes);
-    assert!(rt; book.len() == 2);
+    assert!(rt; book.len() == 3);
 }

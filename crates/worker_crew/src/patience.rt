@@ -12,7 +12,9 @@ const FIRST_SLEEP: u64 = 50;
 
 const LONGEST_SLEEP: u64 = 1000;
 
-/// What a worker waits before it asks the board again (docs/board-lock.md).
+/// What a worker waits before it asks the board again. The first worker stays near the board. Each further one is wanted
+/// only where jobs pile up, and what it costs the others to find nothing is more than what it brings to find something
+/// soon; so it sleeps its longest at once (docs/board-lock.md).
 #[derive(Drop)]
 pub struct Patience {
     // How many times it yields at its next rest.
@@ -24,11 +26,16 @@ pub struct Patience {
 }
 
 impl Patience {
-    /// The shortest rest: a single yield.
-    pub fn new() -> Patience {
+    /// That of the worker of this number, from 1, as it comes from a task.
+    pub fn of(worker: u32) -> Patience {
+        let (yields, sleep) = if worker <= 1 {
+            (1, FIRST_SLEEP)
+        } else {
+            (MOST_YIELDS + 1, LONGEST_SLEEP)
+        };
         Patience {
-            yields: 1,
-            sleep: FIRST_SLEEP,
+            yields,
+            sleep,
             own: AtomicU64::new(0),
         }
     }

@@ -10,7 +10,7 @@ use std::sync::Wait;
 use task_board::{Board, WorkerPass};
 
 /// Claims, checks and answers until nothing can be claimed and the board is sealed or stopped. While
-/// nothing can be claimed yet it rests, longer from time to time, and asks again.
+/// nothing can be claimed yet it rests and asks again.
 pub fn work<R: Wait, C: Checker, G: Gate>(
     rt: &R,
     board: &Board<C>,
@@ -29,7 +29,7 @@ where
     ensures over { IsOver result.seat.me.0 }
 {
     let mut kit = checker.kit();
-    let mut patience = Patience::new();
+    let mut patience = Patience::of(pass.number);
     for _ in rt.forever() {
         match board.claim(rt, &mut pass) {
             Claimed::Over => return pass,
@@ -37,7 +37,7 @@ where
             Claimed::Task(task) => {
                 let verdict = gated(checker, gate, &mut kit, task.number, &*task.job);
                 board.answer(rt, &mut pass, task, verdict);
-                patience = Patience::new();
+                patience = Patience::of(pass.number);
             }
         }
     }
