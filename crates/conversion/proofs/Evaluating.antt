@@ -1,5 +1,5 @@
 -- The turns of an evaluation with selections that wait.
-use Rattle.std.proofs.Common.{List, [], ◌∷◌, ◌++◌, ◌≡◌, ◌-◌, ◌<◌, ℕ, Some, None, Ok, Err, refl, ◌∙◌, sym as flip, subst, arith, length, map}
+use Rattle.std.proofs.Common.{List, [], ◌∷◌, ◌++◌, ◌≡◌, ◌-◌, ◌<◌, ℕ, Some, None, Ok, Err, refl, ◌∙◌, sym as flip, subst, arith, length}
 use Rattle.dk_model.specs.Trees.{Tree}
 use Rattle.dk_model.specs.Signatures.{PlainSignature}
 use Rattle.dk_model.specs.Units.{Units, bind}
@@ -10,14 +10,13 @@ use Rattle.dk_model.proofs.Fuel.{Within}
 use Rattle.dk_model.proofs.Turns.{whnf_falls}
 use Rattle.shared_term.specs.declared.id.TermId.{TermId}
 use Rattle.shared_term.specs.Pools.{Node, term, Extends}
-use Rattle.conversion.specs.declared.matrix.Matrix.{Matrix}
+use Rattle.rule_match.specs.declared.matcher.Answer.TheVariants.{Value}
 use Rattle.conversion.specs.declared.evaluate.Pause.{Pause}
 use Rattle.conversion.specs.declared.turn.Turn.TheVariants.{Asks}
 use Rattle.conversion.specs.Machine.{behind, wound}
-use Rattle.conversion.specs.Matrix.{row}
 use Rattle.conversion.specs.Given.{GivesTerm}
 use Rattle.conversion.specs.Reducers.{IsValue}
-use Rattle.conversion.specs.Pausing.{plain, columns_with, rows_with, continued, awaited, ArePauses, Await}
+use Rattle.conversion.specs.Pausing.{continued, awaited, ArePauses, Await}
 use Rattle.conversion.specs.Turning.{TurnsTo, rewritten_by}
 use Rattle.conversion.proofs.Winding.{extends_none}
 use Rattle.conversion.proofs.Serving.{value_made}
@@ -49,8 +48,12 @@ module _ (S : PlainSignature) where
     pub awaited_falls : n < p.start
     awaited_falls = subst (λ (u : Units Tree). Within p.start u) awaited_is (whnf_falls S p.start (term ns p.asked))
 
-    pub closed_on : (m : Matrix) → m.symbol ≡ p.gap.symbol → plain ns m.columns ≡ columns_with ns p.gap v → map row m.rows.items ≡ rows_with p.gap v → Await S ns whole rest (rewritten_by S ns m p.stack.items n)
-    closed_on m q c r = await_due S ns whole (bind (awaited S ns p) (continued S ns p)) (rewritten_by S ns m p.stack.items n) rest (pause_closed S ns p m v n awaited_is q c r) (await_popped S ns whole due rest p there)
+  pub closed_on : (ns : List Node) (whole due : Units Tree) (rest ps : List Pause) (p : Pause) (v : TermId) (n : ℕ) → ps ≡ rest ++ (p ∷ []) → Await S ns whole ps due → due ≡ Some (term ns v, n)
+      → Await S ns whole rest (rewritten_by S ns (record { symbol = p.symbol; matcher = p.matcher; answer = Value v }) p.stack.items n)
+  closed_on ns whole due rest ps p v n is w e =
+      let l : Await S ns whole (rest ++ (p ∷ [])) due = subst (λ (l : List Pause). Await S ns whole l due) is w in
+      await_due S ns whole (bind (awaited S ns p) (continued S ns p)) (rewritten_by S ns (record { symbol = p.symbol; matcher = p.matcher; answer = Value v }) p.stack.items n) rest
+      (pause_closed S ns p v n (flip (awaited_due S ns whole due rest p l) ∙ e)) (await_popped S ns whole due rest p l)
 
   pub awaited_value : (ns : List Node) (p : Pause) (id : TermId) (n : ℕ) → p.asked.0 < length ns → id.0 < length ns → awaited S ns p ≡ Some (term ns id, n) → IsValue S ns p.asked.0 (record { id = id; units = p.start - n })
   awaited_value ns p id n l k e = value_made S ns ns p.asked (record { id = id; units = p.start - n }) p.start n (extends_none ns) l k e refl

@@ -1,37 +1,28 @@
 -- Selections that wait, and how they go on.
-use Rattle.std.proofs.Common.{List, [], ◌∷◌, ◌++◌, ◌≡◌, ℕ, Some, None, refl, ap, ◌∙◌, sym as flip, subst, arith, length, map}
+use Rattle.std.proofs.Common.{List, [], ◌∷◌, ◌++◌, ◌≡◌, ◌<◌, ℕ, Some, None, refl, ap, ◌∙◌, sym as flip, subst, arith, length}
 use Rattle.dk_model.specs.Trees.{Tree, symbol}
 use Rattle.dk_model.specs.Signatures.{PlainSignature}
+use Rattle.dk_model.specs.SymbolRules.{rules_of}
 use Rattle.dk_model.specs.Units.{Units, bind}
-use Rattle.dk_model.specs.Matrix.{opened_columns}
 use Rattle.dk_model.specs.Evaluation.{whnf_of}
-use Rattle.dk_model.specs.Equations.{selection_of, after_selection}
-use Rattle.shared_term.specs.Pools.{Node, Extends}
-use Rattle.conversion.specs.declared.matrix.Matrix.{Matrix}
-use Rattle.conversion.specs.declared.gap.Gap.{Gap}
+use Rattle.dk_model.specs.Equations.{after_selection}
+use Rattle.shared_term.specs.declared.id.TermId.{TermId}
+use Rattle.shared_term.specs.Pools.{Node, term, Extends}
+use Rattle.rule_match.specs.declared.matcher.Answer.TheVariants.{Value}
+use Rattle.rule_match.proofs.Larger.{matcher_grown, value_grown, value_answered, value_is_answer}
 use Rattle.conversion.specs.declared.evaluate.Pause.{Pause}
 use Rattle.conversion.specs.Machine.{behind, wound}
-use Rattle.conversion.specs.Matrix.{row}
-use Rattle.conversion.specs.Pausing.{plain, columns_with, rows_with, IsMatrix, IsGap, continued, awaited, IsPause, ArePauses, Await}
+use Rattle.conversion.specs.Pausing.{IsSelection, continued, awaited, IsPause, ArePauses, Await}
 use Rattle.conversion.specs.Turning.{rewritten_by}
 use Rattle.conversion.proofs.Winding.{behind_grown, within_grown}
-use Rattle.conversion.proofs.Growing.{columns_grown, columns_within}
 
 -- a larger pool
 
-pub matrix_grown : (S : PlainSignature) (old new : List Node) (m : Matrix) → Extends old new → IsMatrix S (length old) m → IsMatrix S (length new) m
-matrix_grown S old new m x h = record { columns = columns_within old new m.columns.items x h.columns; rows = h.rows }
-
-gap_grown : (S : PlainSignature) (old new : List Node) (g : Gap) → Extends old new → IsGap S (length old) g → IsGap S (length new) g
-gap_grown S old new g x h = record {
-  before = columns_within old new g.before.items x h.before;
-  behind = columns_within old new g.behind.items x h.behind;
-  rows = h.rows;
-}
-
 pause_grown : (S : PlainSignature) (old new : List Node) (p : Pause) → Extends old new → IsPause S (length old) p → IsPause S (length new) p
 pause_grown S old new p x h = record {
-  gap = gap_grown S old new p.gap x h.gap;
+  matcher = matcher_grown old new p.matcher x h.matcher;
+  awaits = h.awaits;
+  stands = h.stands;
   stack = within_grown old new p.stack.items x h.stack;
   asked = omega (arith, x.longer, h.asked);
 }
@@ -52,16 +43,17 @@ pub popped_pause : (S : PlainSignature) (n : ℕ) (ps : List Pause) (p : Pause) 
 popped_pause S n [] p h = h.0
 popped_pause S n (q ∷ ps) p h = popped_pause S n ps p h.1
 
+-- the value that was asked for is there
+pub pause_goes : (S : PlainSignature) (n : ℕ) (p : Pause) (v : TermId) → IsPause S n p → v.0 < n → IsSelection S n (record { symbol = p.symbol; matcher = p.matcher; answer = Value v })
+pause_goes S n p v h l = record { matcher = h.matcher; answer = value_is_answer n p.matcher.stage v h.awaits l; stands = h.stands }
+
 module _ (S : PlainSignature) where
   gives_grown : (old new : List Node) (p : Pause) → Extends old new → IsPause S (length old) p
       → bind (awaited S new p) (continued S new p) ≡ bind (awaited S old p) (continued S old p)
   gives_grown old new p x h =
       let a = x.keeps p.asked.0 h.asked in
-      let b = columns_grown old new p.gap.before.items x h.gap.before in
-      let c = columns_grown old new p.gap.behind.items x h.gap.behind in
       let d = behind_grown old new p.stack.items x h.stack in
-      λ i. bind (whnf_of S p.start (a i)) (λ v n. bind (selection_of S n (b i ++ record { depth = p.gap.depth; term = v } ∷ opened_columns p.gap.depth v ++ c i) (rows_with p.gap v))
-      (after_selection S (wound (symbol p.gap.symbol) (d i))))
+      λ i. bind (whnf_of S p.start (a i)) (λ v n. bind (value_grown S (rules_of S p.symbol) old new p.matcher x h.matcher p.matcher.stage v n i) (after_selection S (wound (symbol p.symbol) (d i))))
 
   pub await_grown : (old new : List Node) (whole due : Units Tree) (ps : List Pause) → Extends old new → ArePauses S (length old) ps → Await S old whole ps due → Await S new whole ps due
   await_grown old new whole due [] x h w = w
@@ -90,12 +82,11 @@ module _ (S : PlainSignature) where
   await_none ns whole [] w = flip w
   await_none ns whole (p ∷ ps) w = flip w.0 ∙ ap (λ x. bind x (continued S ns p)) (await_none ns (awaited S ns p) ps w.1)
 
-  -- the value of the column that was asked for is there
-  pub pause_closed : (ns : List Node) (p : Pause) (m : Matrix) (v : Tree) (n : ℕ) → awaited S ns p ≡ Some (v, n) → m.symbol ≡ p.gap.symbol → plain ns m.columns ≡ columns_with ns p.gap v
-      → map row m.rows.items ≡ rows_with p.gap v → bind (awaited S ns p) (continued S ns p) ≡ rewritten_by S ns m p.stack.items n
-  pause_closed ns p m v n e q c r =
+  pub pause_closed : (ns : List Node) (p : Pause) (v : TermId) (n : ℕ) → awaited S ns p ≡ Some (term ns v, n)
+      → bind (awaited S ns p) (continued S ns p) ≡ rewritten_by S ns (record { symbol = p.symbol; matcher = p.matcher; answer = Value v }) p.stack.items n
+  pause_closed ns p v n e =
       ap (λ x. bind x (continued S ns p)) e
-      ∙ flip (λ i. bind (selection_of S n (c i) (r i)) (after_selection S (wound (symbol (q i)) (behind ns p.stack.items))))
+      ∙ ap (λ x. bind x (after_selection S (wound (symbol p.symbol) (behind ns p.stack.items)))) (value_answered S (rules_of S p.symbol) ns p.matcher p.matcher.stage v n)
 
   pub awaits_none : (ns : List Node) (whole due : Units Tree) (ps : List Pause) → Await S ns whole ps due → due ≡ None → whole ≡ None
   awaits_none ns whole due ps w e = await_none ns whole ps (await_due ns whole due None ps e w)

@@ -5,7 +5,6 @@ use Rattle.std.specs.Prelude.{nat_lt, ◌||◌, ◌&&◌, not}
 use Rattle.dk_model.specs.Trees.{Tree, star, kind, symbol, variable, rule_variable, apply, bare, annotated, product}
 use Rattle.dk_model.specs.Substitution.{substitute, substituted_variable}
 use Rattle.dk_model.specs.Captures.{mentions_others}
-use Rattle.dk_model.specs.Signatures.{PlainSignature}
 use Rattle.dk_model.specs.Units.{Units}
 use Rattle.dk_model.specs.declared.NodeOf.TheVariants.{Star, Kind, Sym, Var, Rvar, App, Abs, Prod}
 use Rattle.dk_model.specs.declared.stop.Stop.{Stop}
@@ -17,7 +16,6 @@ use Rattle.signature_log.specs.Reducers.{Keeps, Gives, GivesAnswer, Shows, OwnsP
 use Rattle.conversion.specs.declared.state.PoolReducer.{PoolReducer}
 use Rattle.conversion.specs.Given.{GivesTerm, GivesBool}
 use Rattle.conversion.specs.Owned.{owned, denoted}
-use Rattle.conversion.specs.Reducers.{Serves}
 
 pub pool_keeps : (old new : PoolReducer) → Extends old.pool new.pool → Keeps owned denoted old new
 pool_keeps old new e = record { own = λ t l. omega (arith, e.longer, l); same = λ t l. e.keeps t.0 l }

@@ -1,7 +1,6 @@
 -- The turns of the weak head form.
-use Rattle.std.proofs.Common.{List, [], ◌∷◌, ◌++◌, ◌≡◌, ◌-◌, ◌<◌, ◌≤◌, ℕ, zero, suc, Bool, true, false, Some, None, Result, refl, ap, ◌∙◌, sym as flip, subst, arith, length, take, map, max}
-use Rattle.std.specs.Prelude.{nat_lt, slice_get, if◌then◌else◌}
-use Rattle.std.proofs.lemmas.Bool.{ltb-false}
+use Rattle.std.proofs.Common.{List, [], ◌∷◌, ◌++◌, ◌≡◌, ◌-◌, ◌<◌, ℕ, zero, suc, true, false, Some, None, Result, refl, ap, ◌∙◌, sym as flip, subst, arith, length, take, drop, map}
+use Rattle.std.specs.Prelude.{slice_get}
 use Rattle.std.proofs.lemmas.List.{length-map, take-map}
 use Rattle.dk_model.specs.Trees.{Tree, symbol, apply, bare}
 use Rattle.dk_model.specs.Substitution.{substitute}
@@ -16,15 +15,19 @@ use Rattle.dk_model.specs.declared.stop.Stop.{Stop}
 use Rattle.dk_model.proofs.Turns.{whnf_contracts, whnf_stands, whnf_selects}
 use Rattle.shared_term.specs.declared.id.TermId.{TermId}
 use Rattle.shared_term.specs.Pools.{Node, term, Extends, Moves}
-use Rattle.conversion.specs.declared.matrix.Matrix.{Matrix}
+use Rattle.rule_match.specs.declared.matcher.Answer.{Answer}
+use Rattle.rule_match.specs.declared.matcher.Answer.TheVariants.{Begin}
+use Rattle.rule_match.specs.declared.matcher.Stage.{Stage}
+use Rattle.rule_match.specs.Columns.{plain, column}
+use Rattle.rule_match.specs.Remaining.{rows_left}
+use Rattle.rule_match.specs.Matching.{IsMatcher, IsAnswer, Stands, answered}
+use Rattle.rule_match.proofs.Opening.{arguments_wound, length_from_top, map_from_top, plain_arguments}
+use Rattle.conversion.specs.declared.selection.Selection.{Selection}
 use Rattle.conversion.specs.declared.turn.Turn.{Turn}
 use Rattle.conversion.specs.Machine.{behind, AreWithin, wound, from_top, unbound, is_application, is_stuck}
-use Rattle.conversion.specs.Matrix.{column, row, argument_column, AreColumns, AreAmong}
-use Rattle.conversion.specs.Pausing.{plain, IsMatrix}
-use Rattle.conversion.specs.Turning.{TurnsTo, rule_due, rewritten_by, HasColumnsOf, HasRowsOf}
+use Rattle.conversion.specs.Pausing.{IsSelection, StartsOver, selected}
+use Rattle.conversion.specs.Turning.{TurnsTo, rule_due, rewritten_by}
 use Rattle.conversion.proofs.Winding.{wound_tree, behind_pushed, behind_grown, within_popped}
-use Rattle.conversion.proofs.Opening.{arguments_wound, length_from_top, map_from_top, plain_arguments, arguments_within}
-use Rattle.conversion.proofs.Growing.{columns_taken}
 use Rattle.conversion.specs.Reducers.{unfolding_rule}
 use Rattle.conversion.proofs.Unfolding.{rule_unfolds, rule_stands}
 
@@ -135,40 +138,37 @@ module _ (S : PlainSignature) where
       rule_unfolds S n k b (behind old ids) e ∙ ap (λ t. whnf_of S n (wound t (behind old ids))) q
       ∙ ap (λ xs. whnf_of S n (wound (term new id) xs)) (flip (behind_grown old new ids x w))
 
--- the matrix of a symbol
+-- the selection of a symbol at its start
 
-width_more : (n : ℕ) (b : Bool) (l w : ℕ) → nat_lt n l ≡ b → w ≤ n → (if b then w else max l w) ≤ n
-width_more n true l w e h = h
-width_more n false l w e h = let q : l ≤ n = ltb-false n l e in omega (arith, q)
-
-pub width_within : (n : ℕ) (rs : List PlainRule) → width n rs ≤ n
-width_within n [] = omega arith
-width_within n (r ∷ rs) = width_more n (nat_lt n (length r.pats)) (length r.pats) (width n rs) refl (width_within n rs)
-
-module _ (S : PlainSignature) (ns : List Node) (ids : List TermId) (k : ℕ) (rules : List PlainRule) (m : Matrix) (is : rules ≡ rules_of S k) (named : m.symbol ≡ k) where
+module _ (S : PlainSignature) (ns : List Node) (ids : List TermId) (k : ℕ) (rules : List PlainRule) (s : Selection) (is : rules ≡ rules_of S k) (b : StartsOver rules k ids s) where
   counted : length ids ≡ length (arguments (wound (symbol k) (behind ns ids)))
   counted = flip (ap length (arguments_wound (symbol k) (behind ns ids) refl) ∙ length_from_top (behind ns ids) ∙ length-map ids (term ns))
 
-  columns_are : HasColumnsOf rules ids m → plain ns m.columns ≡ columns S k (wound (symbol k) (behind ns ids))
-  columns_are e =
-      ap (map (column ns)) e
+  columns_are : plain ns s.matcher.columns.items ≡ columns S k (wound (symbol k) (behind ns ids))
+  columns_are =
+      ap (map (column ns)) b.starts.columns
       ∙ plain_arguments ns 0 (take (width (length ids) rules) (from_top ids))
       ∙ ap (map unbound) (flip (take-map (term ns) (width (length ids) rules) (from_top ids)))
       ∙ ap (λ (l : List Tree). map unbound (take (width (length ids) rules) l)) (map_from_top (term ns) ids ∙ flip (arguments_wound (symbol k) (behind ns ids) refl))
       ∙ (λ i. map unbound (take (width (counted i) (is i)) (arguments (wound (symbol k) (behind ns ids)))))
 
-  rows_are : HasRowsOf rules ids m → map row m.rows.items ≡ rows S k (wound (symbol k) (behind ns ids))
-  rows_are e = e ∙ (λ i. rows_for (counted i) (width (counted i) (is i)) (is i))
+  rows_are : drop s.matcher.tried (rows_left rules s.matcher.left) ≡ rows S k (wound (symbol k) (behind ns ids))
+  rows_are = ap (λ (j : ℕ). drop j (rows_left rules s.matcher.left)) b.starts.tried ∙ b.starts.rows ∙ (λ i. rows_for (counted i) (width (counted i) (is i)) (is i))
 
-  pub symbol_matrix : (n : ℕ) → HasColumnsOf rules ids m → HasRowsOf rules ids m → rule_due S k (behind ns ids) n ≡ rewritten_by S ns m ids n
-  symbol_matrix n c r =
-      let p = columns_are c in
-      let q = rows_are r in
-      flip (λ i. bind (selection_of S n (p i) (q i)) (after_selection S (wound (symbol (named i)) (behind ns ids))))
+  named : rules ≡ rules_of S s.symbol
+  named = is ∙ ap (rules_of S) (flip b.named)
 
-  pub matrix_within : HasColumnsOf rules ids m → AreAmong rules m.rows.items → AreWithin (length ns) ids → IsMatrix S (length ns) m
-  matrix_within c a w = record {
-    columns = subst (λ (l : List _). AreColumns (length ns) l) (flip (c ∙ flip (take-map (argument_column 0) (width (length ids) rules) (from_top ids))))
-        (columns_taken (length ns) (width (length ids) rules) (map (argument_column 0) (from_top ids)) (arguments_within (length ns) 0 ids w));
-    rows = subst (λ (l : List PlainRule). AreAmong l m.rows.items) (is ∙ ap (rules_of S) (flip named)) a;
+  begins : (n : ℕ) → selected S ns s n ≡ selection_of S n (columns S k (wound (symbol k) (behind ns ids))) (rows S k (wound (symbol k) (behind ns ids)))
+  begins n =
+      (λ i. answered S (flip named i) ns s.matcher (b.starts.stage i) (b.answer i) n)
+      ∙ (λ i. selection_of S n (columns_are i) (rows_are i))
+
+  pub symbol_selects_from : (n : ℕ) → rule_due S k (behind ns ids) n ≡ rewritten_by S ns s ids n
+  symbol_selects_from n = flip (λ i. bind (begins n i) (after_selection S (wound (symbol (b.named i)) (behind ns ids))))
+
+  pub selection_within : AreWithin (length ns) ids → ((n : ℕ) → AreWithin n ids → IsMatcher n s.matcher) → IsSelection S (length ns) s
+  selection_within w h = record {
+    matcher = h (length ns) w;
+    answer = subst (λ (a : Answer). IsAnswer (length ns) s.matcher.stage a) (flip b.answer) (subst (λ (t : Stage). IsAnswer (length ns) t Begin) (flip b.starts.stage) tt);
+    stands = subst (λ (l : List PlainRule). Stands l s.matcher) named b.starts.stands;
   }

@@ -2,10 +2,8 @@ pub mod Machine
 pub mod Tables
 pub mod Reducers
 pub mod Rules
-pub mod Matrix
 pub mod Pausing
 pub mod Turning
-pub mod Selections
 pub mod Pending
 pub mod Waiting
 pub mod Spine

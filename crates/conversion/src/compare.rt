@@ -59,6 +59,7 @@ impl PoolReducer {
         ensures keeps { Extends self.old.pool self.new.pool }
         ensures serves { Serves (entries_of version.now) self.new }
         ensures spent { left.new ≤ left.old }
+        ensures turned { OnOk result (left.new < left.old) }
     {
         let mut work = Vec::new(self.alloc);
         let mut alike = self.compare_pair(version, t, u, &mut work, left)?;

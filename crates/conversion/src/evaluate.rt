@@ -8,19 +8,20 @@ ghost use Rattle.conversion.specs.Turning.{IsNext, next_rank, turn_rank};
 ghost use Rattle.conversion.specs.Clauses.{Evaluates, Turns};
 
 use crate::PoolReducer;
-use crate::gap::{Gap, closed};
 use crate::machine::{unwind, wind};
-use crate::matrix::Matrix;
+use crate::selection::Selection;
 use crate::state::Value;
 use crate::turn::Turn;
 use dk_model::{NoMemory, Stop};
+use rule_match::{Answer, Matcher};
 use shared_term::TermId;
 use signature_log::Version;
 
 /// A selection that waits for the value of a column.
 #[derive(Drop)]
 pub(crate) struct Pause<'v> {
-    pub(crate) gap: Gap<'v>,
+    pub(crate) symbol: u32,
+    pub(crate) matcher: Matcher<'v>,
     /// The arguments of its symbol, the first one on top.
     pub(crate) stack: Vec<TermId>,
     /// The column's term.
@@ -34,8 +35,8 @@ pub(crate) struct Pause<'v> {
 pub(crate) enum Next<'v> {
     /// A turn of this term.
     Whole(TermId),
-    /// The selection for the symbol of this matrix.
-    Selection(Matrix<'v>),
+    /// A selection, to go on.
+    Goes(Selection<'v>),
 }
 
 impl PoolReducer {
@@ -96,7 +97,7 @@ impl PoolReducer {
         loop {
             match self.turn(version, next, &mut stack, left)? {
                 Turn::Goes(term) => next = Next::Whole(term),
-                Turn::Selects(matrix) => next = Next::Selection(matrix),
+                Turn::Selects(selection) => next = Next::Goes(selection),
                 Turn::Asks(pause) => {
                     next = Next::Whole(pause.asked);
                     push_pause(&mut pauses, pause)?;
@@ -110,9 +111,11 @@ impl PoolReducer {
                             let units = pause.start - *left;
                             let key = pause.asked.number();
                             self.values.put(key, 0, Value { id: value, units });
-                            next = Next::Selection(closed(
-                                self.alloc, &self.pool, pause.gap, value,
-                            )?);
+                            next = Next::Goes(Selection {
+                                symbol: pause.symbol,
+                                matcher: pause.matcher,
+                                answer: Answer::Value(value),
+                            });
                         }
                     }
                 }
@@ -120,7 +123,7 @@ impl PoolReducer {
         }
     }
 
-    /// A turn of a term, or the selection of a symbol, whose turn took its unit already.
+    /// A turn of a term, or a selection for a symbol, whose turn took its unit already, up to its next answer.
     #[cycle(evaluation)]
     #[tactic(auto, using(crate::proofs::Winding::extends_none, crate::proofs::Winding::extends_more, crate::proofs::Serving::loaded_grown, crate::proofs::Serving::heads_grown, crate::proofs::Serving::values_grown, crate::proofs::Serving::normals_grown, crate::proofs::Serving::answers_grown))]
     fn turn<'v>(
@@ -147,7 +150,7 @@ impl PoolReducer {
                 let head = unwind(&self.pool, term, stack)?;
                 self.turn_head(version, head, stack, left)
             }
-            Next::Selection(matrix) => self.turn_matrix(version, matrix, stack, left),
+            Next::Goes(selection) => self.turn_selection(version, selection, stack, left),
         }
     }
 }

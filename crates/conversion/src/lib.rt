@@ -5,19 +5,15 @@
 #![tactic(auto)]
 
 mod brought;
-mod capture;
 mod compare;
 mod evaluate;
-mod gap;
 mod known;
 mod loading;
 mod machine;
-mod matrix;
 mod normal;
 mod reducer;
-mod row;
 mod rules;
-mod select;
+mod selection;
 mod state;
 mod table;
 mod turn;

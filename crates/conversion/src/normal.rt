@@ -61,6 +61,7 @@ impl PoolReducer {
         ensures keeps { Extends self.old.pool self.new.pool }
         ensures serves { Serves (entries_of version.now) self.new }
         ensures spent { left.new ≤ left.old }
+        ensures turned { OnOk result (left.new < left.old) }
     {
         let mut frames = Vec::new(self.alloc);
         let mut value = self.descend(version, whole, &mut frames, left)?;

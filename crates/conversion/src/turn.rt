@@ -1,27 +1,27 @@
 //! A turn of the weak head form: a contraction, a body, a rule of the head symbol, or the end.
-ghost use Rattle.std.specs.Prelude.{◌≡◌, ◌+◌, ◌≤◌, ◌<◌, IfOk, OnOk, false, length};
+ghost use Rattle.std.specs.Prelude.{◌≡◌, ℕ, ◌+◌, ◌≤◌, ◌<◌, IfOk, OnOk, false, length};
 ghost use Rattle.dk_model.specs.Trees.{symbol as symbol_term};
 ghost use Rattle.dk_model.specs.SymbolRules.{rules_of};
 ghost use Rattle.shared_term.specs.Pools.{term, Extends};
 ghost use Rattle.shared_term.specs.Changes.{AreCaptures};
 ghost use Rattle.signature_log.specs.Rows.{row_rules};
 ghost use Rattle.signature_log.specs.Versions.{entries_of};
+ghost use Rattle.rule_match.specs.Rows.{rule_at};
+ghost use Rattle.rule_match.specs.Matching.{IsMatcher, Stands, Awaits};
+ghost use Rattle.rule_match.specs.declared.matcher.Ask.TheVariants.{Evaluate};
 ghost use Rattle.conversion.specs.Machine.{AreWithin, is_application};
-ghost use Rattle.conversion.specs.Matrix.{IsListed, AreAmong};
-ghost use Rattle.conversion.specs.Pausing.{IsMatrix, IsGap};
+ghost use Rattle.conversion.specs.Pausing.{IsSelection, StartsOver};
 ghost use Rattle.conversion.specs.Reducers.{Serves};
-ghost use Rattle.conversion.specs.Turning.{turn_rank, HasColumnsOf, HasRowsOf, Waits};
-ghost use Rattle.conversion.specs.Clauses.{TurnsHead, TurnsSymbol, TurnsMatrix, PutsRight};
+ghost use Rattle.conversion.specs.Turning.{turn_rank, Waits};
+ghost use Rattle.conversion.specs.Clauses.{TurnsHead, TurnsSymbol, TurnsSelection, PutsRight, Normalises, Compares};
 
 use crate::PoolReducer;
 use crate::evaluate::Pause;
-use crate::gap::{Gap, closed};
-use crate::machine::first_columns;
-use crate::matrix::{Matrix, rows_for, width};
-use crate::rules::SymbolRule;
-use crate::select::Choice;
-use crate::state::Head;
+use crate::rules::rule_at;
+use crate::selection::{Selection, left_sides, told};
+use crate::state::{Head, deeper};
 use dk_model::{NoMemory, NodeOf, Stop};
+use rule_match::{Answer, Ask, Matcher};
 use shared_term::TermId;
 use signature_log::{Row, Rows, Version};
 use std::alloc::Global;
@@ -34,8 +34,8 @@ pub(crate) enum Turn<'v> {
     Goes(TermId),
     /// The head, which takes no turn.
     Stands(TermId),
-    /// The rules of the head symbol are selected from.
-    Selects(Matrix<'v>),
+    /// The rules of the head symbol are selected from: the selection begins, or goes on.
+    Selects(Selection<'v>),
     /// A selection that waits for the value of a column. It took the arguments with it.
     Asks(Pause<'v>),
 }
@@ -88,7 +88,7 @@ impl PoolReducer {
         }
     }
 
-    /// The turn of a symbol, whose unit is taken: its body, whatever rules stand behind it, or the matrix of its rules.
+    /// The turn of a symbol, whose unit is taken: its body, whatever rules stand behind it, or a selection from its rules.
     #[tactic(auto, using(crate::proofs::Winding::extends_none, crate::proofs::Winding::extends_more, crate::proofs::Serving::loaded_grown, crate::proofs::Serving::heads_grown, crate::proofs::Serving::values_grown, crate::proofs::Serving::normals_grown, crate::proofs::Serving::answers_grown, crate::proofs::Turning::symbol_stands))]
     fn turn_symbol<'v>(
         &mut self,
@@ -140,66 +140,141 @@ impl PoolReducer {
                 self.heads.put(symbol, 0, Head::Unfolds(body));
                 Ok(Turn::Goes(body))
             }
-            Some(Row::Rule(_)) => Ok(Turn::Selects(matrix_of(self.alloc, &rules, symbol, stack)?)),
+            Some(Row::Rule(_)) => {
+                Ok(Turn::Selects(selection_before(self.alloc, &rules, symbol, stack)?))
+            }
         }
     }
 
-    /// The turn of a matrix's symbol over the arguments of a stack, by a selection that goes on with the matrix.
+    /// A selection with its answer, up to what it asks for next, over the arguments of a stack: the turn of its symbol
+    /// where a rule is taken or none.
     #[cycle(evaluation)]
-    #[tactic(auto, using(crate::proofs::Winding::extends_none, crate::proofs::Winding::extends_more, crate::proofs::Serving::loaded_grown, crate::proofs::Serving::heads_grown, crate::proofs::Serving::values_grown, crate::proofs::Serving::normals_grown, crate::proofs::Serving::answers_grown, crate::proofs::Winding::within_grown, crate::proofs::Growing::captures_within, crate::proofs::Pausing::matrix_grown))]
-    pub(crate) fn turn_matrix<'v>(
+    #[tactic(auto, using(crate::proofs::Winding::extends_none, crate::proofs::Winding::extends_more, crate::proofs::Serving::loaded_grown, crate::proofs::Serving::heads_grown, crate::proofs::Serving::values_grown, crate::proofs::Serving::normals_grown, crate::proofs::Serving::answers_grown, crate::proofs::Winding::within_grown))]
+    pub(crate) fn turn_selection<'v>(
         &mut self,
         version: &'v Version,
-        matrix: Matrix<'v>,
+        selection: Selection<'v>,
         stack: &mut Vec<TermId>,
         left: &mut u64,
     ) -> Result<Turn<'v>, Stop>
-        requires matrix { IsMatrix (entries_of version.now) (length self.old.pool) matrix }
+        requires selection { IsSelection (entries_of version.now) (length self.old.pool) selection }
         requires stack { AreWithin (length self.old.pool) stack.old.items }
         requires serves { Serves (entries_of version.now) self.old }
-        ensures gives { TurnsMatrix version.now self.old matrix.entry stack.old left.old result self.new
-            stack.new left.new }
+        ensures gives { TurnsSelection version.now self.old selection.entry stack.old left.old result
+            self.new stack.new left.new }
         ensures stack { OnOk result (AreWithin (length self.new.pool) stack.new.items) }
         ensures keeps { Extends self.old.pool self.new.pool }
         ensures serves { Serves (entries_of version.now) self.new }
         ensures spent { left.new ≤ left.old }
         ensures turned { IfOk result (λ turn. left.new + turn_rank turn ≤ left.old) }
     {
-        let symbol = matrix.symbol;
-        match self.select(version, matrix, left)? {
-            Choice::Taken(captures, rule) => {
-                let next = self.put_right(version, symbol, captures.as_slice(), &rule, stack)?;
+        let symbol = selection.symbol;
+        let mut matcher = selection.matcher;
+        let ask = matcher.next(&mut self.pool, selection.answer)?;
+        match ask {
+            Ask::Take(at, captures) => {
+                let next = self.put_right(version, symbol, at, captures.as_slice(), stack)?;
                 Ok(Turn::Goes(next))
             }
-            Choice::Nothing => {
+            Ask::Nothing => {
                 let head = self.pool.intern(NodeOf::Sym(symbol))?;
                 Ok(Turn::Stands(head))
             }
-            Choice::Asks(gap, term) => self.ask(version, gap, term, stack, left),
+            Ask::Evaluate(column) => self.ask(version, symbol, matcher, column, stack, left),
+            Ask::Escape(part) => {
+                let normal = self.normalise_inside(version, part, left)?;
+                Ok(Turn::Selects(Selection {
+                    symbol,
+                    matcher,
+                    answer: Answer::Normal(normal),
+                }))
+            }
+            Ask::Same(first, second) => {
+                let alike = self.compare_inside(version, first, second, left)?;
+                Ok(Turn::Selects(Selection {
+                    symbol,
+                    matcher,
+                    answer: told(alike),
+                }))
+            }
         }
     }
 
+    /// The normal form that a selection asks for, where the stack has room for one more inside others.
+    #[cycle(evaluation)]
+    #[tactic(auto, using(crate::proofs::Winding::extends_none, crate::proofs::Serving::serves_again))]
+    fn normalise_inside(
+        &mut self,
+        version: &Version,
+        part: TermId,
+        left: &mut u64,
+    ) -> Result<TermId, Stop>
+        requires part { part.0 < length self.old.pool }
+        requires serves { Serves (entries_of version.now) self.old }
+        ensures gives { Normalises version.now self.old part left.old result self.new left.new }
+        ensures keeps { Extends self.old.pool self.new.pool }
+        ensures serves { Serves (entries_of version.now) self.new }
+        ensures spent { left.new ≤ left.old }
+        ensures turned { OnOk result (left.new < left.old) }
+    {
+        let nested = self.nested;
+        self.nested = deeper(nested)?;
+        let normal = self.normalise(version, part, left);
+        self.nested = nested;
+        normal
+    }
+
+    /// The comparison that a selection asks for, where the stack has room for one more inside others.
+    #[cycle(evaluation)]
+    #[tactic(auto, using(crate::proofs::Winding::extends_none, crate::proofs::Serving::serves_again))]
+    fn compare_inside(
+        &mut self,
+        version: &Version,
+        first: TermId,
+        second: TermId,
+        left: &mut u64,
+    ) -> Result<bool, Stop>
+        requires first { first.0 < length self.old.pool }
+        requires second { second.0 < length self.old.pool }
+        requires serves { Serves (entries_of version.now) self.old }
+        ensures gives { Compares version.now self.old first second left.old result left.new }
+        ensures keeps { Extends self.old.pool self.new.pool }
+        ensures serves { Serves (entries_of version.now) self.new }
+        ensures spent { left.new ≤ left.old }
+        ensures turned { OnOk result (left.new < left.old) }
+    {
+        let nested = self.nested;
+        self.nested = deeper(nested)?;
+        let alike = self.compare(version, first, second, left);
+        self.nested = nested;
+        alike
+    }
+
     /// The right side of a rule that was taken, in the place of the arguments of its patterns.
-    #[tactic(auto, using(crate::proofs::Winding::extends_none, crate::proofs::Winding::extends_more, crate::proofs::Serving::loaded_grown, crate::proofs::Serving::heads_grown, crate::proofs::Serving::values_grown, crate::proofs::Serving::normals_grown, crate::proofs::Serving::answers_grown, crate::proofs::Winding::within_grown, crate::proofs::Growing::captures_within, crate::proofs::Growing::within_taken))]
+    #[tactic(auto, using(crate::proofs::Winding::extends_none, crate::proofs::Winding::extends_more, crate::proofs::Serving::loaded_grown, crate::proofs::Serving::heads_grown, crate::proofs::Serving::values_grown, crate::proofs::Serving::normals_grown, crate::proofs::Serving::answers_grown, crate::proofs::Winding::within_grown, crate::proofs::Winding::within_taken, rule_match::proofs::Growing::captures_within))]
     fn put_right(
         &mut self,
         version: &Version,
         symbol: u32,
+        at: usize,
         captures: &[Option<TermId>],
-        rule: &SymbolRule,
         stack: &mut Vec<TermId>,
     ) -> Result<TermId, NoMemory>
-        requires rule { IsListed (rules_of (entries_of version.now) symbol) rule.now }
+        requires place { at < length (rules_of (entries_of version.now) symbol) }
         requires captures { AreCaptures (length self.old.pool) captures.now }
         requires stack { AreWithin (length self.old.pool) stack.old.items }
         requires serves { Serves (entries_of version.now) self.old }
-        ensures puts { IfOk result (λ t. PutsRight self.old captures.now rule.now stack.old self.new t
-            stack.new) }
+        ensures puts { IfOk result (λ t. PutsRight self.old captures.now
+            (rule_at (rules_of (entries_of version.now) symbol) at) stack.old self.new t stack.new) }
         ensures stack { AreWithin (length self.new.pool) stack.new.items }
         ensures keeps { Extends self.old.pool self.new.pool }
         ensures serves { Serves (entries_of version.now) self.new }
     {
-        let right = self.brought(version, symbol, rule.at)?;
+        let Ok(at) = u32::try_from(at) else {
+            return Err(NoMemory);
+        };
+        let rule = rule_at(&version.rules_of(symbol), symbol, at);
+        let right = self.brought(version, symbol, at)?;
         let next = self.pool.filled(right, captures)?;
         let kept = stack.len().saturating_sub(rule.pattern_count());
         stack.truncate(kept);
@@ -207,41 +282,47 @@ impl PoolReducer {
     }
 
     /// The selection once the column that it asks for has its value, where that is remembered; else it waits.
-    #[tactic(auto, using(crate::proofs::Selecting::ask_ends))]
     fn ask<'v>(
         &self,
         version: &Version,
-        gap: Gap<'v>,
-        term: TermId,
+        symbol: u32,
+        matcher: Matcher<'v>,
+        column: usize,
         stack: &mut Vec<TermId>,
         left: &mut u64,
     ) -> Result<Turn<'v>, Stop>
-        requires gap { IsGap (entries_of version.now) (length self.now.pool) gap }
-        requires term { term.0 < length self.now.pool }
+        requires matcher { IsMatcher (length self.now.pool) matcher }
+        requires stands { Stands (rules_of (entries_of version.now) symbol) matcher }
+        requires awaits { Awaits matcher.stage (Evaluate column) }
         requires stack { AreWithin (length self.now.pool) stack.old.items }
         requires serves { Serves (entries_of version.now) self.now }
-        ensures gives { Waits (entries_of version.now) self.now.pool gap.entry term stack.old left.old
-            result stack.new left.new }
+        ensures gives { Waits (entries_of version.now) self.now.pool symbol matcher.entry column
+            stack.old left.old result stack.new left.new }
         ensures stack { OnOk result (AreWithin (length self.now.pool) stack.new.items) }
         ensures spent { left.new ≤ left.old }
         ensures turned { IfOk result (λ turn. left.new + turn_rank turn ≤ left.old) }
     {
-        match self.known(version, term) {
+        let asked = matcher.at(column);
+        match self.known(version, asked) {
             Some(found) => {
                 if *left < found.units {
                     *left = 0;
                     return Err(Stop::Ended);
                 }
                 *left -= found.units;
-                let matrix = closed(self.alloc, &self.pool, gap, found.id)?;
-                Ok(Turn::Selects(matrix))
+                Ok(Turn::Selects(Selection {
+                    symbol,
+                    matcher,
+                    answer: Answer::Value(found.id),
+                }))
             }
             None => {
                 let stack = mem::replace(stack, Vec::new(self.alloc));
                 Ok(Turn::Asks(Pause {
-                    gap,
+                    symbol,
+                    matcher,
                     stack,
-                    asked: term,
+                    asked,
                     start: *left,
                 }))
             }
@@ -249,25 +330,21 @@ impl PoolReducer {
     }
 }
 
-/// The matrix of a symbol before the arguments of a stack.
-#[tactic(auto, using(crate::proofs::Turning::width_within))]
-fn matrix_of<'v>(
+/// The selection for a symbol before the arguments of a stack, at its start.
+fn selection_before<'v>(
     alloc: Global,
     rules: &Rows<'v>,
     symbol: u32,
     stack: &[TermId],
-) -> Result<Matrix<'v>, NoMemory>
-    ensures symbol { IfOk result (λ m. m.symbol ≡ symbol) }
-    ensures columns { IfOk result (HasColumnsOf (row_rules symbol rules.now) stack.now) }
-    ensures rows { IfOk result (HasRowsOf (row_rules symbol rules.now) stack.now) }
-    ensures among { IfOk result (λ m. AreAmong (row_rules symbol rules.now) m.rows.items) }
+) -> Result<Selection<'v>, NoMemory>
+    ensures starts { IfOk result (λ s. StartsOver (row_rules symbol rules.now) symbol stack.now s) }
+    ensures within { IfOk result (λ s. (n : ℕ) → AreWithin n stack.now → IsMatcher n s.matcher) }
 {
-    let width = width(stack.len(), rules, symbol);
-    let columns = first_columns(alloc, width, stack)?;
-    let rows = rows_for(alloc, stack.len(), width, rules, symbol)?;
-    Ok(Matrix {
+    let sides = left_sides(alloc, rules, symbol)?;
+    let matcher = Matcher::walk(alloc, sides, stack)?;
+    Ok(Selection {
         symbol,
-        columns,
-        rows,
+        matcher,
+        answer: Answer::Begin,
     })
 }

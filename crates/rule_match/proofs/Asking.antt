@@ -42,18 +42,18 @@ module _ (rules : List PlainRule) (ns : List PoolNode) (m : Matcher) (s : Stands
   cols = plain ns m.columns.items
 
   pub no_row : slice_get rows m.tried ≡ None → Asks rules ns (record m { stage = Ends }) Nothing (λ S. selects S rules ns m)
-  no_row e = record { stands = record { tree = s.tree; left = s.left }; asks = λ S n. select_none S n cols rows m.tried e }
+  no_row e = record { stands = record { source = s.source; left = s.left }; asks = λ S n. select_none S n cols rows m.tried e }
 
   module _ (r : Row) (there : slice_get rows m.tried ≡ Some (row rules r)) where
     pub no_column : (at : ℕ) → rigid_at (map plain_cell r.cells.items) ≡ Some at → length m.columns.items ≤ at → Asks rules ns (record m { stage = Ends }) Nothing (λ S. selects S rules ns m)
     no_column at e l = record {
-      stands = record { tree = s.tree; left = s.left };
+      stands = record { source = s.source; left = s.left };
       asks = λ S n. select_missing S n cols rows m.tried (row rules r) there at e (past cols at (let q : length cols ≡ length m.columns.items = length-map m.columns.items (column ns) in omega (arith, q, l)));
     }
 
     pub asks_value : (at : ℕ) → rigid_at (map plain_cell r.cells.items) ≡ Some at → at < length m.columns.items → Asks rules ns (record m { stage = Evaluates at }) (Evaluate at) (λ S. selects S rules ns m)
     asks_value at e l = record {
-      stands = record { tree = s.tree; left = s.left };
+      stands = record { source = s.source; left = s.left };
       asks = λ S n. select_rigid S n cols rows m.tried (row rules r) there at e (column_at cols at)
           (column_there cols at (let q : length cols ≡ length m.columns.items = length-map m.columns.items (column ns) in omega (arith, q, l)));
     }

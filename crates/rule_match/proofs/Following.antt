@@ -1,6 +1,7 @@
 -- A test gone through: the next node has the rows that are left.
-use Rattle.std.proofs.Common.{List, [], ◌∷◌, ◌++◌, ◌≡◌, ◌≤◌, ◌+◌, ℕ, zero, suc, max, nat_lt, Option, Some, None, Bool, true, false, refl, ap, ◌∙◌, sym as flip, subst, arith, map, drop, take, length, append_assoc}
-use Rattle.std.specs.Prelude.{slice_get, IfSome, if◌then◌else◌}
+use Rattle.std.proofs.Common.{List, [], ◌∷◌, ◌++◌, ◌≡◌, ◌≤◌, ◌<◌, ◌+◌, ℕ, zero, suc, max, nat_lt, Option, Some, None, Bool, true, false, refl, ap, ◌∙◌, sym as flip, subst, arith, map, drop, take, length, append_assoc}
+use Rattle.std.specs.Prelude.{slice_get, IfSome, IfOk, Result, Ok, Err, if◌then◌else◌}
+use Rattle.dk_model.specs.declared.memory.NoMemory.{NoMemory}
 use Rattle.std.specs.Borrow.{Bor}
 use Rattle.std.specs.Option.{option_copied}
 use Rattle.std.proofs.lemmas.List.{drop-map, take-map, map-append, take-take}
@@ -21,13 +22,19 @@ use Rattle.rule_match.specs.declared.value.Column.{Column}
 use Rattle.rule_match.specs.declared.left.Left.{Left}
 use Rattle.rule_match.specs.Keys.{key_of, rows_by}
 use Rattle.rule_match.specs.Rows.{row, kept_row, rule_at}
-use Rattle.rule_match.specs.Sides.{AreSides, widest}
+use Rattle.rule_match.specs.declared.walk.LeftSide.{LeftSide}
+use Rattle.rule_match.specs.Sides.{AreSides, AreLeftSides, widest}
 use Rattle.rule_match.specs.Branches.{HasBranch, HasRows, AreBranches, IsNode, AreNodes}
 use Rattle.rule_match.specs.Trees.{IsTree}
 use Rattle.rule_match.specs.Columns.{plain, column}
 use Rattle.rule_match.specs.Trying.{column_at}
 use Rattle.rule_match.specs.Standing.{with_value}
-use Rattle.rule_match.specs.Remaining.{rows_left, IsLeft, Follows, GoesOn, IsRoot}
+use Rattle.rule_match.specs.declared.left.Source.{Source}
+use Rattle.rule_match.specs.declared.left.Source.TheVariants.{Tree as InTree, Sides}
+use Rattle.rule_match.specs.declared.left.Left.TheVariants.{Kept, Whole, Walked}
+use Rattle.std.specs.declared.vec.Vec.{Vec}
+use Rattle.std.specs.declared.alloc.Global.{Global}
+use Rattle.rule_match.specs.Remaining.{rows_left, IsLeft, IsLeftOf, IsSource, HasVariables, Follows, GoesOn, IsRoot}
 use Rattle.rule_match.specs.Columns.{depth_at, value_put}
 use Rattle.rule_match.proofs.Keying.{rows_by_head}
 use Rattle.rule_match.proofs.Siding.{width_full, rows_full}
@@ -65,12 +72,53 @@ root_follows rules t n place it r e =
     }
 
 -- rows that are worked out
-pub walked_on : (rules : List PlainRule) (t : Compiled) (old : Left) (rows kept : List Row) (tried : ℕ) (key : Key) (at : ℕ) (left : Left) → map (row rules) rows ≡ rows_left rules old
-    → map (row rules) kept ≡ rows_by key at (map (row rules) (drop tried rows)) → rows_left rules left ≡ map (row rules) kept → IsLeft rules t left → GoesOn rules t old tried key at left
-walked_on rules t old rows kept tried key at left e k l is = record {
-  rows = l ∙ k ∙ ap (rows_by key at) (flip (drop-map (row rules) tried rows) ∙ ap (drop tried) e);
-  is = is;
-}
+
+walked_on : (rules : List PlainRule) (old : Left) (rows rest kept : List Row) (tried : ℕ) (key : Key) (at : ℕ) → map (row rules) rows ≡ rows_left rules old → rest ≡ drop tried rows
+    → map (row rules) kept ≡ rows_by key at (map (row rules) rest) → map (row rules) kept ≡ rows_by key at (drop tried (rows_left rules old))
+walked_on rules old rows rest kept tried key at e d k =
+    k ∙ ap (λ (l : List Row). rows_by key at (map (row rules) l)) d ∙ ap (rows_by key at) (flip (drop-map (row rules) tried rows) ∙ ap (drop tried) e)
+
+pub walked_result : (s : Source) (old : Left) (rows rest : List Row) (tried : ℕ) (key : Key) (at : ℕ) (result : Result (Vec Row Global) NoMemory) → ((rules : List PlainRule) → map (row rules) rows ≡ rows_left rules old)
+    → rest ≡ drop tried rows → IfOk result (λ kept. (rules : List PlainRule) → map (row rules) kept.items ≡ rows_by key at (map (row rules) rest))
+    → IfOk result (λ kept. (rules : List PlainRule) → IsSource rules s → IsLeftOf rules s old → map (row rules) kept.items ≡ rows_by key at (drop tried (rows_left rules old)))
+walked_result s old rows rest tried key at (Ok kept) e d h = λ rules i j. walked_on rules old rows rest kept.items tried key at (e rules) d (h rules)
+walked_result s old rows rest tried key at (Err stop) e d h = tt
+
+pub whole_result : (s : Source) (old : Left) (w tried : ℕ) (key : Key) (at : ℕ) (result : Result (Vec Row Global) NoMemory) → old ≡ Whole w
+    → IfOk result (λ kept. (rules : List PlainRule) → IsSource rules s → IsLeftOf rules s (Whole w) → map (row rules) kept.items ≡ rows_by key at (drop tried (rows_for w w rules)))
+    → IfOk result (λ kept. (rules : List PlainRule) → IsSource rules s → IsLeftOf rules s old → map (row rules) kept.items ≡ rows_by key at (drop tried (rows_left rules old)))
+whole_result s old w tried key at (Ok kept) e h = λ rules i j.
+    h rules i (subst (λ (l : Left). IsLeftOf rules s l) e j) ∙ ap (λ (l : Left). rows_by key at (drop tried (rows_left rules l))) (flip e)
+whole_result s old w tried key at (Err stop) e h = tt
+
+-- all rows of a source that is no tree
+pub whole_sides : (s : Source) (v : Vec LeftSide Global) (w tried : ℕ) (key : Key) (at : ℕ) (result : Result (Vec Row Global) NoMemory) → s ≡ Sides v
+    → IfOk result (λ kept. (rules : List PlainRule) → AreLeftSides rules v.items → widest rules ≤ w → map (row rules) kept.items ≡ rows_by key at (drop tried (rows_for w w rules)))
+    → IfOk result (λ kept. (rules : List PlainRule) → IsSource rules s → IsLeftOf rules s (Whole w) → map (row rules) kept.items ≡ rows_by key at (drop tried (rows_for w w rules)))
+whole_sides s v w tried key at (Ok kept) e h = λ rules i j.
+    h rules (subst (λ (x : Source). IsSource rules x) e i) (subst (λ (x : Source). IsLeftOf rules x (Whole w)) e j)
+whole_sides s v w tried key at (Err stop) e h = tt
+
+pub no_whole : (rules : List PlainRule) (s : Source) (t : Bor Compiled) (w : ℕ) → s ≡ InTree t → IsLeftOf rules s (Whole w) → ⊥
+no_whole rules s t w e h = subst (λ (x : Source). IsLeftOf rules x (Whole w)) e h
+
+walked_is : (rules : List PlainRule) (s : Source) (v : Vec Row Global) → IsLeftOf rules s (Walked v)
+walked_is rules (InTree t) v = tt
+walked_is rules (Sides w) v = tt
+
+pub walked_goes : (rules : List PlainRule) (s : Source) (old : Left) (tried : ℕ) (key : Key) (at : ℕ) (v : Vec Row Global) → map (row rules) v.items ≡ rows_by key at (drop tried (rows_left rules old))
+    → GoesOn rules s old tried key at (Walked v)
+walked_goes rules s old tried key at v e = record { rows = e; is = walked_is rules s v }
+
+pub node_goes : (rules : List PlainRule) (s : Source) (old : Left) (tried : ℕ) (key : Key) (at : ℕ) (t : Bor Compiled) (n child : Bor Node) → s ≡ InTree t → old ≡ Kept n
+    → (IsTree rules t.now → IsNode rules t.now.nodes.items n.now → Follows rules t.now n.now tried key at child.now) → IsSource rules s → IsLeftOf rules s old → GoesOn rules s old tried key at (Kept child)
+node_goes rules s old tried key at t n child e q f h k =
+    let k1 : IsLeftOf rules s (Kept n) = subst (λ (l : Left). IsLeftOf rules s l) q k in
+    let h1 : IsTree rules t.now = subst (λ (x : Source). IsSource rules x) e h in
+    let g = f h1 (subst (λ (x : Source). IsLeftOf rules x (Kept n)) e k1) in record {
+      rows = g.rows ∙ ap (λ (l : Left). rows_by key at (drop tried (rows_left rules l))) (flip q);
+      is = subst (λ (x : Source). IsLeftOf rules x (Kept child)) (flip e) g.is;
+    }
 
 -- the start
 
@@ -104,7 +152,7 @@ depth_there ns [] at = refl
 depth_there ns (c ∷ cs) zero = refl
 depth_there ns (c ∷ cs) (suc at) = depth_there ns cs at
 
-pub value_there : (S : PlainSignature) (rules : List PlainRule) (t : Compiled) (ns : List PoolNode) (cs : List Column) (at depth : ℕ) (v : TermId) (parts new : List Column) (left next : Left) (tried : ℕ) (key : Key) (n : ℕ)
+pub value_there : (S : PlainSignature) (rules : List PlainRule) (t : Source) (ns : List PoolNode) (cs : List Column) (at depth : ℕ) (v : TermId) (parts new : List Column) (left next : Left) (tried : ℕ) (key : Key) (n : ℕ)
     → depth ≡ depth_at cs at → plain ns parts ≡ opened_columns depth (term ns v) → key ≡ key_of (term ns v) → GoesOn rules t left tried key at next → new ≡ value_put cs at v parts
     → with_value S (plain ns cs) (drop tried (rows_left rules left)) at (column_at (plain ns cs) at).depth (term ns v) n ≡ selection_of S n (plain ns new) (rows_left rules next)
 value_there S rules t ns cs at depth v parts new left next tried key n d o k g e =
@@ -129,19 +177,13 @@ pub root_found : (t : Compiled) (place : ℕ) (o : Option (Bor Node)) → option
 root_found t place None e q = tt
 root_found t place (Some n) e q = λ rs it. root_follows rs t n.now place it q (flip e)
 
-pub vars_there : (rules : List PlainRule) (ss : List Side) (i : ℕ) (s : Side) → AreSides rules ss → slice_get ss i ≡ Some s → s.vars ≡ (rule_at rules i).vars
-vars_there [] [] i s h e = cc
-vars_there [] (t ∷ ss) i s h e = absurd h
-vars_there (r ∷ rs) [] i s h e = absurd h
-vars_there (r ∷ rs) (t ∷ ss) zero s h e = let q : t ≡ s = cc in ap (λ (x : Side). x.vars) (flip q) ∙ h.0.vars
-vars_there (r ∷ rs) (t ∷ ss) (suc i) s h e = vars_there rs ss i s h.1 e
-
-pub vars_missing : (rules : List PlainRule) (ss : List Side) (i : ℕ) → AreSides rules ss → slice_get ss i ≡ None → 0 ≡ (rule_at rules i).vars
-vars_missing [] [] i h e = refl
-vars_missing [] (t ∷ ss) i h e = absurd h
-vars_missing (r ∷ rs) [] i h e = absurd h
-vars_missing (r ∷ rs) (t ∷ ss) zero h e = cc
-vars_missing (r ∷ rs) (t ∷ ss) (suc i) h e = vars_missing rs ss i h.1 e
+pub has_variables : (rules : List PlainRule) (ss : List Side) (i : ℕ) (s : Side) → AreSides rules ss → slice_get ss i ≡ Some s → HasVariables rules i s.vars
+has_variables [] [] i s h e = cc
+has_variables [] (t ∷ ss) i s h e = absurd h
+has_variables (r ∷ rs) [] i s h e = absurd h
+has_variables (r ∷ rs) (t ∷ ss) zero s h e = let q : t ≡ s = cc in record { there = omega arith; is = ap (λ (x : Side). x.vars) (flip q) ∙ h.0.vars }
+has_variables (r ∷ rs) (t ∷ ss) (suc i) s h e =
+    let v = has_variables rs ss i s h.1 e in record { there = let l : i < length rs = v.there in omega (arith, l); is = v.is }
 
 pub depth_got : (cs : List Column) (at : ℕ) (c : Column) → slice_get cs at ≡ Some c → c.depth ≡ depth_at cs at
 depth_got [] at c e = cc

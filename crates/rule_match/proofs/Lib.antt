@@ -1,14 +1,16 @@
 mod Refining
 mod Compiling
 mod Siding
+pub mod Walking
 mod Winding
-mod Opening
+pub mod Opening
 mod Capturing
-mod Growing
+pub mod Growing
 mod Through
 mod Keying
 mod Trying
 mod Following
 mod Matching
 mod Asking
-mod Telling
+pub mod Telling
+pub mod Larger

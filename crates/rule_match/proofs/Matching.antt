@@ -10,7 +10,6 @@ use Rattle.dk_model.specs.Selection.{CellTrial, RowTrial, Selected, cell_capture
 use Rattle.dk_model.specs.Evaluation.{whnf_of, comparison_of, normal_of}
 use Rattle.dk_model.specs.Equations.{selection_of}
 use Rattle.dk_model.proofs.Turns.{selection_is}
-use Rattle.std.specs.Borrow.{Bor}
 use Rattle.std.specs.Prelude.{IfOk, Result, Ok, Err}
 use Rattle.dk_model.specs.declared.memory.NoMemory.{NoMemory}
 use Rattle.shared_term.specs.declared.id.TermId.{TermId}
@@ -20,16 +19,12 @@ use Rattle.rule_match.specs.declared.cell.Cell.{Cell as HeldCell}
 use Rattle.rule_match.specs.declared.value.Column.{Column as HeldColumn}
 use Rattle.rule_match.specs.declared.row.NextGuard.{NextGuard}
 use Rattle.rule_match.specs.declared.row.Passage.{Passage}
-use Rattle.rule_match.specs.declared.tree.Tree.{Tree as Compiled}
 use Rattle.rule_match.specs.declared.matcher.Ask.{Ask}
-use Rattle.rule_match.specs.declared.left.Left.{Left}
 use Rattle.rule_match.specs.declared.matcher.Matcher.{Matcher}
 use Rattle.rule_match.specs.Rows.{plain_cell}
 use Rattle.rule_match.specs.Columns.{plain, column, AreColumns}
-use Rattle.rule_match.specs.Trees.{IsTree}
 use Rattle.rule_match.specs.Trying.{column_at, guards_due as next_due, row_due, GuardsPass, RowPasses}
 use Rattle.rule_match.specs.Matching.{Stands, Asks}
-use Rattle.rule_match.specs.Remaining.{IsLeft}
 use Rattle.rule_match.proofs.Growing.{columns_grown, captures_grown}
 use Rattle.rule_match.proofs.Through.{at_cell, set_again}
 use Rattle.rule_match.specs.Standing.{put_before, passed, after_cell, cell_normal, cell_compared, others_in, guards_from, guard_compared, finished, decided, capturing, guarding, with_value}
@@ -242,12 +237,6 @@ pub term_there : (ns : List PoolNode) (cols : List HeldColumn) (i : ℕ) (c : He
 term_there ns [] i c e = cc
 term_there ns (d ∷ cols) zero c e = let q : d ≡ c = cc in ap (column ns) q
 term_there ns (d ∷ cols) (suc i) c e = term_there ns cols i c e
-
-pub same_stands : (rules : List PlainRule) (m m' : Matcher) → m'.tree ≡ m.tree → m'.left ≡ m.left → Stands rules m → Stands rules m'
-same_stands rules m m' e q s = record {
-  tree = subst (λ (t : Bor Compiled). IsTree rules t.now) (flip e) s.tree;
-  left = subst (λ (l : Left). IsLeft rules m'.tree.now l) (flip q) (subst (λ (t : Bor Compiled). IsLeft rules t.now m.left) (flip e) s.left);
-}
 
 pub term_in_column : (ns : List PoolNode) (cols : List HeldColumn) (i : ℕ) (c : HeldColumn) → slice_get cols i ≡ Some c → term ns c.term ≡ (column_at (plain ns cols) i).term
 term_in_column ns cols i c e = ap (λ (k : Column). k.term) (flip (term_there ns cols i c e))

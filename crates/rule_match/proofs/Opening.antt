@@ -1,6 +1,7 @@
 -- The arguments of a value as a stack and as columns.
-use Rattle.std.proofs.Common.{List, [], ◌∷◌, ◌++◌, ◌≡◌, ◌+◌, ◌<◌, ℕ, zero, suc, true, false, refl, ap, ◌∙◌, sym as flip, subst, arith, length, take, map, get_or, length-append, append_assoc}
-use Rattle.std.proofs.lemmas.List.{map-append, length-map}
+use Rattle.std.proofs.Common.{List, [], ◌∷◌, ◌++◌, ◌≡◌, ◌+◌, ◌<◌, ℕ, zero, suc, Some, true, false, refl, ap, ◌∙◌, sym as flip, subst, arith, length, take, map, get_or, length-append, append_assoc}
+use Rattle.std.specs.Prelude.{slice_get}
+use Rattle.std.proofs.lemmas.List.{map-append, length-map, take-map}
 use Rattle.dk_model.specs.Trees.{Tree, star, kind, symbol, variable, rule_variable, apply, bare, annotated, product}
 use Rattle.dk_model.specs.Spines.{head, arguments}
 use Rattle.dk_model.specs.Matrix.{is_bare}
@@ -114,12 +115,39 @@ key_else (bare b) e = cc
 key_else (annotated n b) e = refl
 key_else (product a b) e = refl
 
-pub argument_pushed : (cs : List Column) (ids : List TermId) (i : ℕ) (a : TermId) → i < length ids → a ≡ get_or ids i a → cs ≡ map (argument_column 0) (take i ids)
-    → cs ++ (argument_column 0 a ∷ []) ≡ map (argument_column 0) (take (i + 1) ids)
-argument_pushed cs ids i a l e h =
-    ap (λ r. r ++ (argument_column 0 a ∷ [])) h ∙ flip (ap (map (argument_column 0)) (take_next ids i a l e) ∙ map-append (argument_column 0) (take i ids) (a ∷ []))
+-- the first arguments of a stack
 
-pub first_within : (n w : ℕ) (ids : List TermId) → AreWithin n ids → AreColumns n (map (argument_column 0) (take w ids))
-first_within n zero ids h = tt
-first_within n (suc w) [] h = tt
-first_within n (suc w) (i ∷ ids) h = (h.0, first_within n w ids h.1)
+get_left : {A : Type 0} (xs ys : List A) (k : ℕ) (y : A) → slice_get xs k ≡ Some y → slice_get (xs ++ ys) k ≡ Some y
+get_left [] ys k y e = cc
+get_left (x ∷ xs) ys zero y e = e
+get_left (x ∷ xs) ys (suc k) y e = get_left xs ys k y e
+
+get_last : {A : Type 0} (xs : List A) (y : A) (k : ℕ) → k ≡ length xs → slice_get (xs ++ (y ∷ [])) k ≡ Some y
+get_last [] y k e = rw e refl
+get_last (x ∷ xs) y zero e = absurd (omega (arith, e))
+get_last (x ∷ xs) y (suc k) e = get_last xs y k (omega arith)
+
+get_from_top : {A : Type 0} (xs : List A) (i k : ℕ) (d : A) → i + k + 1 ≡ length xs → slice_get (from_top xs) k ≡ Some (get_or xs i d)
+get_from_top [] i k d e = absurd (omega arith)
+get_from_top (x ∷ xs) zero k d e = get_last (from_top xs) x k (let h : length (from_top xs) ≡ length xs = length_from_top xs in omega (arith, h))
+get_from_top (x ∷ xs) (suc i) k d e = get_left (from_top xs) (x ∷ []) k (get_or xs i d) (get_from_top xs i k d (omega arith))
+
+take_more : {A : Type 0} (xs : List A) (k : ℕ) (x : A) → slice_get xs k ≡ Some x → take (suc k) xs ≡ take k xs ++ (x ∷ [])
+take_more [] k x e = cc
+take_more (y ∷ xs) zero x e = let q : y ≡ x = cc in ap (λ z. z ∷ []) q
+take_more (y ∷ xs) (suc k) x e = ap (λ l. y ∷ l) (take_more xs k x e)
+
+pub column_pushed : (cs : List Column) (ids : List TermId) (i k : ℕ) (a d : TermId) → i + k + 1 ≡ length ids → a ≡ get_or ids i d
+    → cs ≡ map (argument_column 0) (take k (from_top ids)) → cs ++ (argument_column 0 a ∷ []) ≡ map (argument_column 0) (take (suc k) (from_top ids))
+column_pushed cs ids i k a d e r q =
+    ap (λ l. l ++ (argument_column 0 a ∷ [])) q ∙ ap (λ x. map (argument_column 0) (take k (from_top ids)) ++ (argument_column 0 x ∷ [])) r
+    ∙ flip (ap (map (argument_column 0)) (take_more (from_top ids) k (get_or ids i d) (get_from_top ids i k d e)) ∙ map-append (argument_column 0) (take k (from_top ids)) (get_or ids i d ∷ []))
+
+columns_of_first : (n w : ℕ) (cs : List Column) → AreColumns n cs → AreColumns n (take w cs)
+columns_of_first n zero cs h = tt
+columns_of_first n (suc w) [] h = tt
+columns_of_first n (suc w) (c ∷ cs) h = (h.0, columns_of_first n w cs h.1)
+
+pub first_within : (n w : ℕ) (ids : List TermId) → AreWithin n ids → AreColumns n (map (argument_column 0) (take w (from_top ids)))
+first_within n w ids h =
+    subst (λ (l : List Column). AreColumns n l) (take-map (argument_column 0) w (from_top ids)) (columns_of_first n w (map (argument_column 0) (from_top ids)) (arguments_within n 0 ids h))

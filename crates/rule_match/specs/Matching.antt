@@ -18,9 +18,8 @@ use Rattle.rule_match.specs.declared.matcher.Stage.{Stage}
 use Rattle.rule_match.specs.declared.matcher.Stage.TheVariants.{Begins, Evaluates, Escapes, Compares, Guards, Ends}
 use Rattle.rule_match.specs.declared.matcher.Matcher.{Matcher}
 use Rattle.rule_match.specs.Rows.{row, rule_at}
-use Rattle.rule_match.specs.Columns.{plain, argument_column, AreColumns}
-use Rattle.rule_match.specs.Remaining.{rows_left, IsLeft}
-use Rattle.rule_match.specs.Trees.{IsTree}
+use Rattle.rule_match.specs.Columns.{plain, argument_column, from_top, AreColumns}
+use Rattle.rule_match.specs.Remaining.{rows_left, IsSource, IsLeftOf}
 use Rattle.rule_match.specs.Trying.{column_at}
 use Rattle.rule_match.specs.Standing.{after_cell, cell_normal, cell_compared, guard_compared, finished, decided, capturing, guarding, with_value}
 
@@ -47,6 +46,11 @@ IsAnswer n (Guards i) Yes = Unit {0}
 IsAnswer n (Guards i) No = Unit {0}
 IsAnswer n stage answer = ⊥
 
+-- the value of a column was asked for
+abbrev pub AwaitsValue : Stage → Type 0
+AwaitsValue (Evaluates i) = Unit {0}
+AwaitsValue stage = ⊥
+
 -- what is asked for is of this kind
 abbrev pub Awaits : Stage → Ask → Type 0
 Awaits (Evaluates i) (Evaluate j) = i ≡ j
@@ -57,10 +61,18 @@ Awaits Ends (Take at cs) = Unit {0}
 Awaits Ends Nothing = Unit {0}
 Awaits stage ask = ⊥
 
--- the tree is that of these rules, and the rows left are its
+-- the terms of what is asked for, or taken, are of a pool of so many nodes
+abbrev pub IsAsk : ℕ → Ask → Type 0
+IsAsk n (Evaluate i) = Unit {0}
+IsAsk n (Escape t) = t.0 < n
+IsAsk n (Same a b) = (a.0 < n) × (b.0 < n)
+IsAsk n (Take at cs) = AreCaptures n cs.items
+IsAsk n Nothing = Unit {0}
+
+-- the rules are these, and the rows left are theirs
 pub record Stands (rules : List PlainRule) (m : Matcher) : Type 0 where
-  pub tree : IsTree rules m.tree.now
-  pub left : IsLeft rules m.tree.now m.left
+  pub source : IsSource rules m.source
+  pub left : IsLeftOf rules m.source m.left
 
 -- the term that stands in a column
 abbrev pub term_in : List PoolNode → Matcher → ℕ → Tree
@@ -113,9 +125,14 @@ module _ (S : PlainSignature) (rules : List PlainRule) (ns : List PoolNode) (m :
   AsksFor (Escapes i) (Escape t) due = (n : ℕ) → due n ≡ bind (normal_of S n (term ns t)) (after_normal i)
   AsksFor (Compares i) (Same a b) due = (n : ℕ) → due n ≡ bind (comparison_of S n (term ns a) (term ns b)) (after_compared i)
   AsksFor (Guards i) (Same a b) due = (n : ℕ) → due n ≡ bind (comparison_of S n (term ns a) (term ns b)) (after_guard i)
-  AsksFor Ends (Take at cs) due = (n : ℕ) → due n ≡ Some (Some (record { captures = captured_terms ns cs.items; rule = rule_at rules at }), n)
+  AsksFor Ends (Take at cs) due = (at < length rules) × ((n : ℕ) → due n ≡ Some (Some (record { captures = captured_terms ns cs.items; rule = rule_at rules at }), n))
   AsksFor Ends Nothing due = (n : ℕ) → due n ≡ Some (None, n)
   AsksFor stage ask due = ⊥
+
+  -- what is left once the value that was asked for is there
+  abbrev pub told_value : Stage → Tree → ℕ → Units (Option Selected)
+  told_value (Evaluates i) v n = after_value i v n
+  told_value stage v n = None
 
   -- the selection that is left once the answer is there
   abbrev pub answered : Stage → Answer → ℕ → Units (Option Selected)
@@ -133,10 +150,10 @@ pub record Asks (rules : List PlainRule) (ns : List PoolNode) (m : Matcher) (ask
   pub stands : Stands rules m
   pub asks : (S : PlainSignature) → AsksFor S rules ns m m.stage ask (due S)
 
--- a matcher at its start: the rows of the rules before these arguments
+-- a matcher at its start: the rows of the rules before the arguments of a stack
 pub record IsStart (rules : List PlainRule) (args : List TermId) (m : Matcher) : Type 0 where
   pub stands : Stands rules m
-  pub columns : m.columns.items ≡ map (argument_column 0) (take (width (length args) rules) args)
+  pub columns : m.columns.items ≡ map (argument_column 0) (take (width (length args) rules) (from_top args))
   pub rows : rows_left rules m.left ≡ rows_for (length args) (width (length args) rules) rules
   pub tried : m.tried ≡ 0
   pub stage : m.stage ≡ Begins

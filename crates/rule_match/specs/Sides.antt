@@ -6,7 +6,8 @@ use Rattle.dk_model.specs.declared.signature.Rule.{Rule}
 use Rattle.shared_term.specs.declared.stored.Stored.{Stored}
 use Rattle.shared_term.specs.Storage.{stored_term}
 use Rattle.rule_match.specs.declared.side.Side.{Side}
-use Rattle.rule_match.specs.Rows.{kept_cell}
+use Rattle.rule_match.specs.declared.walk.LeftSide.{LeftSide}
+use Rattle.rule_match.specs.Rows.{kept_cell, pattern_cell}
 
 -- a rule over stored terms
 abbrev pub plain_rule_of : Rule Stored → PlainRule
@@ -28,3 +29,15 @@ AreSides (r ∷ rs) (s ∷ ss) = IsSide r s × AreSides rs ss
 abbrev pub widest : List PlainRule → ℕ
 widest [] = 0
 widest (r ∷ rs) = max (length r.pats) (widest rs)
+
+-- the left side of this rule, where it stands
+pub record IsLeftSide (r : PlainRule) (s : LeftSide) : Type 0 where
+  pub patterns : map pattern_cell s.patterns.now ≡ map cell r.pats
+  pub vars : s.vars ≡ r.vars
+
+-- those of these rules, in order
+abbrev pub AreLeftSides : List PlainRule → List LeftSide → Type 0
+AreLeftSides [] [] = Unit {0}
+AreLeftSides [] (s ∷ ss) = ⊥
+AreLeftSides (r ∷ rs) [] = ⊥
+AreLeftSides (r ∷ rs) (s ∷ ss) = IsLeftSide r s × AreLeftSides rs ss

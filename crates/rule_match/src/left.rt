@@ -1,13 +1,15 @@
 //! The rows that are left of a selection: those of a node, or rows that were worked out.
-ghost use Rattle.std.specs.Prelude.{◌≡◌, ◌≤◌, IfOk, IfSome, List, slice_get};
+ghost use Rattle.std.specs.Prelude.{◌≡◌, ◌≤◌, IfOk, IfSome, List, slice_get, map, drop};
 ghost use Rattle.std.specs.Option.{option_copied, option_map};
 ghost use Rattle.dk_model.specs.Signatures.{PlainRule};
 ghost use Rattle.dk_model.specs.Matrix.{rows_for, width, width as width_of};
-ghost use Rattle.rule_match.specs.Rows.{row as row_of, rule_at};
-ghost use Rattle.rule_match.specs.Sides.{AreSides};
+ghost use Rattle.rule_match.specs.Rows.{row as row_of};
+ghost use Rattle.rule_match.specs.declared.left.Left.TheVariants.{Kept, Whole};
+ghost use Rattle.rule_match.specs.Keys.{rows_by};
+ghost use Rattle.rule_match.specs.Sides.{AreLeftSides};
 ghost use Rattle.rule_match.specs.Branches.{IsNode};
 ghost use Rattle.rule_match.specs.Trees.{IsTree};
-ghost use Rattle.rule_match.specs.Remaining.{rows_left, IsLeft, Follows, GoesOn, IsRoot};
+ghost use Rattle.rule_match.specs.Remaining.{rows_left, IsLeft, Follows, GoesOn, IsRoot, IsSource, IsLeftOf, HasVariables, WalksFrom};
 
 use crate::branch::{Node, found};
 use crate::cell::{Row, seen_row, seen_rows};
@@ -15,6 +17,7 @@ use crate::key::Key;
 use crate::refine::{refined_rows, untried};
 use crate::side::{Side, rows_for, width};
 use crate::tree::Tree;
+use crate::walk::{LeftSide, walked_kept, walked_row, walked_rows, walked_width, widest_side};
 use dk_model::NoMemory;
 use std::alloc::Global;
 
@@ -23,16 +26,48 @@ use std::alloc::Global;
 pub(crate) enum Left<'t> {
     /// Those of a node.
     Kept(&'t Node),
+    /// All rules, none of which has more patterns than there are arguments, as rows of so many cells.
+    Whole(usize),
     Walked(Vec<Row<'t>>),
+}
+
+/// Where the rules of a selection stand.
+#[derive(Drop)]
+pub(crate) enum Source<'t> {
+    Tree(&'t Tree),
+    /// Where they were declared: they have no tree.
+    Sides(Vec<LeftSide<'t>>),
+}
+
+/// The row of the rule at a place.
+fn whole_row<'t>(
+    alloc: Global,
+    source: &Source<'t>,
+    width: usize,
+    at: usize,
+) -> Result<Option<Row<'t>>, NoMemory>
+    ensures { IfOk result (λ o. (rules : List PlainRule) → IsSource rules source.now
+        → IsLeftOf rules source.now (Whole width)
+        → option_map (row_of rules) o ≡ slice_get (rows_for width width rules) at) }
+{
+    match source {
+        Source::Tree(_) => Ok(None),
+        Source::Sides(sides) => match sides.get(at) {
+            Some(side) => Ok(Some(walked_row(alloc, width, *side, at)?)),
+            None => Ok(None),
+        },
+    }
 }
 
 /// The row at a place.
 pub(crate) fn row_at<'t>(
     alloc: Global,
+    source: &Source<'t>,
     left: &Left<'t>,
     at: usize,
 ) -> Result<Option<Row<'t>>, NoMemory>
-    ensures { IfOk result (λ o. (rules : List PlainRule)
+    ensures { IfOk result (λ o. (rules : List PlainRule) → IsSource rules source.now
+        → IsLeftOf rules source.now left.now
         → option_map (row_of rules) o ≡ slice_get (rows_left rules left.now) at) }
 {
     match left {
@@ -40,6 +75,7 @@ pub(crate) fn row_at<'t>(
             Some(row) => Ok(Some(seen_row(alloc, row)?)),
             None => Ok(None),
         },
+        Left::Whole(width) => whole_row(alloc, source, *width, at),
         Left::Walked(rows) => match rows.get(at) {
             Some(row) => {
                 let cells = Vec::from_slice(alloc, row.cells.as_slice())?;
@@ -85,43 +121,103 @@ fn branch_for<'t>(
     }
 }
 
+/// The node that the tree goes to from the rows that are left, where it has one for this head.
+fn next_node<'t>(
+    source: &Source<'t>,
+    left: &Left<'t>,
+    tried: usize,
+    key: Key,
+    column: usize,
+) -> Option<&'t Node>
+    ensures { IfSome result (λ child. (rules : List PlainRule) → IsSource rules source.now
+        → IsLeftOf rules source.now left.now
+        → GoesOn rules source.now left.now tried key column (Kept child)) }
+{
+    match source {
+        Source::Tree(tree) => match left {
+            Left::Kept(node) => branch_for(tree, node, tried, key, column),
+            Left::Whole(_) => None,
+            Left::Walked(_) => None,
+        },
+        Source::Sides(_) => None,
+    }
+}
+
+/// The rows of all rules that are kept where the value of this column has this head.
+fn whole_for<'t>(
+    alloc: Global,
+    source: &Source<'t>,
+    width: usize,
+    tried: usize,
+    key: Key,
+    column: usize,
+) -> Result<Vec<Row<'t>>, NoMemory>
+    ensures { IfOk result (λ kept. (rules : List PlainRule) → IsSource rules source.now
+        → IsLeftOf rules source.now (Whole width)
+        → map (row_of rules) kept.items ≡ rows_by key column (drop tried (rows_for width width rules))) }
+{
+    match source {
+        Source::Tree(_) => Ok(Vec::new(alloc)),
+        Source::Sides(sides) => walked_kept(alloc, sides.as_slice(), width, tried, key, column),
+    }
+}
+
+/// The rows that are kept where the value of this column has this head, worked out.
+fn walked_for<'t>(
+    alloc: Global,
+    source: &Source<'t>,
+    left: &Left<'t>,
+    tried: usize,
+    key: Key,
+    column: usize,
+) -> Result<Vec<Row<'t>>, NoMemory>
+    ensures { IfOk result (λ kept. (rules : List PlainRule) → IsSource rules source.now
+        → IsLeftOf rules source.now left.now
+        → map (row_of rules) kept.items ≡ rows_by key column (drop tried (rows_left rules left.now))) }
+{
+    match left {
+        Left::Kept(node) => {
+            let rows = seen_rows(alloc, node.rows.as_slice())?;
+            refined_rows(alloc, key, column, untried(rows.as_slice(), tried))
+        }
+        Left::Whole(width) => whole_for(alloc, source, *width, tried, key, column),
+        Left::Walked(rows) => refined_rows(alloc, key, column, untried(rows.as_slice(), tried)),
+    }
+}
+
 /// The rows that are kept where the value of this column has this head.
 pub(crate) fn kept_for<'t>(
     alloc: Global,
-    tree: &'t Tree,
+    source: &Source<'t>,
     left: &Left<'t>,
     tried: usize,
     key: Key,
     column: usize,
 ) -> Result<Left<'t>, NoMemory>
-    ensures { IfOk result (λ next. (rules : List PlainRule) → IsTree rules tree.now
-        → IsLeft rules tree.now left.now → GoesOn rules tree.now left.now tried key column next) }
+    ensures { IfOk result (λ next. (rules : List PlainRule) → IsSource rules source.now
+        → IsLeftOf rules source.now left.now → GoesOn rules source.now left.now tried key column next) }
 {
-    match left {
-        Left::Kept(node) => {
-            let node: &'t Node = node;
-            if let Some(child) = branch_for(tree, node, tried, key, column) {
-                return Ok(Left::Kept(child));
-            }
-            let rows = seen_rows(alloc, node.rows.as_slice())?;
-            let kept = refined_rows(alloc, key, column, untried(rows.as_slice(), tried))?;
-            Ok(Left::Walked(kept))
-        }
-        Left::Walked(rows) => {
-            let kept = refined_rows(alloc, key, column, untried(rows.as_slice(), tried))?;
-            Ok(Left::Walked(kept))
-        }
+    if let Some(child) = next_node(source, left, tried, key, column) {
+        return Ok(Left::Kept(child));
     }
+    let kept = walked_for(alloc, source, left, tried, key, column)?;
+    Ok(Left::Walked(kept))
 }
 
-/// How many variables a rule has.
-pub(crate) fn variable_count(tree: &Tree, at: usize) -> u32
-    ensures { (rules : List PlainRule) → AreSides rules tree.now.sides.items
-        → result ≡ (rule_at rules at).vars }
+/// How many variables a rule has; None where there is no rule at this place.
+pub(crate) fn variable_count(source: &Source, at: usize) -> Option<u32>
+    ensures { IfSome result (λ count. (rules : List PlainRule) → IsSource rules source.now
+        → HasVariables rules at count) }
 {
-    match side_at(tree, at) {
-        Some(side) => side.vars,
-        None => 0,
+    match source {
+        Source::Tree(tree) => match side_at(tree, at) {
+            Some(side) => Some(side.vars),
+            None => None,
+        },
+        Source::Sides(sides) => match sides.get(at) {
+            Some(side) => Some(side.vars),
+            None => None,
+        },
     }
 }
 
@@ -156,6 +252,25 @@ pub(crate) fn left_before<'t>(
         }
     }
     Ok(Left::Walked(rows_for(alloc, count, width, tree.sides.as_slice())?))
+}
+
+/// The rows of rules without a tree before so many arguments, and how many columns they have.
+pub(crate) fn walked_before<'t>(
+    alloc: Global,
+    sides: &[LeftSide<'t>],
+    count: usize,
+) -> Result<(usize, Left<'t>), NoMemory>
+    ensures within { IfOk result (λ r. r.0 ≤ count) }
+    ensures begins { IfOk result (λ r. (rules : List PlainRule) → AreLeftSides rules sides.now
+        → WalksFrom rules count r.0 r.1) }
+{
+    let widest = widest_side(sides);
+    if widest <= count {
+        return Ok((widest, Left::Whole(widest)));
+    }
+    let width = walked_width(count, sides);
+    let rows = walked_rows(alloc, count, width, sides)?;
+    Ok((width, Left::Walked(rows)))
 }
 
 /// The first node.

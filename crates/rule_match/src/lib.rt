@@ -15,9 +15,11 @@ mod row;
 mod side;
 mod tree;
 mod value;
+mod walk;
 
 pub use matcher::{Answer, Ask, Matcher};
 pub use tree::{Tree, compile};
+pub use walk::LeftSide;
 
 #[cfg(test)]
 mod tests;

@@ -1,21 +1,25 @@
 //! The selection of a rule by asking for one answer after another.
-ghost use Rattle.std.specs.Prelude.{◌≡◌, ℕ, ◌<◌, None, IfOk, OnOk, List, length, vec_len, replicate};
+ghost use Rattle.std.specs.Prelude.{◌≡◌, ℕ, ◌<◌, [], None, IfOk, OnOk, List, length, vec_len, replicate};
 ghost use Rattle.dk_model.specs.Signatures.{PlainRule};
 ghost use Rattle.dk_model.specs.Matrix.{width};
 ghost use Rattle.shared_term.specs.Pools.{Node, term, Extends};
 ghost use Rattle.rule_match.specs.Rows.{plain_cell};
-ghost use Rattle.rule_match.specs.Columns.{AreWithin};
+ghost use Rattle.rule_match.specs.Columns.{AreColumns, AreWithin};
+ghost use Rattle.rule_match.specs.Sides.{AreLeftSides};
 ghost use Rattle.rule_match.specs.Standing.{others_in};
 ghost use Rattle.rule_match.specs.Trees.{IsTree};
 ghost use Rattle.rule_match.specs.declared.matcher.Stage.TheVariants.{Begins};
-ghost use Rattle.rule_match.specs.Matching.{IsMatcher, IsAnswer, Awaits, Stands, Asks, IsStart, selects, captures_due, guards_due, after_value, after_normal, after_compared, after_guard, answered, fails, term_in};
+ghost use Rattle.rule_match.specs.Matching.{IsMatcher, IsAnswer, IsAsk, Awaits, Stands, Asks, IsStart, selects, captures_due, guards_due, after_value, after_normal, after_compared, after_guard, answered, fails, term_in};
 
 use crate::cell::{Cell, Row};
-use crate::left::{Left, kept_for, left_before, row_at, variable_count, width_before};
+use crate::left::{
+    Left, Source, kept_for, left_before, row_at, variable_count, walked_before, width_before,
+};
 use crate::refine::{cell_of, rigid_at};
 use crate::row::{Passage, mentions_others, next_guard, pass};
 use crate::tree::Tree;
 use crate::value::{Column, column_of, first_columns, put_column, spliced, taken_apart};
+use crate::walk::LeftSide;
 use dk_model::{NoMemory, Pat};
 use shared_term::{Pool, TermId};
 use std::alloc::Global;
@@ -69,7 +73,7 @@ pub(crate) enum Stage {
 #[derive(Drop)]
 pub struct Matcher<'t> {
     pub(crate) alloc: Global,
-    pub(crate) tree: &'t Tree,
+    pub(crate) source: Source<'t>,
     pub(crate) columns: Vec<Column>,
     pub(crate) left: Left<'t>,
     /// How many of the rows were tried since the last value.
@@ -111,8 +115,33 @@ fn mentions_still(pool: &mut Pool, cell: Cell, depth: u64, part: TermId) -> Resu
     }
 }
 
+/// A matcher of these columns and rows at its start.
+fn begun<'t>(alloc: Global, source: Source<'t>, columns: Vec<Column>, left: Left<'t>) -> Matcher<'t>
+    ensures source { result.source ≡ source.entry }
+    ensures columns { result.columns ≡ columns }
+    ensures left { result.left ≡ left.entry }
+    ensures tried { result.tried ≡ 0 }
+    ensures captures { result.captures.items ≡ [] }
+    ensures begins { result.stage ≡ Begins }
+{
+    Matcher {
+        alloc,
+        source,
+        columns,
+        left,
+        tried: 0,
+        row: Row {
+            cells: Vec::new(alloc),
+            at: 0,
+        },
+        captures: Vec::new(alloc),
+        stage: Stage::Begins,
+    }
+}
+
 impl<'t> Matcher<'t> {
-    /// The selection of a rule of the tree for these arguments, at its start.
+    /// The selection of a rule of the tree for these arguments, at its start. The arguments lie on a stack, the first one
+    /// on top.
     pub fn start(
         alloc: Global,
         tree: &'t Tree,
@@ -126,26 +155,31 @@ impl<'t> Matcher<'t> {
         let width = width_before(tree, arguments.len());
         let left = left_before(alloc, tree, arguments.len(), width)?;
         let columns = first_columns(alloc, width, arguments)?;
-        Ok(Matcher {
-            alloc,
-            tree,
-            columns,
-            left,
-            tried: 0,
-            row: Row {
-                cells: Vec::new(alloc),
-                at: 0,
-            },
-            captures: Vec::new(alloc),
-            stage: Stage::Begins,
-        })
+        Ok(begun(alloc, Source::Tree(tree), columns, left))
+    }
+
+    /// The same of rules that have no tree, by their left sides.
+    pub fn walk(
+        alloc: Global,
+        sides: Vec<LeftSide<'t>>,
+        arguments: &[TermId],
+    ) -> Result<Matcher<'t>, NoMemory>
+        ensures starts { IfOk result (λ m. (rules : List PlainRule) → AreLeftSides rules sides.entry.items
+            → IsStart rules arguments.now m) }
+        ensures within { IfOk result (λ m. (n : ℕ) → AreWithin n arguments.now → IsMatcher n m) }
+        ensures begins { IfOk result (λ m. m.stage ≡ Begins) }
+    {
+        let (width, left) = walked_before(alloc, sides.as_slice(), arguments.len())?;
+        let columns = first_columns(alloc, width, arguments)?;
+        Ok(begun(alloc, Source::Sides(sides), columns, left))
     }
 
     /// The term that stands in this column.
     #[tactic(auto, using(crate::proofs::Matching::term_in_column))]
     pub fn at(&self, column: usize) -> TermId
         requires { column < length self.now.columns.items }
-        ensures { (ns : List Node) → term ns result ≡ term_in ns self.now column }
+        ensures is { (ns : List Node) → term ns result ≡ term_in ns self.now column }
+        ensures within { (n : ℕ) → AreColumns n self.now.columns.items → result.0 < n }
     {
         column_of(self.columns.as_slice(), column).term
     }
@@ -159,6 +193,7 @@ impl<'t> Matcher<'t> {
             → Asks rules pool.new self.new ask
             (λ S. answered S rules pool.old self.old self.old.stage answer)) }
         ensures awaits { IfOk result (Awaits self.new.stage) }
+        ensures asked { IfOk result (IsAsk (length pool.new)) }
         ensures within { OnOk result (IsMatcher (length pool.new) self.new) }
         ensures keeps { Extends pool.old pool.new }
     {
@@ -195,10 +230,11 @@ impl<'t> Matcher<'t> {
         ensures asks { IfOk result (λ ask. (rules : List PlainRule) → Stands rules self.old
             → Asks rules pool.new self.new ask (λ S. selects S rules pool.old self.old)) }
         ensures awaits { IfOk result (Awaits self.new.stage) }
+        ensures asked { IfOk result (IsAsk (length pool.new)) }
         ensures within { OnOk result (IsMatcher (length pool.new) self.new) }
         ensures keeps { Extends pool.old pool.new }
     {
-        match row_at(self.alloc, &self.left, self.tried)? {
+        match row_at(self.alloc, &self.source, &self.left, self.tried)? {
             None => {
                 self.stage = Stage::Ends;
                 Ok(Ask::Nothing)
@@ -212,13 +248,15 @@ impl<'t> Matcher<'t> {
                     self.stage = Stage::Evaluates(at);
                     Ok(Ask::Evaluate(at))
                 }
-                None => {
-                    let count = variable_count(self.tree, row.at);
-                    self.captures = no_captures(self.alloc, count)?;
-                    self.row = row;
-                    self.stage = Stage::Begins;
-                    self.go_through(pool, 0)
-                }
+                None => match variable_count(&self.source, row.at) {
+                    Some(count) => {
+                        self.captures = no_captures(self.alloc, count)?;
+                        self.row = row;
+                        self.stage = Stage::Begins;
+                        self.go_through(pool, 0)
+                    }
+                    None => Err(NoMemory),
+                },
             },
         }
     }
@@ -229,6 +267,7 @@ impl<'t> Matcher<'t> {
         ensures asks { IfOk result (λ ask. (rules : List PlainRule) → Stands rules self.old
             → Asks rules pool.new self.new ask (λ S. fails S rules pool.old self.old)) }
         ensures awaits { IfOk result (Awaits self.new.stage) }
+        ensures asked { IfOk result (IsAsk (length pool.new)) }
         ensures within { OnOk result (IsMatcher (length pool.new) self.new) }
         ensures keeps { Extends pool.old pool.new }
     {
@@ -245,6 +284,7 @@ impl<'t> Matcher<'t> {
         ensures asks { IfOk result (λ ask. (rules : List PlainRule) → Stands rules self.old
             → Asks rules pool.new self.new ask (λ S. captures_due S rules pool.old self.old from)) }
         ensures awaits { IfOk result (Awaits self.new.stage) }
+        ensures asked { IfOk result (IsAsk (length pool.new)) }
         ensures within { OnOk result (IsMatcher (length pool.new) self.new) }
         ensures keeps { Extends pool.old pool.new }
     {
@@ -273,6 +313,7 @@ impl<'t> Matcher<'t> {
         ensures asks { IfOk result (λ ask. (rules : List PlainRule) → Stands rules self.old
             → Asks rules pool.new self.new ask (λ S. guards_due S rules pool.old self.old from)) }
         ensures awaits { IfOk result (Awaits self.new.stage) }
+        ensures asked { IfOk result (IsAsk (length pool.new)) }
         ensures within { OnOk result (IsMatcher (length pool.new) self.new) }
         ensures keeps { Extends pool.old pool.new }
     {
@@ -283,11 +324,14 @@ impl<'t> Matcher<'t> {
             self.captures.as_slice(),
             from,
         )? {
-            None => {
-                self.stage = Stage::Ends;
-                let captures = mem::replace(&mut self.captures, Vec::new(self.alloc));
-                Ok(Ask::Take(self.row.at, captures))
-            }
+            None => match variable_count(&self.source, self.row.at) {
+                Some(_count) => {
+                    self.stage = Stage::Ends;
+                    let captures = mem::replace(&mut self.captures, Vec::new(self.alloc));
+                    Ok(Ask::Take(self.row.at, captures))
+                }
+                None => Err(NoMemory),
+            },
             Some(next) => {
                 self.stage = Stage::Guards(next.at);
                 Ok(Ask::Same(next.part, next.guard))
@@ -304,12 +348,13 @@ impl<'t> Matcher<'t> {
             → Asks rules pool.new self.new ask
             (λ S. after_value S rules pool.old self.old at (term pool.old value))) }
         ensures awaits { IfOk result (Awaits self.new.stage) }
+        ensures asked { IfOk result (IsAsk (length pool.new)) }
         ensures within { OnOk result (IsMatcher (length pool.new) self.new) }
         ensures keeps { Extends pool.old pool.new }
     {
         let depth = column_of(self.columns.as_slice(), at).depth;
         let (key, parts) = taken_apart(self.alloc, pool, depth, value)?;
-        self.left = kept_for(self.alloc, self.tree, &self.left, self.tried, key, at)?;
+        self.left = kept_for(self.alloc, &self.source, &self.left, self.tried, key, at)?;
         self.tried = 0;
         let columns = mem::replace(&mut self.columns, Vec::new(self.alloc));
         self.columns = spliced(columns, at, value, parts)?;
@@ -327,6 +372,7 @@ impl<'t> Matcher<'t> {
             → Asks rules pool.new self.new ask
             (λ S. after_normal S rules pool.old self.old at (term pool.old part))) }
         ensures awaits { IfOk result (Awaits self.new.stage) }
+        ensures asked { IfOk result (IsAsk (length pool.new)) }
         ensures within { OnOk result (IsMatcher (length pool.new) self.new) }
         ensures keeps { Extends pool.old pool.new }
     {
@@ -348,6 +394,7 @@ impl<'t> Matcher<'t> {
             → Asks rules pool.new self.new ask
             (λ S. after_compared S rules pool.old self.old at alike)) }
         ensures awaits { IfOk result (Awaits self.new.stage) }
+        ensures asked { IfOk result (IsAsk (length pool.new)) }
         ensures within { OnOk result (IsMatcher (length pool.new) self.new) }
         ensures keeps { Extends pool.old pool.new }
     {
@@ -367,6 +414,7 @@ impl<'t> Matcher<'t> {
             → Asks rules pool.new self.new ask
             (λ S. after_guard S rules pool.old self.old at alike)) }
         ensures awaits { IfOk result (Awaits self.new.stage) }
+        ensures asked { IfOk result (IsAsk (length pool.new)) }
         ensures within { OnOk result (IsMatcher (length pool.new) self.new) }
         ensures keeps { Extends pool.old pool.new }
     {

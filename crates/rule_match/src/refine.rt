@@ -129,7 +129,7 @@ fn is_abstraction(key: Key) -> bool
 }
 
 /// The same of a cell.
-fn is_kept(key: Key, cell: &Cell) -> bool
+pub(crate) fn is_kept(key: Key, cell: &Cell) -> bool
     ensures { result ≡ is_kept key (plain_cell cell.now) }
 {
     match cell {
@@ -221,7 +221,7 @@ fn push_after<'v>(cells: &mut Vec<Cell<'v>>, count: usize, cell: Cell<'v>) -> Re
 }
 
 /// A kept row with the cells for the value and its `count` parts in place of the cell at `at`.
-fn refined_row<'v>(
+pub(crate) fn refined_row<'v>(
     alloc: Global,
     count: usize,
     at: usize,

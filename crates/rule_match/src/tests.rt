@@ -104,7 +104,7 @@ fn tell(matcher: &mut Matcher, pool: &mut Pool, ask: &Ask, told: Told) -> Result
     }
 }
 
-/// The place of the rule that is taken before two arguments, with these answers.
+/// The place of the rule that is taken before the arguments of a stack, with these answers.
 fn taken(
     pool: &mut Pool,
     alloc: Global,
@@ -143,7 +143,7 @@ fn plus_of(alloc: Global, value: u32) -> Result<Option<usize>, NoMemory> {
         &mut pool,
         alloc,
         &tree,
-        &[first, second],
+        &[second, first],
         &[Told::Term(told)],
     )
 }
@@ -159,7 +159,7 @@ fn same_of(alloc: Global, alike: bool) -> Result<Option<usize>, NoMemory> {
         &mut pool,
         alloc,
         &tree,
-        &[first, second],
+        &[second, first],
         &[Told::Alike(alike)],
     )
 }

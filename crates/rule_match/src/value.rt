@@ -58,22 +58,22 @@ pub(crate) fn unwind(
     }
 }
 
-/// Columns of the first `width` arguments.
-#[tactic(auto, using(crate::proofs::Opening::argument_pushed))]
+/// Columns of the first `width` arguments of a stack.
+#[tactic(auto, using(crate::proofs::Opening::column_pushed))]
 pub(crate) fn first_columns(
     alloc: Global,
     width: usize,
-    arguments: &[TermId],
+    stack: &[TermId],
 ) -> Result<Vec<Column>, NoMemory>
-    requires { width ≤ length arguments.now }
+    requires { width ≤ length stack.now }
     ensures { IfOk result (λ columns. columns.items
-        ≡ map (argument_column 0) (take width arguments.now)) }
+        ≡ map (argument_column 0) (take width (from_top stack.now))) }
 {
     let mut columns = Vec::new(alloc);
     for i in 0..width {
         columns.push(Column {
             depth: 0,
-            term: arguments[i],
+            term: stack[stack.len() - 1 - i],
         })?;
     }
     Ok(columns)

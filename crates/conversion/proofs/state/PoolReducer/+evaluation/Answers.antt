@@ -1,31 +1,24 @@
-use Rattle.std.proofs.Common.{◌≡◌, ◌∙◌, ◌<◌, ◌≤◌, ◌+◌, ◌-◌, ◌++◌, ◌∷◌, [], List, Vec, Global, map, length, ℕ, true, false, None, Some, Ok, Err, ap, subst, refl, sym as flip, arith, rules, sym, true≢false}
-use Rattle.std.specs.Prelude.{get_or}
+use Rattle.std.proofs.Common.{◌≡◌, ◌∙◌, ◌<◌, ◌-◌, ◌++◌, ◌∷◌, [], List, length, Some, ap, subst, refl, sym as flip, arith, rules, sym, true≢false}
 use Rattle.dk_model.specs.Trees.{Tree}
 use Rattle.dk_model.specs.Signatures.{PlainSignature}
 use Rattle.dk_model.specs.SymbolRules.{rules_of}
-use Rattle.dk_model.specs.Matrix.{rigid_at}
-use Rattle.dk_model.specs.Evaluation.{whnf_of, normal_of, comparison_of}
+use Rattle.dk_model.specs.Evaluation.{whnf_of, normal_of}
 use Rattle.shared_term.specs.Pools.{term}
 use Rattle.shared_term.specs.Changes.{captured_terms}
 use Rattle.signature_log.specs.Versions.{entries_of}
+use Rattle.rule_match.specs.Rows.{rule_at}
+use Rattle.rule_match.specs.declared.matcher.Answer.TheVariants.{Normal}
+use Rattle.rule_match.proofs.Larger.{rule_taken, none_taken, alike_told, alike_answers, normal_told, matcher_grown}
+use Rattle.rule_match.proofs.Telling.{normal_fits}
 use Rattle.conversion.specs.declared.evaluate.Pause.{Pause}
-use Rattle.conversion.specs.declared.matrix.Cell.{Cell}
-use Rattle.conversion.specs.declared.matrix.Column.{Column}
-use Rattle.conversion.specs.declared.matrix.Row.{Row}
 use Rattle.conversion.specs.Machine.{behind, wound}
-use Rattle.conversion.specs.Rules.{plain_rule_of}
-use Rattle.conversion.specs.Matrix.{plain_cell, column, row, AreColumns, AreAmong}
-use Rattle.conversion.specs.Pausing.{plain, ArePauses, Await}
+use Rattle.conversion.specs.Pausing.{ArePauses, Await, selected}
 use Rattle.conversion.specs.Reducers.{IsValue}
-use Rattle.conversion.specs.Selections.{step_cell}
 use Rattle.conversion.proofs.Winding.{extends_more, extends_none}
-use Rattle.conversion.proofs.Serving.{value_made, values_put, loaded_grown, heads_grown, values_grown, normals_grown, answers_grown, serves_grown, serves_again, answers_put, answer_made, normals_put, normal_made}
-use Rattle.conversion.proofs.Growing.{columns_set, columns_within, columns_taken, columns_dropped, column_within, captures_within, captures_grown}
-use Rattle.conversion.proofs.Choosing.{row_fails, row_takes, row_ends, no_column, row_asks, no_choice, got_either, past_end, among_item}
-use Rattle.conversion.proofs.Passing.{row_goes, row_misses, row_stops, row_ended, guard_goes, guard_misses, guard_stops, guards_ended, cell_misses, cell_caught, cell_given, recorded_new, recorded_before, set_past, guard_compared, captures_begun, guards_begun, row_misses_all, row_ends_all, guards_miss_all, guards_end_all, row_takes_all}
-use Rattle.conversion.proofs.Pausing.{await_grown, pauses_grown, pauses_pushed, pauses_popped, popped_pause}
+use Rattle.conversion.proofs.Serving.{value_made, values_put, loaded_grown, heads_grown, values_grown, normals_grown, answers_grown, serves_grown, answers_put, answer_made, normals_put, normal_made}
+use Rattle.conversion.proofs.Pausing.{await_grown, pauses_grown, pauses_pushed, pauses_popped, popped_pause, pause_goes}
 use Rattle.conversion.proofs.Evaluating.{await_on, asks_on, awaited_is, awaited_falls, closed_on, awaited_value, await_done}
-use Rattle.conversion.proofs.Selecting.{turns_same, choice_goes, choice_stands, choice_asks}
+use Rattle.conversion.proofs.Selecting.{turns_same, selection_stands, selection_takes, selection_waits, selection_goes}
 use Rattle.conversion.specs.declared.compare.Step.{Step}
 use Rattle.conversion.specs.declared.compare.Step.TheVariants.{Pair, Conclude}
 use Rattle.conversion.specs.Pending.{rest_compared, pending}
@@ -35,80 +28,6 @@ use Rattle.conversion.proofs.Waiting.{frames_popped, frame_popped, waits_popped,
 use Rattle.conversion.specs.declared.normal.Frame.{Frame}
 use Rattle.conversion.specs.declared.normal.Next.{Next}
 use Rattle.conversion.proofs.state.PoolReducer.+evaluation.Goals as goal
-
--- the cells of a row
-
-pub captures_of_row-loop-i-preserved : goal.captures_of_row-loop-i-preserved
-captures_of_row-loop-i-preserved t c =
-    let S : PlainSignature = entries_of c.args.version.now in
-    let lt : c.loop-i.i < length c.args.cells.now = omega (arith, c.min-i-end.ensures) in
-    let lt' : c.loop-i.i < length c.loop-i.columns.items = omega (arith, c.loop-i.columns.ok.0, c.min-i-end.ensures, c.loop-i.invariant.long) in
-    let h = rw c.in-Ok-true.field-0-test at c.in-Ok-true.ensures.gives in
-    record {
-      same = row_goes (normal_of S) (comparison_of S) c.loop-i.self.pool c.cell_captures.new.self.pool c.in-Ok-true.ensures.keeps c.args.cells.now c.loop-i.columns.items c.loop-i.i c.loop-i.left c.cell_captures.new.left
-          (captured_terms c.loop-i.self.pool c.loop-i.captures.items) c.index-cells-i.result c.index_mut.result.now lt c.index-cells-i.is lt' c.index_mut.ensures.value c.loop-i.invariant.columns
-          (captured_terms c.cell_captures.new.self.pool c.cell_captures.new.captures.items) c.cell_captures.new.column h ∙ c.loop-i.invariant.same;
-      long = c.loop-i.invariant.long;
-      columns = columns_set (length c.cell_captures.new.self.pool) c.loop-i.i c.loop-i.columns.items c.cell_captures.new.column
-          (columns_within c.loop-i.self.pool c.cell_captures.new.self.pool c.loop-i.columns.items c.in-Ok-true.ensures.keeps c.loop-i.invariant.columns) c.in-Ok-true.ensures.column;
-      captures = c.in-Ok-true.ensures.captures;
-      keeps = extends_more c.args.self.now.pool c.loop-i.self.pool c.cell_captures.new.self.pool c.loop-i.invariant.keeps c.in-Ok-true.ensures.keeps;
-      serves = c.in-Ok-true.ensures.serves;
-      less = omega (arith, c.in-Ok-true.ensures.spent, c.loop-i.invariant.less);
-    }
-
-pub captures_of_row-returns-in-Ok-false-clause-gives : goal.captures_of_row-returns-in-Ok-false-clause-gives
-captures_of_row-returns-in-Ok-false-clause-gives t c =
-    let S : PlainSignature = entries_of c.args.version.now in
-    let lt : c.loop-i.i < length c.args.cells.now = omega (arith, c.min-i-end.ensures) in
-    let lt' : c.loop-i.i < length c.loop-i.columns.items = omega (arith, c.loop-i.columns.ok.0, c.min-i-end.ensures, c.loop-i.invariant.long) in
-    let h = rw c.in-Ok-false.field-0-test at c.in-Ok-false.ensures.gives in
-    flip c.loop-i.invariant.same
-    ∙ row_misses (normal_of S) (comparison_of S) c.loop-i.self.pool c.cell_captures.new.self.pool c.in-Ok-false.ensures.keeps c.args.cells.now c.loop-i.columns.items c.loop-i.i c.loop-i.left c.cell_captures.new.left
-    (captured_terms c.loop-i.self.pool c.loop-i.captures.items) c.index-cells-i.result c.index_mut.result.now lt c.index-cells-i.is lt' c.index_mut.ensures.value c.loop-i.invariant.columns c.cell_captures.new.column h
-
-pub captures_of_row-returns-in-Ok-false-clause-columns : goal.captures_of_row-returns-in-Ok-false-clause-columns
-captures_of_row-returns-in-Ok-false-clause-columns t c = columns_set (length c.cell_captures.new.self.pool) c.loop-i.i c.loop-i.columns.items c.cell_captures.new.column
-    (columns_within c.loop-i.self.pool c.cell_captures.new.self.pool c.loop-i.columns.items c.in-Ok-false.ensures.keeps c.loop-i.invariant.columns) c.in-Ok-false.ensures.column
-
-pub captures_of_row-returns-in-Err-clause-gives : goal.captures_of_row-returns-in-Err-clause-gives
-captures_of_row-returns-in-Err-clause-gives t c =
-    let S : PlainSignature = entries_of c.args.version.now in
-    let lt : c.loop-i.i < length c.args.cells.now = omega (arith, c.min-i-end.ensures) in
-    let lt' : c.loop-i.i < length c.loop-i.columns.items = omega (arith, c.loop-i.columns.ok.0, c.min-i-end.ensures, c.loop-i.invariant.long) in
-    row_stops (normal_of S) (comparison_of S) c.loop-i.self.pool c.cell_captures.new.self.pool c.in-Err.ensures.keeps c.args.cells.now c.loop-i.columns.items c.loop-i.i c.loop-i.left c.cell_captures.new.left
-    (captured_terms c.loop-i.self.pool c.loop-i.captures.items) c.index-cells-i.result c.index_mut.result.now lt c.index-cells-i.is lt' c.index_mut.ensures.value c.loop-i.invariant.columns
-    _ c.in-Err.stop _ _ _ _ c.loop-i.invariant.same c.in-Err.ensures.gives
-
-pub captures_of_row-returns-clause-gives : goal.captures_of_row-returns-clause-gives
-captures_of_row-returns-clause-gives t c =
-    let S : PlainSignature = entries_of c.args.version.now in
-    flip c.loop-i.invariant.same ∙ row_ended (normal_of S) (comparison_of S) c.loop-i.self.pool c.args.cells.now c.loop-i.columns.items c.loop-i.i c.loop-i.left
-    (captured_terms c.loop-i.self.pool c.loop-i.captures.items) (omega (arith, c.loop-i.columns.ok.0, c.min-i-end.ensures, c.loop-i.invariant.long))
-
--- a cell
-
-pub cell_captures-returns-then-not-branch-clause-gives : goal.cell_captures-returns-then-not-branch-clause-gives
-cell_captures-returns-then-not-branch-clause-gives t c =
-    let S : PlainSignature = entries_of c.args.version.now in
-    let g = rw c.if-not-branch.true at c.in_ok-part_at-in-Captures.ensures.gives in
-    c.step_of.ensures.captures (normal_of S) (comparison_of S) (column c.args.self.now.pool c.args.column.now) c.args.left.now (captured_terms c.args.self.now.pool c.args.captures.now.items)
-    ∙ rw c.in-Captures.is (cell_misses (normal_of S) (comparison_of S) c.in-Captures.variable c.in-Captures.listed.now (column c.args.self.now.pool c.args.column.now) c.args.left.now
-    (captured_terms c.args.self.now.pool c.args.captures.now.items) (column c.part_at.new.self.pool c.part_at.new.column) [] c.part_at.new.left g.0 g.1)
-
-pub cell_captures-returns-in_ok-part-in-Captures-clause-gives : goal.cell_captures-returns-in_ok-part-in-Captures-clause-gives
-cell_captures-returns-in_ok-part-in-Captures-clause-gives t c =
-    let S : PlainSignature = entries_of c.args.version.now in
-    let g = rw c.if-not-branch.false at c.in_ok-part_at-in-Captures.ensures.gives in
-    cell_given _ _ c.record.result _ _ _
-    (c.step_of.ensures.captures (normal_of S) (comparison_of S) (column c.args.self.now.pool c.args.column.now) c.args.left.now (captured_terms c.args.self.now.pool c.args.captures.now.items)
-    ∙ rw c.in-Captures.is refl)
-    (cell_caught (normal_of S) (comparison_of S) c.args.self.now.pool c.part_at.new.self.pool c.captured.new.pool c.record.new.self.pool c.args.column.now c.part_at.new.column c.args.captures.now.items
-    c.in_ok-part-in-Captures.part c.in-Captures.variable c.in-Captures.listed.now c.args.left.now c.part_at.new.left c.record.new.left c.record.result (captured_terms c.record.new.self.pool c.record.new.captures.items)
-    c.in_ok-part_at-in-Captures.ensures.keeps c.in_ok-part-in-Captures.ensures.keeps c.record.ensures.keeps c.requires.captures c.in_ok-part_at-in-Captures.ensures.column g
-    c.in_ok-part-in-Captures.ensures.captures c.record.ensures.gives)
-
--- a form that was found before takes what it took
 
 pub evaluate-returns-then-left-found-clause-gives : goal.evaluate-returns-then-left-found-clause-gives
 evaluate-returns-then-left-found-clause-gives t c =
@@ -168,8 +87,8 @@ evaluated-loop-stack-preserved-in-Selects t c =
       less = omega (arith, c.in_ok-term.ensures.turned, c.loop-stack.invariant.less);
     }
 
-pub evaluated-loop-stack-preserved-in_ok-push_pause-in-Asks : goal.evaluated-loop-stack-preserved-in_ok-push_pause-in-Asks
-evaluated-loop-stack-preserved-in_ok-push_pause-in-Asks t c =
+pub evaluated-loop-stack-preserved-in-Continue-branch-3 : goal.evaluated-loop-stack-preserved-in-Continue-branch-3
+evaluated-loop-stack-preserved-in-Continue-branch-3 t c =
     let S : PlainSignature = entries_of c.args.version.now in
     let x = c.in_ok-term.ensures.keeps in
     let g = rw c.in-Asks.is at c.in_ok-term.ensures.gives in
@@ -210,43 +129,6 @@ evaluated-overflow_sub-units t c =
     (g.0 ∙ ap (λ (v : Tree). Some (v, c.turn.new.left)) (flip c.in_ok-value-in-Stands.ensures.whole)) in
     omega (arith, f)
 
-pub evaluated-closed-requires-clause-before : goal.evaluated-closed-requires-clause-before
-evaluated-closed-requires-clause-before t c =
-    let S : PlainSignature = entries_of c.args.version.now in
-    let x = extends_more c.loop-stack.self.pool c.turn.new.self.pool c.wind.new.pool c.in_ok-term.ensures.keeps c.in_ok-value-in-Stands.ensures.keeps in
-    (popped_pause S (length c.wind.new.pool) c.pop.new.self.items c.in-Some.pause
-    (subst (λ (l : List Pause). ArePauses S (length c.wind.new.pool) l) c.in-Some.ensures.items (pauses_grown S c.loop-stack.self.pool c.wind.new.pool c.loop-stack.pauses.items x c.loop-stack.invariant.pauses))).gap.before
-
-pub evaluated-closed-requires-clause-behind : goal.evaluated-closed-requires-clause-behind
-evaluated-closed-requires-clause-behind t c =
-    let S : PlainSignature = entries_of c.args.version.now in
-    let x = extends_more c.loop-stack.self.pool c.turn.new.self.pool c.wind.new.pool c.in_ok-term.ensures.keeps c.in_ok-value-in-Stands.ensures.keeps in
-    (popped_pause S (length c.wind.new.pool) c.pop.new.self.items c.in-Some.pause
-    (subst (λ (l : List Pause). ArePauses S (length c.wind.new.pool) l) c.in-Some.ensures.items (pauses_grown S c.loop-stack.self.pool c.wind.new.pool c.loop-stack.pauses.items x c.loop-stack.invariant.pauses))).gap.behind
-
-pub evaluated-returns-in_err-closed-in-Some-clause-serves : goal.evaluated-returns-in_err-closed-in-Some-clause-serves
-evaluated-returns-in_err-closed-in-Some-clause-serves t c =
-    let S : PlainSignature = entries_of c.args.version.now in
-    let y = c.in_ok-value-in-Stands.ensures.keeps in
-    let x = extends_more c.loop-stack.self.pool c.turn.new.self.pool c.wind.new.pool c.in_ok-term.ensures.keeps y in
-    let g = rw c.in-Stands.is at c.in_ok-term.ensures.gives in
-    let p = popped_pause S (length c.wind.new.pool) c.pop.new.self.items c.in-Some.pause
-    (subst (λ (l : List Pause). ArePauses S (length c.wind.new.pool) l) c.in-Some.ensures.items (pauses_grown S c.loop-stack.self.pool c.wind.new.pool c.loop-stack.pauses.items x c.loop-stack.invariant.pauses)) in
-    let e = awaited_is S c.wind.new.pool _ _ c.pop.new.self.items c.loop-stack.pauses.items c.in-Some.pause (term c.wind.new.pool c.in_ok-value-in-Stands.value) c.turn.new.left c.in-Some.ensures.items
-    (await_grown S c.loop-stack.self.pool c.wind.new.pool _ _ c.loop-stack.pauses.items x c.loop-stack.invariant.pauses c.loop-stack.invariant.awaits)
-    (g.0 ∙ ap (λ (v : Tree). Some (v, c.turn.new.left)) (flip c.in_ok-value-in-Stands.ensures.whole)) in
-    let s = c.in_ok-term.ensures.serves in
-    record {
-      loaded = loaded_grown S c.turn.new.self.pool c.wind.new.pool c.turn.new.self.loaded y s.loaded;
-      heads = heads_grown S c.turn.new.self.pool c.wind.new.pool c.turn.new.self.heads y s.heads;
-      values = values_put S c.wind.new.pool c.turn.new.self.values c.put.new.self c.in-Some.pause.asked.0 0 (record { id = c.in_ok-value-in-Stands.value; units = c.in-Some.pause.start - c.turn.new.left })
-          (values_grown S c.turn.new.self.pool c.wind.new.pool c.turn.new.self.values y s.values)
-          (awaited_value S c.wind.new.pool c.in-Some.pause c.in_ok-value-in-Stands.value c.turn.new.left p.asked c.in_ok-value-in-Stands.ensures.there e)
-          (rw c.number-key.ensures at c.put.ensures);
-      normals = normals_grown S c.turn.new.self.pool c.wind.new.pool c.turn.new.self.normals y s.normals;
-      answers = answers_grown S c.turn.new.self.pool c.wind.new.pool c.turn.new.self.answers y s.answers;
-    }
-
 pub evaluated-loop-stack-preserved : goal.evaluated-loop-stack-preserved
 evaluated-loop-stack-preserved t c =
     let S : PlainSignature = entries_of c.args.version.now in
@@ -260,13 +142,8 @@ evaluated-loop-stack-preserved t c =
     let e = awaited_is S c.wind.new.pool _ _ c.pop.new.self.items c.loop-stack.pauses.items c.in-Some.pause (term c.wind.new.pool c.in_ok-value-in-Stands.value) c.turn.new.left c.in-Some.ensures.items w d in
     let s = c.in_ok-term.ensures.serves in
     record {
-      awaits = closed_on S c.wind.new.pool _ _ c.pop.new.self.items c.loop-stack.pauses.items c.in-Some.pause (term c.wind.new.pool c.in_ok-value-in-Stands.value) c.turn.new.left c.in-Some.ensures.items w d
-          c.in_ok-closed-in-Some.field-0 c.in_ok-closed-in-Some.ensures.symbol c.in_ok-closed-in-Some.ensures.columns c.in_ok-closed-in-Some.ensures.rows;
-      next = record {
-        columns = c.in_ok-closed-in-Some.ensures.within;
-        rows = subst (λ (k : ℕ). AreAmong (rules_of S k) c.in_ok-closed-in-Some.field-0.rows.items) (flip c.in_ok-closed-in-Some.ensures.symbol)
-            (c.in_ok-closed-in-Some.ensures.among (rules_of S c.in-Some.pause.gap.symbol) p.gap.rows);
-      };
+      awaits = closed_on S c.wind.new.pool _ _ c.pop.new.self.items c.loop-stack.pauses.items c.in-Some.pause c.in_ok-value-in-Stands.value c.turn.new.left c.in-Some.ensures.items w d;
+      next = pause_goes S (length c.wind.new.pool) c.in-Some.pause c.in_ok-value-in-Stands.value p c.in_ok-value-in-Stands.ensures.there;
       stack = p.stack;
       pauses = pauses_popped S (length c.wind.new.pool) c.pop.new.self.items c.in-Some.pause ps;
       keeps = extends_more c.args.self.now.pool c.loop-stack.self.pool c.wind.new.pool c.loop-stack.invariant.keeps x;
@@ -283,236 +160,82 @@ evaluated-loop-stack-preserved t c =
       less = omega (arith, c.in_ok-term.ensures.turned, c.loop-stack.invariant.less);
     }
 
--- the guards of a row
+-- a selection with its answer, up to its next one
 
-abbrev first_column : Column
-first_column = record { depth = 0; term = record { 0 = 0 } }
-
-pub guard_holds-returns-in_ok-self-in-Guards-clause-gives : goal.guard_holds-returns-in_ok-self-in-Guards-clause-gives
-guard_holds-returns-in_ok-self-in-Guards-clause-gives t c =
+pub turn_selection-put_right-requires-clause-place : goal.turn_selection-put_right-requires-clause-place
+turn_selection-put_right-requires-clause-place t c =
     let S : PlainSignature = entries_of c.args.version.now in
-    guard_compared (comparison_of S) c.args.cell.now c.step_of.result c.in-Guards.guard.now c.args.self.now.pool c.guard_under.new.pool c.args.column.now c.in_ok-guard-in-Guards.guard c.args.left.now c.compare-alike.new.left
-    (captured_terms c.args.self.now.pool c.args.captures.now) c.compare-alike.result c.step_of.ensures (ap step_cell c.in-Guards.is) c.in_ok-guard-in-Guards.ensures.keeps c.requires.column c.in_ok-guard-in-Guards.ensures.is c.compare-alike.ensures.gives
+    let a = (rw c.in-Take.is at c.in_ok-ask.ensures.asks) (rules_of S c.args.selection.symbol) c.requires.selection.stands in
+    (rule_taken S (rules_of S c.args.selection.symbol) c.next.new.pool c.next.new.self c.next.new.self.stage c.in-Take.at c.in-Take.captures (selected S c.args.self.now.pool c.args.selection) (a.asks S)).0
 
-pub guards_hold-loop-i-preserved : goal.guards_hold-loop-i-preserved
-guards_hold-loop-i-preserved t c =
+pub turn_selection-returns-in-Take-clause-gives : goal.turn_selection-returns-in-Take-clause-gives
+turn_selection-returns-in-Take-clause-gives t c =
     let S : PlainSignature = entries_of c.args.version.now in
-    let lt : c.loop-i.i < length c.args.cells.now = omega (arith, c.min-i-end.ensures) in
-    let lt' : c.loop-i.i < length c.args.columns.now = omega (arith, c.min-i-end.ensures) in
-    let k : Column = get_or c.args.columns.now c.loop-i.i first_column in
-    let h = rw c.in-Ok-true.field-0-test at c.in-Ok-true.ensures.gives in
-    record {
-      same = guard_goes (normal_of S) (comparison_of S) c.loop-i.self.pool c.guard_holds.new.self.pool c.in-Ok-true.ensures.keeps c.args.cells.now c.args.columns.now c.loop-i.i c.loop-i.left c.guard_holds.new.left
-          (captured_terms c.loop-i.self.pool c.args.captures.now) c.index-cells-i.result k lt c.index-cells-i.is lt' (got_either c.args.columns.now c.loop-i.i first_column k lt') c.loop-i.invariant.columns
-          (captured_terms c.guard_holds.new.self.pool c.args.captures.now) (captures_grown c.loop-i.self.pool c.guard_holds.new.self.pool c.args.captures.now c.in-Ok-true.ensures.keeps c.loop-i.invariant.captures) h
-          ∙ c.loop-i.invariant.same;
-      columns = columns_within c.loop-i.self.pool c.guard_holds.new.self.pool c.args.columns.now c.in-Ok-true.ensures.keeps c.loop-i.invariant.columns;
-      captures = captures_within c.loop-i.self.pool c.guard_holds.new.self.pool c.args.captures.now c.in-Ok-true.ensures.keeps c.loop-i.invariant.captures;
-      keeps = extends_more c.args.self.now.pool c.loop-i.self.pool c.guard_holds.new.self.pool c.loop-i.invariant.keeps c.in-Ok-true.ensures.keeps;
-      serves = c.in-Ok-true.ensures.serves;
-      less = omega (arith, c.in-Ok-true.ensures.spent, c.loop-i.invariant.less);
-    }
-
-pub guards_hold-returns-in-Ok-false-clause-gives : goal.guards_hold-returns-in-Ok-false-clause-gives
-guards_hold-returns-in-Ok-false-clause-gives t c =
-    let S : PlainSignature = entries_of c.args.version.now in
-    let lt : c.loop-i.i < length c.args.cells.now = omega (arith, c.min-i-end.ensures) in
-    let lt' : c.loop-i.i < length c.args.columns.now = omega (arith, c.min-i-end.ensures) in
-    let k : Column = get_or c.args.columns.now c.loop-i.i first_column in
-    let h = rw c.in-Ok-false.field-0-test at c.in-Ok-false.ensures.gives in
-    flip c.loop-i.invariant.same
-    ∙ guard_misses (normal_of S) (comparison_of S) c.loop-i.self.pool c.guard_holds.new.self.pool c.in-Ok-false.ensures.keeps c.args.cells.now c.args.columns.now c.loop-i.i c.loop-i.left c.guard_holds.new.left
-    (captured_terms c.loop-i.self.pool c.args.captures.now) c.index-cells-i.result k lt c.index-cells-i.is lt' (got_either c.args.columns.now c.loop-i.i first_column k lt') c.loop-i.invariant.columns h
-
-pub guards_hold-returns-in-Err-clause-gives : goal.guards_hold-returns-in-Err-clause-gives
-guards_hold-returns-in-Err-clause-gives t c =
-    let S : PlainSignature = entries_of c.args.version.now in
-    let lt : c.loop-i.i < length c.args.cells.now = omega (arith, c.min-i-end.ensures) in
-    let lt' : c.loop-i.i < length c.args.columns.now = omega (arith, c.min-i-end.ensures) in
-    let k : Column = get_or c.args.columns.now c.loop-i.i first_column in
-    guard_stops (normal_of S) (comparison_of S) c.loop-i.self.pool c.guard_holds.new.self.pool c.in-Err.ensures.keeps c.args.cells.now c.args.columns.now c.loop-i.i c.loop-i.left c.guard_holds.new.left
-    (captured_terms c.loop-i.self.pool c.args.captures.now) c.index-cells-i.result k lt c.index-cells-i.is lt' (got_either c.args.columns.now c.loop-i.i first_column k lt') c.loop-i.invariant.columns
-    _ c.in-Err.stop c.loop-i.invariant.same c.in-Err.ensures.gives
-
-pub guards_hold-returns-clause-gives : goal.guards_hold-returns-clause-gives
-guards_hold-returns-clause-gives t c =
-    let S : PlainSignature = entries_of c.args.version.now in
-    flip c.loop-i.invariant.same ∙ guards_ended (normal_of S) (comparison_of S) c.loop-i.self.pool c.args.cells.now c.args.columns.now c.loop-i.i c.loop-i.left
-    (captured_terms c.loop-i.self.pool c.args.captures.now) (omega (arith, c.min-i-end.ensures))
-
--- a capture
-
-pub record-returns-then-variable-len-clause-gives : goal.record-returns-then-variable-len-clause-gives
-record-returns-then-variable-len-clause-gives t c =
-    recorded_new (comparison_of (entries_of c.args.version.now)) c.args.left.now c.args.self.now.pool c.args.captures.now.items c.args.variable c.args.part (flip (rw c.as_slice.ensures.value at c.in-None.ensures))
-
-pub record-returns-else-variable-len-clause-gives : goal.record-returns-else-variable-len-clause-gives
-record-returns-else-variable-len-clause-gives t c =
-    let past : length c.args.captures.now.items ≤ c.args.variable = omega (arith, c.if-variable-len.false, c.len.ensures, c.args.captures.now.ok.0) in
-    recorded_new (comparison_of (entries_of c.args.version.now)) c.args.left.now c.args.self.now.pool c.args.captures.now.items c.args.variable c.args.part (flip (rw c.as_slice.ensures.value at c.in-None.ensures))
-    ∙ ap (λ l. Some (Some (captured_terms c.args.self.now.pool l), c.args.left.now)) (set_past c.args.captures.now.items c.args.variable (Some c.args.part) past)
-
-pub record-returns-in_ok-self-in-Some-clause-gives : goal.record-returns-in_ok-self-in-Some-clause-gives
-record-returns-in_ok-self-in-Some-clause-gives t c =
-    recorded_before (comparison_of (entries_of c.args.version.now)) c.args.left.now c.args.self.now.pool c.args.captures.now.items c.args.variable c.args.part c.in-Some.earlier c.compare-alike.new.self.pool c.compare-alike.result c.compare-alike.new.left
-    (flip (rw c.as_slice.ensures.value at c.in-Some.ensures)) c.compare-alike.ensures.keeps c.requires.captures c.compare-alike.ensures.gives
-
--- a row
-
-pub row_taken-returns-in-Ok-false-clause-gives : goal.row_taken-returns-in-Ok-false-clause-gives
-row_taken-returns-in-Ok-false-clause-gives t c =
-    let S : PlainSignature = entries_of c.args.version.now in
-    let g = captures_begun (normal_of S) (comparison_of S) c.args.row.now c.as_slice-cells.result.now c.as_slice-cells.ensures.value c.args.left.now c.args.self.now.pool (plain c.args.self.now.pool c.args.columns.now)
-    c.in_ok-captures.captures.items (Ok c.in-Ok-false.field-0) (Ok false) (plain c.captures_of_row.new.self.pool c.captures_of_row.new.columns) (captured_terms c.captures_of_row.new.self.pool c.captures_of_row.new.captures.items)
-    c.captures_of_row.new.left c.in_ok-captures.ensures (ap Ok c.in-Ok-false.field-0-test) c.in-Ok-false.ensures.gives in
-    row_misses_all (normal_of S) (comparison_of S) (row c.args.row.now) (plain c.args.self.now.pool c.args.columns.now) c.args.left.now c.args.self.now.pool (plain c.captures_of_row.new.self.pool c.captures_of_row.new.columns)
-    c.captures_of_row.new.left g
-
-pub row_taken-returns-in-Err-clause-gives : goal.row_taken-returns-in-Err-clause-gives
-row_taken-returns-in-Err-clause-gives t c =
-    let S : PlainSignature = entries_of c.args.version.now in
-    let g = captures_begun (normal_of S) (comparison_of S) c.args.row.now c.as_slice-cells.result.now c.as_slice-cells.ensures.value c.args.left.now c.args.self.now.pool (plain c.args.self.now.pool c.args.columns.now)
-    c.in_ok-captures.captures.items (Err c.in-Err.stop) (Err c.in-Err.stop) (plain c.captures_of_row.new.self.pool c.captures_of_row.new.columns) (captured_terms c.captures_of_row.new.self.pool c.captures_of_row.new.captures.items)
-    c.captures_of_row.new.left c.in_ok-captures.ensures refl c.in-Err.ensures.gives in
-    row_ends_all (normal_of S) (comparison_of S) (row c.args.row.now) (plain c.args.self.now.pool c.args.columns.now) c.args.left.now c.args.self.now.pool c.captures_of_row.new.self.pool c.in-Err.stop
-    (plain c.captures_of_row.new.self.pool c.captures_of_row.new.columns) (plain c.captures_of_row.new.self.pool c.captures_of_row.new.columns) (captured_terms c.captures_of_row.new.self.pool c.captures_of_row.new.captures.items)
-    c.captures_of_row.new.left g
-
-pub row_taken-returns-in-Ok-false-guards_hold-clause-gives : goal.row_taken-returns-in-Ok-false-guards_hold-clause-gives
-row_taken-returns-in-Ok-false-guards_hold-clause-gives t c =
-    let S : PlainSignature = entries_of c.args.version.now in
-    let g = captures_begun (normal_of S) (comparison_of S) c.args.row.now c.as_slice-cells.result.now c.as_slice-cells.ensures.value c.args.left.now c.args.self.now.pool (plain c.args.self.now.pool c.args.columns.now)
-    c.in_ok-captures.captures.items (Ok c.in-Ok-true.field-0) (Ok true) (plain c.captures_of_row.new.self.pool c.captures_of_row.new.columns) (captured_terms c.captures_of_row.new.self.pool c.captures_of_row.new.captures.items)
-    c.captures_of_row.new.left c.in_ok-captures.ensures (ap Ok c.in-Ok-true.field-0-test) c.in-Ok-true.ensures.gives in
-    let h = guards_begun (normal_of S) (comparison_of S) c.args.row.now c.as_slice-cells.result.now c.as_slice-cells.ensures.value c.captures_of_row.new.left c.captures_of_row.new.self.pool
-    c.as_slice.result.now c.captures_of_row.new.columns.items c.as_slice-2.result.now c.captures_of_row.new.captures.items (Ok c.in-Ok-false-guards_hold.field-0) (Ok false) c.guards_hold.new.left
-    c.as_slice.ensures.value c.as_slice-2.ensures.value (ap Ok c.in-Ok-false-guards_hold.field-0-test) c.in-Ok-false-guards_hold.ensures.gives in
-    guards_miss_all (normal_of S) (comparison_of S) (row c.args.row.now) (plain c.args.self.now.pool c.args.columns.now) c.args.left.now c.args.self.now.pool c.captures_of_row.new.self.pool c.guards_hold.new.self.pool
-    c.captures_of_row.new.columns.items c.captures_of_row.new.captures.items c.captures_of_row.new.left c.in-Ok-false-guards_hold.ensures.keeps c.in-Ok-true.ensures.columns g c.guards_hold.new.left h
-
-pub row_taken-returns-in-Err-guards_hold-clause-gives : goal.row_taken-returns-in-Err-guards_hold-clause-gives
-row_taken-returns-in-Err-guards_hold-clause-gives t c =
-    let S : PlainSignature = entries_of c.args.version.now in
-    let g = captures_begun (normal_of S) (comparison_of S) c.args.row.now c.as_slice-cells.result.now c.as_slice-cells.ensures.value c.args.left.now c.args.self.now.pool (plain c.args.self.now.pool c.args.columns.now)
-    c.in_ok-captures.captures.items (Ok c.in-Ok-true.field-0) (Ok true) (plain c.captures_of_row.new.self.pool c.captures_of_row.new.columns) (captured_terms c.captures_of_row.new.self.pool c.captures_of_row.new.captures.items)
-    c.captures_of_row.new.left c.in_ok-captures.ensures (ap Ok c.in-Ok-true.field-0-test) c.in-Ok-true.ensures.gives in
-    let h = guards_begun (normal_of S) (comparison_of S) c.args.row.now c.as_slice-cells.result.now c.as_slice-cells.ensures.value c.captures_of_row.new.left c.captures_of_row.new.self.pool
-    c.as_slice.result.now c.captures_of_row.new.columns.items c.as_slice-2.result.now c.captures_of_row.new.captures.items (Err c.in-Err-guards_hold.stop) (Err c.in-Err-guards_hold.stop) c.guards_hold.new.left
-    c.as_slice.ensures.value c.as_slice-2.ensures.value refl c.in-Err-guards_hold.ensures.gives in
-    guards_end_all (normal_of S) (comparison_of S) (row c.args.row.now) (plain c.args.self.now.pool c.args.columns.now) c.args.left.now c.args.self.now.pool c.captures_of_row.new.self.pool c.guards_hold.new.self.pool
-    c.captures_of_row.new.columns.items c.captures_of_row.new.captures.items c.captures_of_row.new.left c.in-Err-guards_hold.ensures.keeps c.in-Ok-true.ensures.columns g
-    c.guards_hold.new.self.pool c.in-Err-guards_hold.stop (plain c.guards_hold.new.self.pool c.captures_of_row.new.columns) c.guards_hold.new.left h
-
-pub row_taken-returns-in-Ok-true-guards_hold-clause-gives : goal.row_taken-returns-in-Ok-true-guards_hold-clause-gives
-row_taken-returns-in-Ok-true-guards_hold-clause-gives t c =
-    let S : PlainSignature = entries_of c.args.version.now in
-    let g = captures_begun (normal_of S) (comparison_of S) c.args.row.now c.as_slice-cells.result.now c.as_slice-cells.ensures.value c.args.left.now c.args.self.now.pool (plain c.args.self.now.pool c.args.columns.now)
-    c.in_ok-captures.captures.items (Ok c.in-Ok-true.field-0) (Ok true) (plain c.captures_of_row.new.self.pool c.captures_of_row.new.columns) (captured_terms c.captures_of_row.new.self.pool c.captures_of_row.new.captures.items)
-    c.captures_of_row.new.left c.in_ok-captures.ensures (ap Ok c.in-Ok-true.field-0-test) c.in-Ok-true.ensures.gives in
-    let h = guards_begun (normal_of S) (comparison_of S) c.args.row.now c.as_slice-cells.result.now c.as_slice-cells.ensures.value c.captures_of_row.new.left c.captures_of_row.new.self.pool
-    c.as_slice.result.now c.captures_of_row.new.columns.items c.as_slice-2.result.now c.captures_of_row.new.captures.items (Ok c.in-Ok-true-guards_hold.field-0) (Ok true) c.guards_hold.new.left
-    c.as_slice.ensures.value c.as_slice-2.ensures.value (ap Ok c.in-Ok-true-guards_hold.field-0-test) c.in-Ok-true-guards_hold.ensures.gives in (
-      row_takes_all (normal_of S) (comparison_of S) (row c.args.row.now) (plain c.args.self.now.pool c.args.columns.now) c.args.left.now c.args.self.now.pool c.captures_of_row.new.self.pool c.guards_hold.new.self.pool
-          c.captures_of_row.new.columns.items c.captures_of_row.new.captures.items c.captures_of_row.new.left c.in-Ok-true-guards_hold.ensures.keeps c.in-Ok-true.ensures.columns g c.guards_hold.new.left c.in-Ok-true.ensures.captures h,
-      captures_within c.captures_of_row.new.self.pool c.guards_hold.new.self.pool c.captures_of_row.new.captures.items c.in-Ok-true-guards_hold.ensures.keeps c.in-Ok-true.ensures.captures,
-    )
-
--- the rounds of a selection
-
-pub select-returns-in-Ok-Some-clause-gives : goal.select-returns-in-Ok-Some-clause-gives
-select-returns-in-Ok-Some-clause-gives t c =
-    let S : PlainSignature = entries_of c.args.version.now in
-    let lt : c.loop-tried.tried < length c.args.matrix.rows.items = omega (arith, c.loop-tried-test.true, c.len-tried-end.ensures, c.args.matrix.rows.ok.0) in
-    let e : rigid_at (row c.index-row.result.now).cells ≡ None = ap (λ (l : List Cell). rigid_at (map plain_cell l)) (flip c.as_slice.ensures.value) ∙ flip c.in-None.ensures.value in
-    let h = rw c.in-Ok-Some.field-0-is at c.in-Ok-Some.ensures.gives in (
-      flip c.loop-tried.invariant.same ∙ row_takes S c.args.matrix.rows.items c.loop-tried.tried c.loop-tried.left (plain c.loop-tried.self.pool c.loop-tried.columns) c.index-row.result.now lt c.index-row.ensures
-          c.row_taken.new.left (plain c.row_taken.new.self.pool c.row_taken.new.columns) (captured_terms c.row_taken.new.self.pool c.in-Ok-Some.captures.items) e h.0,
-      h.1,
-      among_item (rules_of S c.args.matrix.symbol) c.args.matrix.rows.items c.loop-tried.tried c.index-row.result.now c.index-row.result.now c.requires.matrix.rows lt c.index-row.ensures refl,
-    )
-
-pub select-returns-in-Err-clause-gives : goal.select-returns-in-Err-clause-gives
-select-returns-in-Err-clause-gives t c =
-    let S : PlainSignature = entries_of c.args.version.now in
-    let lt : c.loop-tried.tried < length c.args.matrix.rows.items = omega (arith, c.loop-tried-test.true, c.len-tried-end.ensures, c.args.matrix.rows.ok.0) in
-    let e : rigid_at (row c.index-row.result.now).cells ≡ None = ap (λ (l : List Cell). rigid_at (map plain_cell l)) (flip c.as_slice.ensures.value) ∙ flip c.in-None.ensures.value in
-    no_choice S c.args.matrix.symbol _ _ c.row_taken.new.self.pool c.row_taken.new.self.pool c.in-Err.stop _ _ (λ h. flip c.loop-tried.invariant.same ∙ row_ends S c.args.matrix.rows.items c.loop-tried.tried c.loop-tried.left (plain c.loop-tried.self.pool c.loop-tried.columns)
-    c.index-row.result.now lt c.index-row.ensures e h) c.in-Err.ensures.gives
-
-pub select-returns-then-at-len-clause-gives : goal.select-returns-then-at-len-clause-gives
-select-returns-then-at-len-clause-gives t c =
-    let S : PlainSignature = entries_of c.args.version.now in
-    let lt : c.loop-tried.tried < length c.args.matrix.rows.items = omega (arith, c.loop-tried-test.true, c.len-tried-end.ensures, c.args.matrix.rows.ok.0) in
-    let e : rigid_at (row c.index-row.result.now).cells ≡ Some c.in-Some.at = ap (λ (l : List Cell). rigid_at (map plain_cell l)) (flip c.as_slice.ensures.value) ∙ flip c.in-Some.ensures.value in
-    let le : length c.loop-tried.columns.items ≤ c.in-Some.at = omega (arith, c.if-at-len.true, c.len.ensures, c.loop-tried.columns.ok.0) in
-    flip c.loop-tried.invariant.same ∙ no_column S c.args.matrix.rows.items c.loop-tried.tried c.loop-tried.left (plain c.loop-tried.self.pool c.loop-tried.columns) c.index-row.result.now lt c.index-row.ensures c.in-Some.at e
-    (past_end (column c.loop-tried.self.pool) c.loop-tried.columns.items c.in-Some.at le)
-
-pub select-returns-in-Some-clause-gives : goal.select-returns-in-Some-clause-gives
-select-returns-in-Some-clause-gives t c =
-    let S : PlainSignature = entries_of c.args.version.now in
-    let lt : c.loop-tried.tried < length c.args.matrix.rows.items = omega (arith, c.loop-tried-test.true, c.len-tried-end.ensures, c.args.matrix.rows.ok.0) in
-    let e : rigid_at (row c.index-row.result.now).cells ≡ Some c.in-Some.at = ap (λ (l : List Cell). rigid_at (map plain_cell l)) (flip c.as_slice.ensures.value) ∙ flip c.in-Some.ensures.value in
-    let g = c.in_ok-gap-in-Some.ensures in
-    let n : ℕ = length c.loop-tried.self.pool in (
-      flip c.loop-tried.invariant.same ∙ row_asks S c.args.matrix.rows.items c.loop-tried.tried c.loop-tried.left (plain c.loop-tried.self.pool c.loop-tried.columns) c.index-row.result.now lt c.index-row.ensures
-          c.loop-tried.self.pool c.in-Some.at c.in_ok-gap-in-Some.gap c.in_ok-gap-in-Some.term c.loop-tried.columns.items refl e g.term g.before g.behind (ap (λ (v : Vec Row Global). v.items) g.rows) g.tried,
-      g.symbol,
-      record {
-        before = subst (λ (l : List Column). AreColumns n l) (flip g.before) (columns_taken n c.in-Some.at c.loop-tried.columns.items c.loop-tried.invariant.columns);
-        behind = subst (λ (l : List Column). AreColumns n l) (flip g.behind) (columns_dropped n (c.in-Some.at + 1) c.loop-tried.columns.items c.loop-tried.invariant.columns);
-        rows = subst (λ (v : Vec Row Global). AreAmong (rules_of S c.in_ok-gap-in-Some.gap.symbol) v.items) (flip g.rows)
-            (subst (λ (k : ℕ). AreAmong (rules_of S k) c.args.matrix.rows.items) (flip g.symbol) c.requires.matrix.rows);
-      },
-      column_within n c.in-Some.at c.loop-tried.columns.items (record { depth = c.in_ok-gap-in-Some.gap.depth; term = c.in_ok-gap-in-Some.term }) c.loop-tried.invariant.columns g.term,
-    )
-
-pub select-loop-tried-preserved : goal.select-loop-tried-preserved
-select-loop-tried-preserved t c =
-    let S : PlainSignature = entries_of c.args.version.now in
-    let lt : c.loop-tried.tried < length c.args.matrix.rows.items = omega (arith, c.loop-tried-test.true, c.len-tried-end.ensures, c.args.matrix.rows.ok.0) in
-    let e : rigid_at (row c.index-row.result.now).cells ≡ None = ap (λ (l : List Cell). rigid_at (map plain_cell l)) (flip c.as_slice.ensures.value) ∙ flip c.in-None.ensures.value in
-    let h = rw c.in-Ok-None.field-0-is at c.in-Ok-None.ensures.gives in
-    record {
-      same = row_fails S c.args.matrix.rows.items c.loop-tried.tried c.loop-tried.left (plain c.loop-tried.self.pool c.loop-tried.columns) c.index-row.result.now lt c.index-row.ensures c.row_taken.new.left
-          (plain c.row_taken.new.self.pool c.row_taken.new.columns) e h ∙ c.loop-tried.invariant.same;
-      columns = c.in-Ok-None.ensures.columns;
-      keeps = extends_more c.args.self.now.pool c.loop-tried.self.pool c.row_taken.new.self.pool c.loop-tried.invariant.keeps c.in-Ok-None.ensures.keeps;
-      serves = c.in-Ok-None.ensures.serves;
-      less = omega (arith, c.row_taken.ensures.spent, c.loop-tried.invariant.less);
-    }
-
--- the turn of a matrix
-
-pub turn_matrix-returns-in_ok-next-in-Taken-clause-gives : goal.turn_matrix-returns-in_ok-next-in-Taken-clause-gives
-turn_matrix-returns-in_ok-next-in-Taken-clause-gives t c =
-    let S : PlainSignature = entries_of c.args.version.now in
-    let g = rw c.in-Taken.is at c.in_ok-captures.ensures.gives in
-    let p = rw c.as_slice.ensures.value at c.in_ok-next-in-Taken.ensures.puts in (
-      choice_goes S c.args.matrix c.args.left.now c.args.self.now.pool c.select.new.self.pool c.args.stack.now.items c.in_ok-captures.ensures.keeps c.requires.stack c.select.new.left
-          (captured_terms c.select.new.self.pool c.in-Taken.captures.items) (plain_rule_of c.in-Taken.rule)
-          (wound (term c.put_right.new.self.pool c.in_ok-next-in-Taken.next) (behind c.put_right.new.self.pool c.put_right.new.stack.items)) g.0 p.0,
+    let a = (rw c.in-Take.is at c.in_ok-ask.ensures.asks) (rules_of S c.args.selection.symbol) c.requires.selection.stands in
+    let g = rule_taken S (rules_of S c.args.selection.symbol) c.next.new.pool c.next.new.self c.next.new.self.stage c.in-Take.at c.in-Take.captures (selected S c.args.self.now.pool c.args.selection) (a.asks S) in
+    let p = rw c.as_slice.ensures.value at c.in_ok-next-in-Take.ensures.puts in (
+      selection_takes S c.args.selection c.args.left.now c.args.self.now.pool c.next.new.pool c.args.stack.now.items c.in_ok-ask.ensures.keeps c.requires.stack
+          (captured_terms c.next.new.pool c.in-Take.captures.items) (rule_at (rules_of S c.args.selection.symbol) c.in-Take.at)
+          (wound (term c.put_right.new.self.pool c.in_ok-next-in-Take.next) (behind c.put_right.new.self.pool c.put_right.new.stack.items)) (g.1 c.args.left.now) p.0,
       p.1,
     )
 
-pub turn_matrix-returns-in_ok-head-in-Nothing-clause-gives : goal.turn_matrix-returns-in_ok-head-in-Nothing-clause-gives
-turn_matrix-returns-in_ok-head-in-Nothing-clause-gives t c =
+pub turn_selection-returns-in-Nothing-clause-gives : goal.turn_selection-returns-in-Nothing-clause-gives
+turn_selection-returns-in-Nothing-clause-gives t c =
     let S : PlainSignature = entries_of c.args.version.now in
-    let g = rw c.in-Nothing.is at c.in_ok-captures.ensures.gives in (
-      choice_stands S c.args.matrix c.args.left.now c.args.self.now.pool c.select.new.self.pool c.args.stack.now.items c.in_ok-captures.ensures.keeps c.requires.stack c.select.new.left c.intern.new.self
-          c.in_ok-head-in-Nothing.head c.in_ok-head-in-Nothing.ensures.keeps g c.in_ok-head-in-Nothing.ensures.denotes,
+    let a = (rw c.in-Nothing.is at c.in_ok-ask.ensures.asks) (rules_of S c.args.selection.symbol) c.requires.selection.stands in
+    let g = none_taken S (rules_of S c.args.selection.symbol) c.next.new.pool c.next.new.self c.next.new.self.stage (selected S c.args.self.now.pool c.args.selection) (a.asks S) in (
+      selection_stands S c.args.selection c.args.left.now c.args.self.now.pool c.next.new.pool c.args.stack.now.items c.in_ok-ask.ensures.keeps c.requires.stack c.intern.new.self
+          c.in_ok-head-in-Nothing.head c.in_ok-head-in-Nothing.ensures.keeps (g c.args.left.now) c.in_ok-head-in-Nothing.ensures.denotes,
       c.in_ok-head-in-Nothing.ensures.within,
     )
 
-pub turn_matrix-returns-in-Asks-clause-gives : goal.turn_matrix-returns-in-Asks-clause-gives
-turn_matrix-returns-in-Asks-clause-gives t c =
+pub turn_selection-returns-in-Evaluate-clause-gives : goal.turn_selection-returns-in-Evaluate-clause-gives
+turn_selection-returns-in-Evaluate-clause-gives t c =
     let S : PlainSignature = entries_of c.args.version.now in
-    let g = rw c.in-Asks.is at c.in_ok-captures.ensures.gives in
-    turns_same S _ _ c.select.new.self.pool c.ask.new.stack.items c.ask.new.left c.ask.result
-    (choice_asks S c.args.matrix c.args.left.now c.args.self.now.pool c.select.new.self.pool c.args.stack.now.items c.in_ok-captures.ensures.keeps c.requires.stack c.select.new.left c.in-Asks.gap c.in-Asks.term g.0 g.1)
+    let a = (rw c.in-Evaluate.is at c.in_ok-ask.ensures.asks) (rules_of S c.args.selection.symbol) c.requires.selection.stands in
+    turns_same S _ _ c.next.new.pool c.ask.new.stack.items c.ask.new.left c.ask.result
+    (selection_waits S c.args.selection c.args.left.now c.args.self.now.pool c.next.new.pool c.args.stack.now.items c.in_ok-ask.ensures.keeps c.requires.stack c.next.new.self c.in-Evaluate.column
+    (rw c.in-Evaluate.is at c.in_ok-ask.ensures.awaits) (a.asks S))
     c.ask.ensures.gives
 
--- The steps of a comparison
+pub turn_selection-returns-in-Escape-clause-gives : goal.turn_selection-returns-in-Escape-clause-gives
+turn_selection-returns-in-Escape-clause-gives t c =
+    let S : PlainSignature = entries_of c.args.version.now in
+    let k = rules_of S c.args.selection.symbol in
+    let a = (rw c.in-Escape.is at c.in_ok-ask.ensures.asks) k c.requires.selection.stands in
+    let g = c.in_ok-normal-in-Escape.ensures.gives in
+    let x = c.in_ok-normal-in-Escape.ensures.keeps in
+    let e = normal_told S k c.next.new.pool c.normalise_inside.new.self.pool c.next.new.self x c.in_ok-ask.ensures.within c.next.new.self.stage c.in-Escape.part c.in_ok-normal-in-Escape.normal
+    (selected S c.args.self.now.pool c.args.selection) c.args.left.now c.normalise_inside.new.left (a.asks S) g.0 in (
+      selection_goes S c.args.selection c.args.left.now c.args.self.now.pool c.next.new.pool c.args.stack.now.items c.in_ok-ask.ensures.keeps c.requires.stack c.normalise_inside.new.self.pool c.next.new.self
+          (Normal c.in_ok-normal-in-Escape.normal) c.normalise_inside.new.left x e,
+      record {
+        matcher = matcher_grown c.next.new.pool c.normalise_inside.new.self.pool c.next.new.self x c.in_ok-ask.ensures.within;
+        answer = normal_fits (length c.normalise_inside.new.self.pool) c.next.new.self.stage c.in-Escape.part c.in_ok-normal-in-Escape.normal (rw c.in-Escape.is at c.in_ok-ask.ensures.awaits) g.1;
+        stands = a.stands;
+      },
+    )
+
+pub turn_selection-returns-clause-gives : goal.turn_selection-returns-clause-gives
+turn_selection-returns-clause-gives t c =
+    let S : PlainSignature = entries_of c.args.version.now in
+    let k = rules_of S c.args.selection.symbol in
+    let a = (rw c.in-Same.is at c.in_ok-ask.ensures.asks) k c.requires.selection.stands in
+    let x = c.in_ok-alike-in-Same.ensures.keeps in
+    let e = alike_told S k c.next.new.pool c.compare_inside.new.self.pool c.next.new.self x c.in_ok-ask.ensures.within c.next.new.self.stage c.in-Same.first c.in-Same.second
+    (selected S c.args.self.now.pool c.args.selection) c.args.left.now c.compare_inside.new.left c.in_ok-alike-in-Same.alike c.told.result (a.asks S) c.in_ok-alike-in-Same.ensures.gives c.told.ensures in (
+      selection_goes S c.args.selection c.args.left.now c.args.self.now.pool c.next.new.pool c.args.stack.now.items c.in_ok-ask.ensures.keeps c.requires.stack c.compare_inside.new.self.pool c.next.new.self
+          c.told.result c.compare_inside.new.left x e,
+      record {
+        matcher = matcher_grown c.next.new.pool c.compare_inside.new.self.pool c.next.new.self x c.in_ok-ask.ensures.within;
+        answer = alike_answers (length c.compare_inside.new.self.pool) c.next.new.self.stage c.in-Same.first c.in-Same.second c.in_ok-alike-in-Same.alike c.told.result
+            (rw c.in-Same.is at c.in_ok-ask.ensures.awaits) c.told.ensures;
+        stands = a.stands;
+      },
+    )
+
+-- the steps of a comparison
 
 pub compare-compare_pair-requires-then-alike : goal.compare-compare_pair-requires-then-alike
 compare-compare_pair-requires-then-alike t c =
@@ -839,284 +562,11 @@ descend-loop-left-preserved t c =
 
 -- what each end keeps
 
-pub captures_of_row-returns-clause-keeps : goal.captures_of_row-returns-clause-keeps
-captures_of_row-returns-clause-keeps t c = c.loop-i.invariant.keeps
-
-pub captures_of_row-returns-clause-serves : goal.captures_of_row-returns-clause-serves
-captures_of_row-returns-clause-serves t c = c.loop-i.invariant.serves
-
-pub captures_of_row-returns-in-Err-clause-keeps : goal.captures_of_row-returns-in-Err-clause-keeps
-captures_of_row-returns-in-Err-clause-keeps t c = extends_more c.args.self.now.pool c.loop-i.self.pool c.cell_captures.new.self.pool c.loop-i.invariant.keeps c.in-Err.ensures.keeps
-
-pub captures_of_row-returns-in-Err-clause-serves : goal.captures_of_row-returns-in-Err-clause-serves
-captures_of_row-returns-in-Err-clause-serves t c = c.in-Err.ensures.serves
-
-pub captures_of_row-returns-in-Ok-false-clause-keeps : goal.captures_of_row-returns-in-Ok-false-clause-keeps
-captures_of_row-returns-in-Ok-false-clause-keeps t c = extends_more c.args.self.now.pool c.loop-i.self.pool c.cell_captures.new.self.pool c.loop-i.invariant.keeps c.in-Ok-false.ensures.keeps
-
-pub captures_of_row-returns-in-Ok-false-clause-serves : goal.captures_of_row-returns-in-Ok-false-clause-serves
-captures_of_row-returns-in-Ok-false-clause-serves t c = c.in-Ok-false.ensures.serves
-
-pub captures_of_row-returns-clause-captures : goal.captures_of_row-returns-clause-captures
-captures_of_row-returns-clause-captures t c = c.loop-i.invariant.captures
-
-pub captures_of_row-returns-clause-columns : goal.captures_of_row-returns-clause-columns
-captures_of_row-returns-clause-columns t c = c.loop-i.invariant.columns
-
-pub captures_of_row-returns-in-Ok-false-clause-captures : goal.captures_of_row-returns-in-Ok-false-clause-captures
-captures_of_row-returns-in-Ok-false-clause-captures t c = c.in-Ok-false.ensures.captures
-
-pub cell_captures-returns-in-Guards-clause-keeps : goal.cell_captures-returns-in-Guards-clause-keeps
-cell_captures-returns-in-Guards-clause-keeps t c = extends_none c.args.self.now.pool
-
-pub cell_captures-returns-in-Guards-clause-serves : goal.cell_captures-returns-in-Guards-clause-serves
-cell_captures-returns-in-Guards-clause-serves t c = c.requires.serves
-
-pub cell_captures-returns-in-Guards-clause-captures : goal.cell_captures-returns-in-Guards-clause-captures
-cell_captures-returns-in-Guards-clause-captures t c = c.requires.captures
-
-pub cell_captures-returns-in-Guards-clause-column : goal.cell_captures-returns-in-Guards-clause-column
-cell_captures-returns-in-Guards-clause-column t c = c.requires.column
-
-pub cell_captures-returns-in-Passes-clause-keeps : goal.cell_captures-returns-in-Passes-clause-keeps
-cell_captures-returns-in-Passes-clause-keeps t c = extends_none c.args.self.now.pool
-
-pub cell_captures-returns-in-Passes-clause-serves : goal.cell_captures-returns-in-Passes-clause-serves
-cell_captures-returns-in-Passes-clause-serves t c = c.requires.serves
-
-pub cell_captures-returns-in-Passes-clause-captures : goal.cell_captures-returns-in-Passes-clause-captures
-cell_captures-returns-in-Passes-clause-captures t c = c.requires.captures
-
-pub cell_captures-returns-in-Passes-clause-column : goal.cell_captures-returns-in-Passes-clause-column
-cell_captures-returns-in-Passes-clause-column t c = c.requires.column
-
-pub cell_captures-returns-in_err-part_at-in-Captures-clause-keeps : goal.cell_captures-returns-in_err-part_at-in-Captures-clause-keeps
-cell_captures-returns-in_err-part_at-in-Captures-clause-keeps t c = c.in_err-part_at-in-Captures.ensures.keeps
-
-pub cell_captures-returns-in_err-part_at-in-Captures-clause-serves : goal.cell_captures-returns-in_err-part_at-in-Captures-clause-serves
-cell_captures-returns-in_err-part_at-in-Captures-clause-serves t c = c.in_err-part_at-in-Captures.ensures.serves
-
-pub cell_captures-returns-then-not-branch-clause-keeps : goal.cell_captures-returns-then-not-branch-clause-keeps
-cell_captures-returns-then-not-branch-clause-keeps t c = c.in_ok-part_at-in-Captures.ensures.keeps
-
-pub cell_captures-returns-then-not-branch-clause-serves : goal.cell_captures-returns-then-not-branch-clause-serves
-cell_captures-returns-then-not-branch-clause-serves t c = c.in_ok-part_at-in-Captures.ensures.serves
-
-pub cell_captures-returns-then-not-branch-clause-captures : goal.cell_captures-returns-then-not-branch-clause-captures
-cell_captures-returns-then-not-branch-clause-captures t c = captures_within c.args.self.now.pool c.part_at.new.self.pool c.args.captures.now.items c.in_ok-part_at-in-Captures.ensures.keeps c.requires.captures
-
-pub cell_captures-returns-then-not-branch-clause-column : goal.cell_captures-returns-then-not-branch-clause-column
-cell_captures-returns-then-not-branch-clause-column t c = c.in_ok-part_at-in-Captures.ensures.column
-
-pub cell_captures-returns-in_err-part-in-Captures-clause-keeps : goal.cell_captures-returns-in_err-part-in-Captures-clause-keeps
-cell_captures-returns-in_err-part-in-Captures-clause-keeps t c = extends_more c.args.self.now.pool c.part_at.new.self.pool c.captured.new.pool c.in_ok-part_at-in-Captures.ensures.keeps c.in_err-part-in-Captures.ensures.keeps
-
-pub cell_captures-returns-in_err-part-in-Captures-clause-serves : goal.cell_captures-returns-in_err-part-in-Captures-clause-serves
-cell_captures-returns-in_err-part-in-Captures-clause-serves t c = serves_grown (entries_of c.args.version.now) c.part_at.new.self c.captured.new.pool c.part_at.new.self.nested c.in_err-part-in-Captures.ensures.keeps c.in_ok-part_at-in-Captures.ensures.serves
-
-pub cell_captures-returns-in_ok-part-in-Captures-clause-keeps : goal.cell_captures-returns-in_ok-part-in-Captures-clause-keeps
-cell_captures-returns-in_ok-part-in-Captures-clause-keeps t c = extends_more c.args.self.now.pool c.captured.new.pool c.record.new.self.pool (extends_more c.args.self.now.pool c.part_at.new.self.pool c.captured.new.pool c.in_ok-part_at-in-Captures.ensures.keeps c.in_ok-part-in-Captures.ensures.keeps) c.record.ensures.keeps
-
-pub cell_captures-returns-in_ok-part-in-Captures-clause-serves : goal.cell_captures-returns-in_ok-part-in-Captures-clause-serves
-cell_captures-returns-in_ok-part-in-Captures-clause-serves t c = c.record.ensures.serves
-
-pub cell_captures-returns-in_ok-part-in-Captures-clause-captures : goal.cell_captures-returns-in_ok-part-in-Captures-clause-captures
-cell_captures-returns-in_ok-part-in-Captures-clause-captures t c = c.record.ensures.captures
-
-pub part_at-returns-then-not-branch-clause-keeps : goal.part_at-returns-then-not-branch-clause-keeps
-part_at-returns-then-not-branch-clause-keeps t c = c.in_ok-mentions_others.ensures.keeps
-
-pub part_at-returns-then-not-branch-clause-serves : goal.part_at-returns-then-not-branch-clause-serves
-part_at-returns-then-not-branch-clause-serves t c = serves_grown (entries_of c.args.version.now) c.args.self.now c.mentions_others.new.pool c.args.self.now.nested c.in_ok-mentions_others.ensures.keeps c.requires.serves
-
-pub part_at-returns-in_err-mentions_others-clause-keeps : goal.part_at-returns-in_err-mentions_others-clause-keeps
-part_at-returns-in_err-mentions_others-clause-keeps t c = c.in_err-mentions_others.ensures.keeps
-
-pub part_at-returns-in_err-mentions_others-clause-serves : goal.part_at-returns-in_err-mentions_others-clause-serves
-part_at-returns-in_err-mentions_others-clause-serves t c = serves_grown (entries_of c.args.version.now) c.args.self.now c.mentions_others.new.pool c.args.self.now.nested c.in_err-mentions_others.ensures.keeps c.requires.serves
-
-pub part_at-returns-in_err-self-clause-keeps : goal.part_at-returns-in_err-self-clause-keeps
-part_at-returns-in_err-self-clause-keeps t c = c.in_ok-mentions_others.ensures.keeps
-
-pub part_at-returns-in_err-self-clause-serves : goal.part_at-returns-in_err-self-clause-serves
-part_at-returns-in_err-self-clause-serves t c = serves_grown (entries_of c.args.version.now) c.args.self.now c.mentions_others.new.pool c.args.self.now.nested c.in_ok-mentions_others.ensures.keeps c.requires.serves
-
-pub part_at-returns-in_err-column-clause-keeps : goal.part_at-returns-in_err-column-clause-keeps
-part_at-returns-in_err-column-clause-keeps t c = extends_more c.args.self.now.pool c.mentions_others.new.pool c.normalise-normal.new.self.pool c.in_ok-mentions_others.ensures.keeps c.normalise-normal.ensures.keeps
-
-pub part_at-returns-in_err-column-clause-serves : goal.part_at-returns-in_err-column-clause-serves
-part_at-returns-in_err-column-clause-serves t c = serves_again (entries_of c.args.version.now) c.normalise-normal.new.self c.args.self.now.nested c.normalise-normal.ensures.serves
-
-pub part_at-returns-in_err-others-clause-keeps : goal.part_at-returns-in_err-others-clause-keeps
-part_at-returns-in_err-others-clause-keeps t c = extends_more c.args.self.now.pool c.normalise-normal.new.self.pool c.mentions_others-2.new.pool (extends_more c.args.self.now.pool c.mentions_others.new.pool c.normalise-normal.new.self.pool c.in_ok-mentions_others.ensures.keeps c.normalise-normal.ensures.keeps) c.in_err-others.ensures.keeps
-
-pub part_at-returns-in_err-others-clause-serves : goal.part_at-returns-in_err-others-clause-serves
-part_at-returns-in_err-others-clause-serves t c = serves_grown (entries_of c.args.version.now) c.normalise-normal.new.self c.mentions_others-2.new.pool c.args.self.now.nested c.in_err-others.ensures.keeps c.normalise-normal.ensures.serves
-
-pub part_at-returns-clause-keeps : goal.part_at-returns-clause-keeps
-part_at-returns-clause-keeps t c = extends_more c.args.self.now.pool c.normalise-normal.new.self.pool c.mentions_others-2.new.pool (extends_more c.args.self.now.pool c.mentions_others.new.pool c.normalise-normal.new.self.pool c.in_ok-mentions_others.ensures.keeps c.normalise-normal.ensures.keeps) c.in_ok-others.ensures.keeps
-
-pub part_at-returns-clause-serves : goal.part_at-returns-clause-serves
-part_at-returns-clause-serves t c = serves_grown (entries_of c.args.version.now) c.normalise-normal.new.self c.mentions_others-2.new.pool c.args.self.now.nested c.in_ok-others.ensures.keeps c.normalise-normal.ensures.serves
-
-pub record-returns-then-variable-len-clause-keeps : goal.record-returns-then-variable-len-clause-keeps
-record-returns-then-variable-len-clause-keeps t c = extends_none c.args.self.now.pool
-
-pub record-returns-then-variable-len-clause-serves : goal.record-returns-then-variable-len-clause-serves
-record-returns-then-variable-len-clause-serves t c = c.requires.serves
-
-pub record-returns-else-variable-len-clause-keeps : goal.record-returns-else-variable-len-clause-keeps
-record-returns-else-variable-len-clause-keeps t c = extends_none c.args.self.now.pool
-
-pub record-returns-else-variable-len-clause-serves : goal.record-returns-else-variable-len-clause-serves
-record-returns-else-variable-len-clause-serves t c = c.requires.serves
-
-pub record-returns-in_err-self-in-Some-clause-keeps : goal.record-returns-in_err-self-in-Some-clause-keeps
-record-returns-in_err-self-in-Some-clause-keeps t c = extends_none c.args.self.now.pool
-
-pub record-returns-in_err-self-in-Some-clause-serves : goal.record-returns-in_err-self-in-Some-clause-serves
-record-returns-in_err-self-in-Some-clause-serves t c = c.requires.serves
-
-pub record-returns-in_ok-self-in-Some-clause-keeps : goal.record-returns-in_ok-self-in-Some-clause-keeps
-record-returns-in_ok-self-in-Some-clause-keeps t c = c.compare-alike.ensures.keeps
-
-pub record-returns-in_ok-self-in-Some-clause-serves : goal.record-returns-in_ok-self-in-Some-clause-serves
-record-returns-in_ok-self-in-Some-clause-serves t c = serves_again (entries_of c.args.version.now) c.compare-alike.new.self c.args.self.now.nested c.compare-alike.ensures.serves
-
-pub guard_holds-returns-in-Captures-clause-keeps : goal.guard_holds-returns-in-Captures-clause-keeps
-guard_holds-returns-in-Captures-clause-keeps t c = extends_none c.args.self.now.pool
-
-pub guard_holds-returns-in-Captures-clause-serves : goal.guard_holds-returns-in-Captures-clause-serves
-guard_holds-returns-in-Captures-clause-serves t c = c.requires.serves
-
-pub guard_holds-returns-in-Passes-clause-keeps : goal.guard_holds-returns-in-Passes-clause-keeps
-guard_holds-returns-in-Passes-clause-keeps t c = extends_none c.args.self.now.pool
-
-pub guard_holds-returns-in-Passes-clause-serves : goal.guard_holds-returns-in-Passes-clause-serves
-guard_holds-returns-in-Passes-clause-serves t c = c.requires.serves
-
-pub guard_holds-returns-in_err-guard-in-Guards-clause-keeps : goal.guard_holds-returns-in_err-guard-in-Guards-clause-keeps
-guard_holds-returns-in_err-guard-in-Guards-clause-keeps t c = c.in_err-guard-in-Guards.ensures.keeps
-
-pub guard_holds-returns-in_err-guard-in-Guards-clause-serves : goal.guard_holds-returns-in_err-guard-in-Guards-clause-serves
-guard_holds-returns-in_err-guard-in-Guards-clause-serves t c = serves_grown (entries_of c.args.version.now) c.args.self.now c.guard_under.new.pool c.args.self.now.nested c.in_err-guard-in-Guards.ensures.keeps c.requires.serves
-
-pub guard_holds-returns-in_err-self-in-Guards-clause-keeps : goal.guard_holds-returns-in_err-self-in-Guards-clause-keeps
-guard_holds-returns-in_err-self-in-Guards-clause-keeps t c = c.in_ok-guard-in-Guards.ensures.keeps
-
-pub guard_holds-returns-in_err-self-in-Guards-clause-serves : goal.guard_holds-returns-in_err-self-in-Guards-clause-serves
-guard_holds-returns-in_err-self-in-Guards-clause-serves t c = serves_grown (entries_of c.args.version.now) c.args.self.now c.guard_under.new.pool c.args.self.now.nested c.in_ok-guard-in-Guards.ensures.keeps c.requires.serves
-
-pub guard_holds-returns-in_ok-self-in-Guards-clause-keeps : goal.guard_holds-returns-in_ok-self-in-Guards-clause-keeps
-guard_holds-returns-in_ok-self-in-Guards-clause-keeps t c = extends_more c.args.self.now.pool c.guard_under.new.pool c.compare-alike.new.self.pool c.in_ok-guard-in-Guards.ensures.keeps c.compare-alike.ensures.keeps
-
-pub guard_holds-returns-in_ok-self-in-Guards-clause-serves : goal.guard_holds-returns-in_ok-self-in-Guards-clause-serves
-guard_holds-returns-in_ok-self-in-Guards-clause-serves t c = serves_again (entries_of c.args.version.now) c.compare-alike.new.self c.args.self.now.nested c.compare-alike.ensures.serves
-
-pub guards_hold-returns-clause-keeps : goal.guards_hold-returns-clause-keeps
-guards_hold-returns-clause-keeps t c = c.loop-i.invariant.keeps
-
-pub guards_hold-returns-clause-serves : goal.guards_hold-returns-clause-serves
-guards_hold-returns-clause-serves t c = c.loop-i.invariant.serves
-
-pub guards_hold-returns-in-Err-clause-keeps : goal.guards_hold-returns-in-Err-clause-keeps
-guards_hold-returns-in-Err-clause-keeps t c = extends_more c.args.self.now.pool c.loop-i.self.pool c.guard_holds.new.self.pool c.loop-i.invariant.keeps c.in-Err.ensures.keeps
-
-pub guards_hold-returns-in-Err-clause-serves : goal.guards_hold-returns-in-Err-clause-serves
-guards_hold-returns-in-Err-clause-serves t c = c.in-Err.ensures.serves
-
-pub guards_hold-returns-in-Ok-false-clause-keeps : goal.guards_hold-returns-in-Ok-false-clause-keeps
-guards_hold-returns-in-Ok-false-clause-keeps t c = extends_more c.args.self.now.pool c.loop-i.self.pool c.guard_holds.new.self.pool c.loop-i.invariant.keeps c.in-Ok-false.ensures.keeps
-
-pub guards_hold-returns-in-Ok-false-clause-serves : goal.guards_hold-returns-in-Ok-false-clause-serves
-guards_hold-returns-in-Ok-false-clause-serves t c = c.in-Ok-false.ensures.serves
-
-pub row_taken-returns-in_err-captures-clause-keeps : goal.row_taken-returns-in_err-captures-clause-keeps
-row_taken-returns-in_err-captures-clause-keeps t c = extends_none c.args.self.now.pool
-
-pub row_taken-returns-in_err-captures-clause-serves : goal.row_taken-returns-in_err-captures-clause-serves
-row_taken-returns-in_err-captures-clause-serves t c = c.requires.serves
-
-pub row_taken-returns-in-Ok-false-clause-keeps : goal.row_taken-returns-in-Ok-false-clause-keeps
-row_taken-returns-in-Ok-false-clause-keeps t c = c.in-Ok-false.ensures.keeps
-
-pub row_taken-returns-in-Ok-false-clause-serves : goal.row_taken-returns-in-Ok-false-clause-serves
-row_taken-returns-in-Ok-false-clause-serves t c = c.in-Ok-false.ensures.serves
-
-pub row_taken-returns-in-Err-clause-keeps : goal.row_taken-returns-in-Err-clause-keeps
-row_taken-returns-in-Err-clause-keeps t c = c.in-Err.ensures.keeps
-
-pub row_taken-returns-in-Err-clause-serves : goal.row_taken-returns-in-Err-clause-serves
-row_taken-returns-in-Err-clause-serves t c = c.in-Err.ensures.serves
-
-pub row_taken-returns-in-Ok-false-clause-columns : goal.row_taken-returns-in-Ok-false-clause-columns
-row_taken-returns-in-Ok-false-clause-columns t c = c.in-Ok-false.ensures.columns
-
-pub row_taken-returns-in-Ok-false-guards_hold-clause-keeps : goal.row_taken-returns-in-Ok-false-guards_hold-clause-keeps
-row_taken-returns-in-Ok-false-guards_hold-clause-keeps t c = extends_more c.args.self.now.pool c.captures_of_row.new.self.pool c.guards_hold.new.self.pool c.in-Ok-true.ensures.keeps c.in-Ok-false-guards_hold.ensures.keeps
-
-pub row_taken-returns-in-Ok-false-guards_hold-clause-serves : goal.row_taken-returns-in-Ok-false-guards_hold-clause-serves
-row_taken-returns-in-Ok-false-guards_hold-clause-serves t c = c.in-Ok-false-guards_hold.ensures.serves
-
-pub row_taken-returns-in-Ok-false-guards_hold-clause-columns : goal.row_taken-returns-in-Ok-false-guards_hold-clause-columns
-row_taken-returns-in-Ok-false-guards_hold-clause-columns t c = columns_within c.captures_of_row.new.self.pool c.guards_hold.new.self.pool c.captures_of_row.new.columns.items c.in-Ok-false-guards_hold.ensures.keeps c.in-Ok-true.ensures.columns
-
-pub row_taken-returns-in-Ok-true-guards_hold-clause-keeps : goal.row_taken-returns-in-Ok-true-guards_hold-clause-keeps
-row_taken-returns-in-Ok-true-guards_hold-clause-keeps t c = extends_more c.args.self.now.pool c.captures_of_row.new.self.pool c.guards_hold.new.self.pool c.in-Ok-true.ensures.keeps c.in-Ok-true-guards_hold.ensures.keeps
-
-pub row_taken-returns-in-Ok-true-guards_hold-clause-serves : goal.row_taken-returns-in-Ok-true-guards_hold-clause-serves
-row_taken-returns-in-Ok-true-guards_hold-clause-serves t c = c.in-Ok-true-guards_hold.ensures.serves
-
-pub row_taken-returns-in-Ok-true-guards_hold-clause-columns : goal.row_taken-returns-in-Ok-true-guards_hold-clause-columns
-row_taken-returns-in-Ok-true-guards_hold-clause-columns t c = columns_within c.captures_of_row.new.self.pool c.guards_hold.new.self.pool c.captures_of_row.new.columns.items c.in-Ok-true-guards_hold.ensures.keeps c.in-Ok-true.ensures.columns
-
-pub row_taken-returns-in-Err-guards_hold-clause-keeps : goal.row_taken-returns-in-Err-guards_hold-clause-keeps
-row_taken-returns-in-Err-guards_hold-clause-keeps t c = extends_more c.args.self.now.pool c.captures_of_row.new.self.pool c.guards_hold.new.self.pool c.in-Ok-true.ensures.keeps c.in-Err-guards_hold.ensures.keeps
-
-pub row_taken-returns-in-Err-guards_hold-clause-serves : goal.row_taken-returns-in-Err-guards_hold-clause-serves
-row_taken-returns-in-Err-guards_hold-clause-serves t c = c.in-Err-guards_hold.ensures.serves
-
-pub select-returns-clause-keeps : goal.select-returns-clause-keeps
-select-returns-clause-keeps t c = c.loop-tried.invariant.keeps
-
-pub select-returns-clause-serves : goal.select-returns-clause-serves
-select-returns-clause-serves t c = c.loop-tried.invariant.serves
-
-pub select-returns-in-Some-clause-keeps : goal.select-returns-in-Some-clause-keeps
-select-returns-in-Some-clause-keeps t c = c.loop-tried.invariant.keeps
-
-pub select-returns-in-Some-clause-serves : goal.select-returns-in-Some-clause-serves
-select-returns-in-Some-clause-serves t c = c.loop-tried.invariant.serves
-
-pub select-returns-in_err-gap-in-Some-clause-keeps : goal.select-returns-in_err-gap-in-Some-clause-keeps
-select-returns-in_err-gap-in-Some-clause-keeps t c = c.loop-tried.invariant.keeps
-
-pub select-returns-in_err-gap-in-Some-clause-serves : goal.select-returns-in_err-gap-in-Some-clause-serves
-select-returns-in_err-gap-in-Some-clause-serves t c = c.loop-tried.invariant.serves
-
-pub select-returns-then-at-len-clause-keeps : goal.select-returns-then-at-len-clause-keeps
-select-returns-then-at-len-clause-keeps t c = c.loop-tried.invariant.keeps
-
-pub select-returns-then-at-len-clause-serves : goal.select-returns-then-at-len-clause-serves
-select-returns-then-at-len-clause-serves t c = c.loop-tried.invariant.serves
-
-pub select-returns-in-Ok-Some-clause-keeps : goal.select-returns-in-Ok-Some-clause-keeps
-select-returns-in-Ok-Some-clause-keeps t c = extends_more c.args.self.now.pool c.loop-tried.self.pool c.row_taken.new.self.pool c.loop-tried.invariant.keeps c.in-Ok-Some.ensures.keeps
-
-pub select-returns-in-Ok-Some-clause-serves : goal.select-returns-in-Ok-Some-clause-serves
-select-returns-in-Ok-Some-clause-serves t c = c.in-Ok-Some.ensures.serves
-
-pub select-returns-in-Err-clause-keeps : goal.select-returns-in-Err-clause-keeps
-select-returns-in-Err-clause-keeps t c = extends_more c.args.self.now.pool c.loop-tried.self.pool c.row_taken.new.self.pool c.loop-tried.invariant.keeps c.in-Err.ensures.keeps
-
-pub select-returns-in-Err-clause-serves : goal.select-returns-in-Err-clause-serves
-select-returns-in-Err-clause-serves t c = c.in-Err.ensures.serves
-
-pub turn-returns-in-Selection-clause-keeps : goal.turn-returns-in-Selection-clause-keeps
-turn-returns-in-Selection-clause-keeps t c = c.turn_matrix.ensures.keeps
-
-pub turn-returns-in-Selection-clause-serves : goal.turn-returns-in-Selection-clause-serves
-turn-returns-in-Selection-clause-serves t c = c.turn_matrix.ensures.serves
+pub turn-returns-in-Goes-clause-keeps : goal.turn-returns-in-Goes-clause-keeps
+turn-returns-in-Goes-clause-keeps t c = c.turn_selection.ensures.keeps
+
+pub turn-returns-in-Goes-clause-serves : goal.turn-returns-in-Goes-clause-serves
+turn-returns-in-Goes-clause-serves t c = c.turn_selection.ensures.serves
 
 pub turn-returns-in_ok-head-in-Whole-clause-keeps : goal.turn-returns-in_ok-head-in-Whole-clause-keeps
 turn-returns-in_ok-head-in-Whole-clause-keeps t c = c.turn_head.ensures.keeps
@@ -1129,45 +579,6 @@ turn-returns-in_err-head-in-Whole-clause-keeps t c = extends_none c.args.self.no
 
 pub turn-returns-in_err-head-in-Whole-clause-serves : goal.turn-returns-in_err-head-in-Whole-clause-serves
 turn-returns-in_err-head-in-Whole-clause-serves t c = c.requires.serves
-
-pub turn_matrix-returns-in_err-captures-clause-keeps : goal.turn_matrix-returns-in_err-captures-clause-keeps
-turn_matrix-returns-in_err-captures-clause-keeps t c = c.in_err-captures.ensures.keeps
-
-pub turn_matrix-returns-in_err-captures-clause-serves : goal.turn_matrix-returns-in_err-captures-clause-serves
-turn_matrix-returns-in_err-captures-clause-serves t c = c.in_err-captures.ensures.serves
-
-pub turn_matrix-returns-in_ok-next-in-Taken-clause-keeps : goal.turn_matrix-returns-in_ok-next-in-Taken-clause-keeps
-turn_matrix-returns-in_ok-next-in-Taken-clause-keeps t c = extends_more c.args.self.now.pool c.select.new.self.pool c.put_right.new.self.pool c.in_ok-captures.ensures.keeps c.in_ok-next-in-Taken.ensures.keeps
-
-pub turn_matrix-returns-in_ok-next-in-Taken-clause-serves : goal.turn_matrix-returns-in_ok-next-in-Taken-clause-serves
-turn_matrix-returns-in_ok-next-in-Taken-clause-serves t c = c.in_ok-next-in-Taken.ensures.serves
-
-pub turn_matrix-returns-in_err-next-in-Taken-clause-keeps : goal.turn_matrix-returns-in_err-next-in-Taken-clause-keeps
-turn_matrix-returns-in_err-next-in-Taken-clause-keeps t c = extends_more c.args.self.now.pool c.select.new.self.pool c.put_right.new.self.pool c.in_ok-captures.ensures.keeps c.in_err-next-in-Taken.ensures.keeps
-
-pub turn_matrix-returns-in_err-next-in-Taken-clause-serves : goal.turn_matrix-returns-in_err-next-in-Taken-clause-serves
-turn_matrix-returns-in_err-next-in-Taken-clause-serves t c = c.in_err-next-in-Taken.ensures.serves
-
-pub turn_matrix-returns-in_ok-next-in-Taken-clause-stack : goal.turn_matrix-returns-in_ok-next-in-Taken-clause-stack
-turn_matrix-returns-in_ok-next-in-Taken-clause-stack t c = c.in_ok-next-in-Taken.ensures.stack
-
-pub turn_matrix-returns-in_ok-head-in-Nothing-clause-keeps : goal.turn_matrix-returns-in_ok-head-in-Nothing-clause-keeps
-turn_matrix-returns-in_ok-head-in-Nothing-clause-keeps t c = extends_more c.args.self.now.pool c.select.new.self.pool c.intern.new.self c.in_ok-captures.ensures.keeps c.in_ok-head-in-Nothing.ensures.keeps
-
-pub turn_matrix-returns-in_ok-head-in-Nothing-clause-serves : goal.turn_matrix-returns-in_ok-head-in-Nothing-clause-serves
-turn_matrix-returns-in_ok-head-in-Nothing-clause-serves t c = serves_grown (entries_of c.args.version.now) c.select.new.self c.intern.new.self c.select.new.self.nested c.in_ok-head-in-Nothing.ensures.keeps c.in_ok-captures.ensures.serves
-
-pub turn_matrix-returns-in_err-head-in-Nothing-clause-keeps : goal.turn_matrix-returns-in_err-head-in-Nothing-clause-keeps
-turn_matrix-returns-in_err-head-in-Nothing-clause-keeps t c = extends_more c.args.self.now.pool c.select.new.self.pool c.intern.new.self c.in_ok-captures.ensures.keeps c.in_err-head-in-Nothing.ensures.keeps
-
-pub turn_matrix-returns-in_err-head-in-Nothing-clause-serves : goal.turn_matrix-returns-in_err-head-in-Nothing-clause-serves
-turn_matrix-returns-in_err-head-in-Nothing-clause-serves t c = serves_grown (entries_of c.args.version.now) c.select.new.self c.intern.new.self c.select.new.self.nested c.in_err-head-in-Nothing.ensures.keeps c.in_ok-captures.ensures.serves
-
-pub turn_matrix-returns-in-Asks-clause-keeps : goal.turn_matrix-returns-in-Asks-clause-keeps
-turn_matrix-returns-in-Asks-clause-keeps t c = c.in_ok-captures.ensures.keeps
-
-pub turn_matrix-returns-in-Asks-clause-serves : goal.turn_matrix-returns-in-Asks-clause-serves
-turn_matrix-returns-in-Asks-clause-serves t c = c.in_ok-captures.ensures.serves
 
 pub compare-returns-clause-keeps : goal.compare-returns-clause-keeps
 compare-returns-clause-keeps t c = c.loop-step.invariant.keeps
@@ -1327,9 +738,6 @@ evaluated-returns-in_err-value-in-Stands-clause-keeps t c = extends_more c.args.
 
 pub evaluated-returns-in_err-value-in-Stands-clause-serves : goal.evaluated-returns-in_err-value-in-Stands-clause-serves
 evaluated-returns-in_err-value-in-Stands-clause-serves t c = serves_grown (entries_of c.args.version.now) c.turn.new.self c.wind.new.pool c.turn.new.self.nested c.in_err-value-in-Stands.ensures.keeps c.in_ok-term.ensures.serves
-
-pub evaluated-returns-in_err-closed-in-Some-clause-keeps : goal.evaluated-returns-in_err-closed-in-Some-clause-keeps
-evaluated-returns-in_err-closed-in-Some-clause-keeps t c = extends_more c.args.self.now.pool c.turn.new.self.pool c.wind.new.pool (extends_more c.args.self.now.pool c.loop-stack.self.pool c.turn.new.self.pool c.loop-stack.invariant.keeps c.in_ok-term.ensures.keeps) c.in_ok-value-in-Stands.ensures.keeps
 
 pub normalise-returns-clause-keeps : goal.normalise-returns-clause-keeps
 normalise-returns-clause-keeps t c = c.loop-frame.invariant.keeps

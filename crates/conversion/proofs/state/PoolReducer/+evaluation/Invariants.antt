@@ -1,16 +1,11 @@
-use Rattle.std.proofs.Common.{◌≡◌, ◌≤◌, ◌<◌, ◌+◌, ◌*◌, length, map, drop, vec_len}
-use Rattle.dk_model.specs.Selection.{captures_of_row, guards_hold}
+use Rattle.std.proofs.Common.{◌≤◌, ◌<◌, ◌+◌, ◌*◌, length, vec_len}
 use Rattle.dk_model.specs.Evaluation.{whnf_of, comparison_of, normal_of}
-use Rattle.dk_model.specs.Equations.{selection_of}
 use Rattle.shared_term.specs.Pools.{term, Extends}
-use Rattle.shared_term.specs.Changes.{AreCaptures, captured_terms}
 use Rattle.signature_log.specs.Versions.{entries_of}
 use Rattle.conversion.specs.Machine.{AreWithin}
-use Rattle.conversion.specs.Matrix.{plain_cell, column, row, AreColumns}
-use Rattle.conversion.specs.Pausing.{plain, selected, ArePauses, Await}
+use Rattle.conversion.specs.Pausing.{ArePauses, Await}
 use Rattle.conversion.specs.Reducers.{Serves}
 use Rattle.conversion.specs.Turning.{next_due, next_rank, IsNext}
-use Rattle.conversion.proofs.Through.{passed, guards_from}
 use Rattle.conversion.specs.Pending.{IsUnderWay, rest_compared}
 use Rattle.conversion.specs.Waiting.{IsResumed, value_due, resumed}
 use Rattle.conversion.proofs.state.PoolReducer.+evaluation.Given as goal
@@ -26,32 +21,14 @@ decreases-evaluated l = 32 * l.left.now + 19
 abbrev pub decreases-turn : goal.decreases-turn
 decreases-turn l = 32 * l.left.now + 18
 
-abbrev pub decreases-turn_matrix : goal.decreases-turn_matrix
-decreases-turn_matrix l = 32 * l.left.now + 17
+abbrev pub decreases-turn_selection : goal.decreases-turn_selection
+decreases-turn_selection l = 32 * l.left.now + 17
 
-abbrev pub decreases-select : goal.decreases-select
-decreases-select l = 32 * l.left.now + 16
+abbrev pub decreases-normalise_inside : goal.decreases-normalise_inside
+decreases-normalise_inside l = 32 * l.left.now + 12
 
-abbrev pub decreases-row_taken : goal.decreases-row_taken
-decreases-row_taken l = 32 * l.left.now + 15
-
-abbrev pub decreases-captures_of_row : goal.decreases-captures_of_row
-decreases-captures_of_row l = 32 * l.left.now + 14
-
-abbrev pub decreases-cell_captures : goal.decreases-cell_captures
-decreases-cell_captures l = 32 * l.left.now + 13
-
-abbrev pub decreases-part_at : goal.decreases-part_at
-decreases-part_at l = 32 * l.left.now + 12
-
-abbrev pub decreases-record : goal.decreases-record
-decreases-record l = 32 * l.left.now + 12
-
-abbrev pub decreases-guards_hold : goal.decreases-guards_hold
-decreases-guards_hold l = 32 * l.left.now + 14
-
-abbrev pub decreases-guard_holds : goal.decreases-guard_holds
-decreases-guard_holds l = 32 * l.left.now + 13
+abbrev pub decreases-compare_inside : goal.decreases-compare_inside
+decreases-compare_inside l = 32 * l.left.now + 12
 
 abbrev pub decreases-normalise : goal.decreases-normalise
 decreases-normalise l = 32 * l.left.now + 7
@@ -85,50 +62,13 @@ invariant-evaluated-loop-stack l = record {
 abbrev pub decreases-evaluated-loop-stack : goal.decreases-evaluated-loop-stack
 decreases-evaluated-loop-stack l = 4 * l.left + (vec_len l.pauses + 2 * next_rank l.next)
 
--- the rounds of a selection
-
-abbrev pub invariant-select-loop-tried : goal.invariant-select-loop-tried
-invariant-select-loop-tried l = record {
-  same : selection_of (entries_of l.version) l.left (plain l.self.pool l.columns) (map row (drop l.tried l.rows.items))
-      ≡ selected (entries_of l.version) l.fn.self.pool l.fn.matrix l.fn.left;
-  columns : AreColumns (length l.self.pool) l.columns.items;
-  keeps : Extends l.fn.self.pool l.self.pool;
-  serves : Serves (entries_of l.version) l.self;
-  less : l.left ≤ l.fn.left;
-}
-
--- the cells of a row
-
-abbrev pub invariant-captures_of_row-loop-i : goal.invariant-captures_of_row-loop-i
-invariant-captures_of_row-loop-i l = record {
-  same : passed (normal_of (entries_of l.version)) (comparison_of (entries_of l.version)) (map plain_cell l.cells) (plain l.self.pool l.columns) l.i l.left (captured_terms l.self.pool l.captures.items)
-      ≡ captures_of_row (normal_of (entries_of l.version)) (comparison_of (entries_of l.version)) (map plain_cell l.fn.cells) (plain l.fn.self.pool l.fn.columns) l.fn.left (captured_terms l.fn.self.pool l.fn.captures.items);
-  long : vec_len l.columns ≡ vec_len l.fn.columns;
-  columns : AreColumns (length l.self.pool) l.columns.items;
-  captures : AreCaptures (length l.self.pool) l.captures.items;
-  keeps : Extends l.fn.self.pool l.self.pool;
-  serves : Serves (entries_of l.version) l.self;
-  less : l.left ≤ l.fn.left;
-}
-
-abbrev pub invariant-guards_hold-loop-i : goal.invariant-guards_hold-loop-i
-invariant-guards_hold-loop-i l = record {
-  same : guards_from (normal_of (entries_of l.version)) (comparison_of (entries_of l.version)) (map plain_cell l.cells) (map (column l.self.pool) l.columns) l.i l.left (captured_terms l.self.pool l.captures)
-      ≡ guards_hold (comparison_of (entries_of l.version)) (map plain_cell l.fn.cells) (map (column l.fn.self.pool) l.fn.columns) l.fn.left (captured_terms l.fn.self.pool l.fn.captures);
-  columns : AreColumns (length l.self.pool) l.columns;
-  captures : AreCaptures (length l.self.pool) l.captures;
-  keeps : Extends l.fn.self.pool l.self.pool;
-  serves : Serves (entries_of l.version) l.self;
-  less : l.left ≤ l.fn.left;
-}
-
 abbrev pub invariant-compare-loop-step : goal.invariant-compare-loop-step
 invariant-compare-loop-step l = record {
   way : IsUnderWay (entries_of l.version) l.self.pool (comparison_of (entries_of l.fn.version) l.fn.left (term l.fn.self.pool l.fn.t) (term l.fn.self.pool l.fn.u))
       (rest_compared (entries_of l.version) l.alike l.left) l.left l.work.items;
   keeps : Extends l.fn.self.pool l.self.pool;
   serves : Serves (entries_of l.version) l.self;
-  less : l.left ≤ l.fn.left;
+  less : l.left < l.fn.left;
 }
 
 -- a unit for more steps than a stack holds
@@ -142,7 +82,7 @@ invariant-normalise-loop-frame l = record {
   there : l.value.0 < length l.self.pool;
   keeps : Extends l.fn.self.pool l.self.pool;
   serves : Serves (entries_of l.version) l.self;
-  less : l.left ≤ l.fn.left;
+  less : l.left < l.fn.left;
 }
 
 -- a unit for more frames than a stack holds

@@ -1,36 +1,54 @@
--- A value that is remembered is put in; it takes what it took.
-use Rattle.std.proofs.Common.{◌<◌, refl, subst, sym as flip, ℕ, arith}
-use Rattle.dk_model.specs.SymbolRules.{rules_of}
+-- A value that is remembered is told at once; it takes what it took.
+use Rattle.std.proofs.Common.{◌<◌, ◌∙◌, Vec, Global, refl, ap, subst, sym as flip, length, arith}
+use Rattle.shared_term.specs.declared.id.TermId.{TermId}
 use Rattle.signature_log.specs.Versions.{entries_of}
-use Rattle.conversion.specs.Matrix.{AreAmong}
+use Rattle.conversion.specs.Machine.{AreWithin}
+use Rattle.rule_match.proofs.Larger.{awaits_value, value_is_answer}
 use Rattle.conversion.specs.Reducers.{IsValue}
-use Rattle.conversion.proofs.Selecting.{ask_ends, ask_goes, value_takes}
+use Rattle.conversion.proofs.Selecting.{ask_ends, ask_goes, ask_waits, value_takes}
 use Rattle.conversion.proofs.state.PoolReducer.ask.Goals as goal
+
+pub known-requires-clause-term : goal.known-requires-clause-term
+known-requires-clause-term c = c.at-asked.ensures.within (length c.args.self.now.pool) c.requires.matcher.columns
 
 pub returns-then-left-found-clause-gives : goal.returns-then-left-found-clause-gives
 returns-then-left-found-clause-gives c =
-    let h : IsValue (entries_of c.args.version.now) c.args.self.now.pool c.args.term.0 c.in-Some.found = c.in-Some.ensures in
-    (ask_ends (entries_of c.args.version.now) c.args.self.now.pool c.args.gap c.args.term c.args.stack.now.items c.args.left.now c.in-Some.found h c.if-left-found.true, refl)
+    let h : IsValue (entries_of c.args.version.now) c.args.self.now.pool c.at-asked.result.0 c.in-Some.found = c.in-Some.ensures in (
+      ask_ends (entries_of c.args.version.now) c.args.self.now.pool c.args.symbol c.args.matcher c.args.column c.at-asked.result c.args.stack.now.items c.args.left.now c.in-Some.found h
+          (c.at-asked.ensures.is c.args.self.now.pool) c.if-left-found.true,
+      refl,
+    )
 
-pub closed-requires-clause-value : goal.closed-requires-clause-value
-closed-requires-clause-value c =
-    let h : IsValue (entries_of c.args.version.now) c.args.self.now.pool c.args.term.0 c.in-Some.found = c.in-Some.ensures in
-    h.gives
-
-pub returns-in_ok-matrix-in-Some-clause-gives : goal.returns-in_ok-matrix-in-Some-clause-gives
-returns-in_ok-matrix-in-Some-clause-gives c =
-    let h : IsValue (entries_of c.args.version.now) c.args.self.now.pool c.args.term.0 c.in-Some.found = c.in-Some.ensures in (
-      ask_goes (entries_of c.args.version.now) c.args.self.now.pool c.args.gap c.args.term c.args.stack.now.items c.args.left.now c.in-Some.found h c.in_ok-matrix-in-Some.matrix
-          (omega (arith, c.if-left-found.false)) c.in_ok-matrix-in-Some.ensures.symbol c.in_ok-matrix-in-Some.ensures.columns c.in_ok-matrix-in-Some.ensures.rows,
+pub returns-else-left-found-clause-gives : goal.returns-else-left-found-clause-gives
+returns-else-left-found-clause-gives c =
+    let h : IsValue (entries_of c.args.version.now) c.args.self.now.pool c.at-asked.result.0 c.in-Some.found = c.in-Some.ensures in (
+      ask_goes (entries_of c.args.version.now) c.args.self.now.pool c.args.symbol c.args.matcher c.args.column c.at-asked.result c.args.stack.now.items c.args.left.now c.in-Some.found h
+          (c.at-asked.ensures.is c.args.self.now.pool) (omega (arith, c.if-left-found.false)),
       record {
-        columns = c.in_ok-matrix-in-Some.ensures.within;
-        rows = subst (λ (k : ℕ). AreAmong (rules_of (entries_of c.args.version.now) k) c.in_ok-matrix-in-Some.matrix.rows.items) (flip c.in_ok-matrix-in-Some.ensures.symbol)
-            (c.in_ok-matrix-in-Some.ensures.among (rules_of (entries_of c.args.version.now) c.args.gap.symbol) c.requires.gap.rows);
+        matcher = c.requires.matcher;
+        answer = value_is_answer (length c.args.self.now.pool) c.args.matcher.stage c.in-Some.found.id (awaits_value c.args.matcher.stage c.args.column c.requires.awaits) h.gives;
+        stands = c.requires.stands;
       },
     )
 
-pub returns-in_ok-matrix-in-Some-clause-turned : goal.returns-in_ok-matrix-in-Some-clause-turned
-returns-in_ok-matrix-in-Some-clause-turned c =
-    let h : IsValue (entries_of c.args.version.now) c.args.self.now.pool c.args.term.0 c.in-Some.found = c.in-Some.ensures in
-    let q : 0 < c.in-Some.found.units = value_takes (entries_of c.args.version.now) c.args.self.now.pool c.args.gap c.args.term c.args.stack.now.items c.args.left.now c.in-Some.found h in
+pub returns-else-left-found-clause-turned : goal.returns-else-left-found-clause-turned
+returns-else-left-found-clause-turned c =
+    let h : IsValue (entries_of c.args.version.now) c.args.self.now.pool c.at-asked.result.0 c.in-Some.found = c.in-Some.ensures in
+    let q : 0 < c.in-Some.found.units = value_takes (entries_of c.args.version.now) c.args.self.now.pool c.at-asked.result c.in-Some.found h in
     omega (arith, q, c.if-left-found.false)
+
+pub returns-in-None-clause-gives : goal.returns-in-None-clause-gives
+returns-in-None-clause-gives c = (
+  ask_waits (entries_of c.args.version.now) c.args.self.now.pool c.args.symbol c.args.matcher c.args.column c.at-asked.result c.args.stack.now.items c.args.left.now
+      (record { symbol = c.args.symbol; matcher = c.args.matcher; stack = c.replace-stack.result; asked = c.at-asked.result; start = c.args.left.now }) refl refl
+      (ap (λ (v : Vec TermId Global). v.items) c.replace-stack.ensures.value) refl refl (c.at-asked.ensures.is c.args.self.now.pool),
+  refl,
+  ap (λ (v : Vec TermId Global). v.items) c.replace-stack.ensures.after ∙ c.new.ensures.items,
+  record {
+    matcher = c.requires.matcher;
+    awaits = awaits_value c.args.matcher.stage c.args.column c.requires.awaits;
+    stands = c.requires.stands;
+    stack = subst (λ (v : Vec TermId Global). AreWithin (length c.args.self.now.pool) v.items) (flip c.replace-stack.ensures.value) c.requires.stack;
+    asked = c.at-asked.ensures.within (length c.args.self.now.pool) c.requires.matcher.columns;
+  },
+)

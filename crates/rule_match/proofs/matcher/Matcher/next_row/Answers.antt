@@ -12,5 +12,5 @@ returns-clause-asks c =
     let m1 : Matcher = record c.args.self.now { tried = c.in-Some.tried } in
     let e : c.args.self.now.tried + 1 ≡ c.in-Some.tried = omega (arith, c.in-Some.ensures.1) in
     asks_on c.try_row.result c.try_row.new.pool c.try_row.new.self c.args.self.now m1 (λ rules S. selects S rules c.args.pool.now m1) (λ rules S. fails S rules c.args.pool.now c.args.self.now)
-    (λ rules s. record { tree = s.tree; left = s.left })
+    (λ rules s. record { source = s.source; left = s.left })
     (λ rules s S n. ap (λ (k : ℕ). selection_of S n (plain c.args.pool.now c.args.self.now.columns.items) (drop k (rows_left rules c.args.self.now.left))) e) c.try_row.ensures.asks

@@ -28,9 +28,9 @@ returns-clause-asks c =
     c.in_ok-self-2.ensures ∙ ap (λ (u : Vec Column Global). value_put u.items c.args.at c.args.value c.in_ok-key.parts.items) c.replace-columns.ensures.value in
     asks_on c.try_row.result c.try_row.new.pool c.try_row.new.self c.args.self.now m1 (λ rules S. selects S rules c.args.pool.now m1)
     (λ rules S. after_value S rules c.args.pool.now c.args.self.now c.args.at (term c.args.pool.now c.args.value))
-    (λ rules s. record { tree = s.tree; left = (c.in_ok-self.ensures rules s.tree s.left).is })
-    (λ rules s S n. value_there S rules c.args.self.now.tree.now c.args.pool.now c.args.self.now.columns.items c.args.at c.column_of-depth.result.depth c.args.value c.in_ok-key.parts.items
+    (λ rules s. record { source = s.source; left = (c.in_ok-self.ensures rules s.source s.left).is })
+    (λ rules s S n. value_there S rules c.args.self.now.source c.args.pool.now c.args.self.now.columns.items c.args.at c.column_of-depth.result.depth c.args.value c.in_ok-key.parts.items
     c.in_ok-self-2.field-0.items c.args.self.now.left c.in_ok-self.field-0 c.args.self.now.tried c.in_ok-key.key n
     (depth_got c.args.self.now.columns.items c.args.at c.column_of-depth.result (rw c.as_slice.ensures.value at c.column_of-depth.ensures)) c.in_ok-key.ensures.opens c.in_ok-key.ensures.key
-    (c.in_ok-self.ensures rules s.tree s.left) e)
+    (c.in_ok-self.ensures rules s.source s.left) e)
     c.try_row.ensures.asks

@@ -15,36 +15,36 @@ returns-then-at-len-clause-asks c = λ rules s.
     let e : rigid_at (map plain_cell c.in-Some.row.cells.items) ≡ Some c.in-Some-rigid_at.at =
     flip (ap (λ (l : List Cell). rigid_at (map plain_cell l)) c.as_slice.ensures.value) ∙ flip c.rigid_at.ensures.value ∙ c.in-Some-rigid_at.is in
     no_column rules c.args.pool.now c.args.self.now s c.in-Some.row
-    (row_found rules c.args.self.now.left c.args.self.now.tried c.in-Some.row c.in_ok-row_at.field-0 c.in-Some.is (c.in_ok-row_at.ensures rules)) c.in-Some-rigid_at.at e
+    (row_found rules c.args.self.now.left c.args.self.now.tried c.in-Some.row c.in_ok-row_at.field-0 c.in-Some.is (c.in_ok-row_at.ensures rules s.source s.left)) c.in-Some-rigid_at.at e
     (omega (arith, c.if-at-len.true, c.len.ensures, c.args.self.now.columns.ok.0))
 
 pub go_through-requires : goal.go_through-requires
 go_through-requires c = record {
   columns = c.requires.columns;
-  captures = none_captured_here (length c.args.pool.now) c.variable_count-count.result c.in_ok-self-in-None-rigid_at.field-0.items c.in_ok-self-in-None-rigid_at.ensures;
+  captures = none_captured_here (length c.args.pool.now) c.in-Some-variable_count.count c.in_ok-self-in-Some-variable_count.field-0.items c.in_ok-self-in-Some-variable_count.ensures;
   stage = tt;
 }
 
 pub returns-in-None-clause-asks : goal.returns-in-None-clause-asks
 returns-in-None-clause-asks c = λ rules s.
-    no_row rules c.args.pool.now c.args.self.now s (row_missing rules c.args.self.now.left c.args.self.now.tried c.in_ok-row_at.field-0 c.in-None.is (c.in_ok-row_at.ensures rules))
+    no_row rules c.args.pool.now c.args.self.now s (row_missing rules c.args.self.now.left c.args.self.now.tried c.in_ok-row_at.field-0 c.in-None.is (c.in_ok-row_at.ensures rules s.source s.left))
 
 pub returns-else-at-len-clause-asks : goal.returns-else-at-len-clause-asks
 returns-else-at-len-clause-asks c = λ rules s.
     let e : rigid_at (map plain_cell c.in-Some.row.cells.items) ≡ Some c.in-Some-rigid_at.at =
     flip (ap (λ (l : List Cell). rigid_at (map plain_cell l)) c.as_slice.ensures.value) ∙ flip c.rigid_at.ensures.value ∙ c.in-Some-rigid_at.is in
     asks_value rules c.args.pool.now c.args.self.now s c.in-Some.row
-    (row_found rules c.args.self.now.left c.args.self.now.tried c.in-Some.row c.in_ok-row_at.field-0 c.in-Some.is (c.in_ok-row_at.ensures rules)) c.in-Some-rigid_at.at e
+    (row_found rules c.args.self.now.left c.args.self.now.tried c.in-Some.row c.in_ok-row_at.field-0 c.in-Some.is (c.in_ok-row_at.ensures rules s.source s.left)) c.in-Some-rigid_at.at e
     (omega (arith, c.if-at-len.false, c.len.ensures, c.args.self.now.columns.ok.0))
 
-pub returns-in_ok-self-in-None-rigid_at-clause-asks : goal.returns-in_ok-self-in-None-rigid_at-clause-asks
-returns-in_ok-self-in-None-rigid_at-clause-asks c =
-    let m1 : Matcher = record c.args.self.now { row = c.in-Some.row; captures = c.in_ok-self-in-None-rigid_at.field-0; stage = Begins } in
+pub returns-in_ok-self-in-Some-variable_count-clause-asks : goal.returns-in_ok-self-in-Some-variable_count-clause-asks
+returns-in_ok-self-in-Some-variable_count-clause-asks c =
+    let m1 : Matcher = record c.args.self.now { row = c.in-Some.row; captures = c.in_ok-self-in-Some-variable_count.field-0; stage = Begins } in
     let e : rigid_at (map plain_cell c.in-Some.row.cells.items) ≡ None =
     flip (ap (λ (l : List Cell). rigid_at (map plain_cell l)) c.as_slice.ensures.value) ∙ flip c.rigid_at.ensures.value ∙ c.in-None-rigid_at.is in
     asks_on c.go_through.result c.go_through.new.pool c.go_through.new.self c.args.self.now m1 (λ rules S. captures_due S rules c.args.pool.now m1 0)
-    (λ rules S. selects S rules c.args.pool.now c.args.self.now) (λ rules s. record { tree = s.tree; left = s.left })
+    (λ rules S. selects S rules c.args.pool.now c.args.self.now) (λ rules s. record { source = s.source; left = s.left })
     (λ rules s S n. begins_row rules c.args.pool.now c.args.self.now s c.in-Some.row
-    (row_found rules c.args.self.now.left c.args.self.now.tried c.in-Some.row c.in_ok-row_at.field-0 c.in-Some.is (c.in_ok-row_at.ensures rules)) c.in_ok-self-in-None-rigid_at.field-0
-    c.variable_count-count.result e (c.variable_count-count.ensures rules s.tree.sides) c.in_ok-self-in-None-rigid_at.ensures S n)
+    (row_found rules c.args.self.now.left c.args.self.now.tried c.in-Some.row c.in_ok-row_at.field-0 c.in-Some.is (c.in_ok-row_at.ensures rules s.source s.left)) c.in_ok-self-in-Some-variable_count.field-0
+    c.in-Some-variable_count.count e (c.in-Some-variable_count.ensures rules s.source).is c.in_ok-self-in-Some-variable_count.ensures S n)
     c.go_through.ensures.asks
