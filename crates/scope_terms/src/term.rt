@@ -75,6 +75,12 @@ pub(crate) fn term_at<'a>(
         RawTerm::Qualified(_) => Err(Fault::Refused(Code::E10)),
         RawTerm::Star => Ok(Term::Star),
         RawTerm::Wild => Err(Fault::Refused(Code::E12)),
+        // One argument, as of most applications, needs no stack.
+        RawTerm::App(pair) if !matches!(pair.first, RawTerm::App(_)) => {
+            let f = term_at(alloc, scope, &pair.first, bound)?;
+            let a = term_at(alloc, scope, &pair.second, bound)?;
+            Ok(make_app(alloc, f, a)?)
+        }
         RawTerm::App(pair) => {
             let (head, arguments) = spine(alloc, &pair.first, &pair.second)?;
             let mut arguments = arguments;

@@ -18,7 +18,7 @@ loop-argument-preserved t c =
     let longer = subst (λ (rs : List (Bor RawTerm)). total_size (written_references rs) < size (written c.args.raw.now)) c.in-Some.ensures.items c.loop-argument.invariant.smaller in
     let pushed = total_pushed c.pop.new.self.items c.in-Some.argument in
     record {
-      same = spine_further scope bound whole (tree c.loop-argument.whole) (tree c.in_ok-argument-in-App.argument) (tree c.in_ok-whole-in-App-2.whole) c.pop.new.self.items c.in-Some.argument
-          before c.in_ok-argument-in-App.ensures.ok c.in_ok-whole-in-App-2.ensures;
+      same = spine_further scope bound whole (tree c.loop-argument.whole) (tree c.in_ok-argument-in-App-2.argument) (tree c.in_ok-whole-in-App-2-2.whole) c.pop.new.self.items c.in-Some.argument
+          before c.in_ok-argument-in-App-2.ensures.ok c.in_ok-whole-in-App-2-2.ensures;
       smaller = omega (arith, longer, pushed);
     }
