@@ -10,31 +10,33 @@ use crate::spelling::spelt;
 use dk_model::{NoMemory, Term};
 use std::alloc::Global;
 
+// A list that is to be packed has places for so many nodes at once, as most terms need no more.
+const FEW: usize = 64;
+
 impl Stored {
     /// A term's nodes. An equal part is found again where its node is near.
     pub fn from_term(alloc: Global, it: &Term) -> Result<Stored, NoMemory>
         ensures { IfOk result (λ s. stored_term s ≡ tree it.now) }
     {
-        let mut nodes = Vec::new(alloc);
+        let mut nodes = Vec::with_capacity(alloc, FEW)?;
         let root = spelt(alloc, &mut nodes, it, false)?;
-        nodes.shrink_to_fit();
-        Ok(Stored { nodes, root })
+        Stored::new(alloc, nodes, root)
     }
 
     /// The same of the term without its annotations.
     pub fn from_erased(alloc: Global, it: &Term) -> Result<Stored, NoMemory>
         ensures { IfOk result (λ s. stored_term s ≡ erased (tree it.now)) }
     {
-        let mut nodes = Vec::new(alloc);
+        let mut nodes = Vec::with_capacity(alloc, FEW)?;
         let root = spelt(alloc, &mut nodes, it, true)?;
-        nodes.shrink_to_fit();
-        Ok(Stored { nodes, root })
+        Stored::new(alloc, nodes, root)
     }
 
     /// The term, each part in memory of its own.
     pub fn to_term(&self, alloc: Global) -> Result<Term, NoMemory>
         ensures { IfOk result (λ t. tree t ≡ stored_term self.now) }
     {
-        boxed(alloc, self.nodes.as_slice(), self.root)
+        let nodes = self.unpacked(alloc)?;
+        boxed(alloc, nodes.as_slice(), self.root())
     }
 }

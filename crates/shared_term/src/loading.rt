@@ -30,10 +30,11 @@ pub(crate) fn loaded(pool: &mut Pool, stored: &Stored) -> Result<TermId, NoMemor
     ensures denotes { IfOk result (λ id. term pool.new id ≡ stored_term stored.now) }
     ensures keeps { Extends pool.old pool.new }
 {
-    let mut places = Vec::with_capacity(pool.alloc(), stored.nodes.len())?;
-    for node in &stored.nodes {
-        let id = pool.intern(renamed(places.as_slice(), *node))?;
+    let mut places = Vec::with_capacity(pool.alloc(), stored.len())?;
+    for at in 0..stored.len() {
+        let node = stored.get(at);
+        let id = pool.intern(renamed(places.as_slice(), node))?;
         places.push(id)?;
     }
-    Ok(places[stored.root.0 as usize])
+    Ok(places[stored.root().0 as usize])
 }

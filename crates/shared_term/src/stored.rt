@@ -1,6 +1,10 @@
 //! A term in a compact list of its own, outside any pool.
-ghost use Rattle.std.specs.Prelude.{◌≡◌, IfOk};
+ghost use Rattle.std.specs.Prelude.{◌≡◌, ◌<◌, length, get_or, slice_get, Some, IfOk};
+ghost use Rattle.dk_model.specs.Trees.{star};
+ghost use Rattle.shared_term.specs.Pools.{IsWithin, denoted, terms};
+ghost use Rattle.shared_term.specs.Storage.{IsSpelt, IsStored};
 
+use crate::packed::Packed;
 use crate::{Node, TermId};
 use dk_model::{NoMemory, NodeOf};
 use std::alloc::Global;
@@ -10,8 +14,7 @@ use std::marker::Model;
 /// with the term.
 #[derive(Drop)]
 pub struct Stored {
-    pub(crate) nodes: Vec<Node>,
-    pub(crate) root: TermId,
+    packed: Packed,
 }
 
 impl Model for Stored {
@@ -22,24 +25,68 @@ impl Model for Stored {
 
     ghost Value = { List (NodeOf TermId) × TermId };
 
-    ghost view = { λ s. (s.nodes.items, s.root) };
+    ghost use Rattle.shared_term.specs.Packing.{unpacked};
 
-    ghost invariant = { λ s. IsStored s.nodes.items s.root };
+    ghost view = { λ s. unpacked s.packed };
+
+    ghost invariant = { λ s. IsStored (unpacked s.packed).0 (unpacked s.packed).1 };
 }
 
 impl Stored {
+    /// The nodes of the list, with the place of the outermost one.
+    pub(crate) fn new(alloc: Global, nodes: Vec<Node>, root: TermId) -> Result<Stored, NoMemory>
+        requires { IsStored nodes.items root }
+        ensures { IfOk result (λ s. s ≡ (nodes.items, root)) }
+    {
+        Ok(Stored {
+            packed: Packed::new(alloc, nodes, root)?,
+        })
+    }
+
     /// The same nodes in memory of their own.
     pub fn copy(&self, alloc: Global) -> Result<Stored, NoMemory>
         ensures { IfOk result (λ s. s ≡ self.now) }
     {
         Ok(Stored {
-            nodes: self.nodes.as_slice().to_vec(alloc)?,
-            root: self.root,
+            packed: self.packed.copy(alloc)?,
         })
     }
 
-    /// How many nodes it has, each of which takes 16 bytes.
-    pub fn len(&self) -> usize {
-        self.nodes.len()
+    /// How many nodes it has. Each takes 4 bytes where all their numbers are small, else 16.
+    pub fn len(&self) -> usize
+        ensures { result ≡ length self.now.0 }
+    {
+        self.packed.len()
+    }
+
+    /// The place of the outermost node.
+    pub(crate) fn root(&self) -> TermId
+        ensures value { result ≡ self.now.1 }
+        ensures within { result.0 < length self.now.0 }
+    {
+        self.packed.root()
+    }
+
+    /// The node at a place.
+    pub(crate) fn get(&self, at: usize) -> Node
+        requires { at < length self.now.0 }
+        ensures node { slice_get self.now.0 at ≡ Some result }
+        ensures within { IsWithin at result }
+        ensures built { get_or (terms self.now.0) at star ≡ denoted (terms self.now.0) result }
+    {
+        self.packed.get(at)
+    }
+
+    /// The nodes in a list.
+    pub(crate) fn unpacked(&self, alloc: Global) -> Result<Vec<Node>, NoMemory>
+        ensures nodes { IfOk result (λ v. v.items ≡ self.now.0) }
+        ensures spelt { IfOk result (λ v. IsSpelt v.items) }
+    {
+        let _opened = &self.packed;
+        let mut nodes = Vec::with_capacity(alloc, self.len())?;
+        for at in 0..self.len() {
+            nodes.push(self.get(at))?;
+        }
+        Ok(nodes)
     }
 }

@@ -123,7 +123,5 @@ pub(crate) fn stored(pool: &Pool, id: TermId) -> Result<Stored, NoMemory>
             places.push(TermId(0))?;
         }
     }
-    let root = places[id.0 as usize];
-    nodes.shrink_to_fit();
-    Ok(Stored { nodes, root })
+    Stored::new(alloc, nodes, places[id.0 as usize])
 }

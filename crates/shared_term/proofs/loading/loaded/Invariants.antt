@@ -4,9 +4,9 @@ use Rattle.shared_term.specs.Pools.{Extends}
 use Rattle.shared_term.specs.Storage.{AreLoaded}
 use Rattle.shared_term.proofs.loading.loaded.Given as goal
 
-abbrev pub invariant-loop-node : goal.invariant-loop-node
-invariant-loop-node l = record {
-  count : length l.places.items ≡ l.node-index;
-  loaded : AreLoaded l.stored-inside.nodes.items l.pool l.places.items;
+abbrev pub invariant-loop-at : goal.invariant-loop-at
+invariant-loop-at l = record {
+  count : length l.places.items ≡ l.at;
+  loaded : AreLoaded l.stored.0 l.pool l.places.items;
   keeps : Extends l.fn.pool l.pool;
 }
