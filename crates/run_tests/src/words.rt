@@ -1,4 +1,5 @@
-use crate::{Request, read_request, usage_text};
+//! What the words ask.
+use command_line::{Request, read_request, usage_text};
 use std::alloc::{AllocError, Global};
 use std::test::Fail;
 
