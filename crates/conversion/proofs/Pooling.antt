@@ -1,10 +1,6 @@
 -- The clauses of a reducer from those of a pool.
-use Rattle.std.proofs.Common.{◌≡◌, ◌∙◌, ◌+◌, ◌-◌, ◌<◌, ℕ, [], Some, None, Bool, true, false, Result, Ok, Err, refl, ap, arith, length}
-use Rattle.std.proofs.lemmas.Bool.Decides.{nat_tests}
-use Rattle.std.specs.Prelude.{nat_lt, ◌||◌, ◌&&◌, not}
+use Rattle.std.proofs.Common.{◌≡◌, ◌∙◌, ◌<◌, ℕ, List, [], ◌∷◌, Some, None, Bool, Result, Ok, Err, refl, ap, arith, length}
 use Rattle.dk_model.specs.Trees.{Tree, star, kind, symbol, variable, rule_variable, apply, bare, annotated, product}
-use Rattle.dk_model.specs.Substitution.{substitute, substituted_variable}
-use Rattle.dk_model.specs.Captures.{mentions_others}
 use Rattle.dk_model.specs.Units.{Units}
 use Rattle.dk_model.specs.declared.NodeOf.TheVariants.{Star, Kind, Sym, Var, Rvar, App, Abs, Prod}
 use Rattle.dk_model.specs.declared.stop.Stop.{Stop}
@@ -12,7 +8,8 @@ use Rattle.dk_model.specs.declared.stop.Stop.TheVariants.{Ended, NoMemory}
 use Rattle.shared_term.specs.declared.id.TermId.{TermId}
 use Rattle.shared_term.specs.Pools.{Node, term, terms, Extends, IsWithin}
 use Rattle.shared_term.specs.Pools.{denoted as node_term}
-use Rattle.signature_log.specs.Reducers.{Keeps, Gives, GivesAnswer, Shows, OwnsParts, built}
+use Rattle.shared_term.specs.Changes.{AreTerms}
+use Rattle.signature_log.specs.Reducers.{Keeps, Gives, GivesAnswer, Shows, OwnsParts, AreOwned, built}
 use Rattle.conversion.specs.declared.state.PoolReducer.{PoolReducer}
 use Rattle.conversion.specs.Given.{GivesTerm, GivesBool}
 use Rattle.conversion.specs.Owned.{owned, denoted}
@@ -68,32 +65,6 @@ parts_owned r i (Prod a b) l h = (omega (arith, l, h.0), omega (arith, l, h.1))
 pub pool_shows : (r : PoolReducer) (t : TermId) (n : Node) → t.0 < length r.pool → term r.pool t ≡ node_term (terms r.pool) n → IsWithin t.0 n → Shows owned denoted r (term r.pool t) n
 pool_shows r t n l e h = (e ∙ pool_built r n, parts_owned r t.0 n l h)
 
--- what takes the place of a variable that doesn't occur is of no account
-
-left_false : (a b : Bool) → (a || b) ≡ false → a ≡ false
-left_false true b e = e
-left_false false b e = refl
-
-right_false : (a b : Bool) → (a || b) ≡ false → b ≡ false
-right_false true b e = cc
-right_false false b e = e
-
-other_variable : (d k : ℕ) (u v : Tree) → ((not (nat_lt k d) && nat_lt (k - d) 1) && not false) ≡ false → substituted_variable d u k ≡ substituted_variable d v k
-other_variable d k u v e = grind (arith, nat_tests)
-
-unmentioned_at : (d : ℕ) (u v t : Tree) → mentions_others d 1 [] t ≡ false → substitute d u t ≡ substitute d v t
-unmentioned_at d u v star e = refl
-unmentioned_at d u v kind e = refl
-unmentioned_at d u v (symbol k) e = refl
-unmentioned_at d u v (rule_variable k) e = refl
-unmentioned_at d u v (variable k) e = other_variable d k u v e
-unmentioned_at d u v (apply f a) e = ap (λ (x : Tree). apply x (substitute d u a)) (unmentioned_at d u v f (left_false (mentions_others d 1 [] f) (mentions_others d 1 [] a) e))
-    ∙ ap (λ (x : Tree). apply (substitute d v f) x) (unmentioned_at d u v a (right_false (mentions_others d 1 [] f) (mentions_others d 1 [] a) e))
-unmentioned_at d u v (bare b) e = ap bare (unmentioned_at (d + 1) u v b e)
-unmentioned_at d u v (annotated n b) e = ap (λ (x : Tree). annotated x (substitute (d + 1) u b)) (unmentioned_at d u v n (left_false (mentions_others d 1 [] n) (mentions_others (d + 1) 1 [] b) e))
-    ∙ ap (λ (x : Tree). annotated (substitute d v n) x) (unmentioned_at (d + 1) u v b (right_false (mentions_others d 1 [] n) (mentions_others (d + 1) 1 [] b) e))
-unmentioned_at d u v (product a b) e = ap (λ (x : Tree). product x (substitute (d + 1) u b)) (unmentioned_at d u v a (left_false (mentions_others d 1 [] a) (mentions_others (d + 1) 1 [] b) e))
-    ∙ ap (λ (x : Tree). product (substitute d v a) x) (unmentioned_at (d + 1) u v b (right_false (mentions_others d 1 [] a) (mentions_others (d + 1) 1 [] b) e))
-
-pub unmentioned : (u v t : Tree) → mentions_others 0 1 [] t ≡ false → substitute 0 u t ≡ substitute 0 v t
-unmentioned u v t e = unmentioned_at 0 u v t e
+pub terms_owned : (r : PoolReducer) (ts : List TermId) → AreOwned owned r ts → AreTerms (length r.pool) ts
+terms_owned r [] h = tt
+terms_owned r (t ∷ ts) h = (h.0, terms_owned r ts h.1)

@@ -73,17 +73,25 @@ impl Reducer for PoolReducer {
         self.pool.substitute(*body, 0, *by)
     }
 
-    #[tactic(auto, using(crate::proofs::Pooling::pool_keeps, crate::proofs::Serving::loaded_grown, crate::proofs::Serving::heads_grown, crate::proofs::Serving::values_grown, crate::proofs::Serving::normals_grown, crate::proofs::Serving::answers_grown, crate::proofs::Pooling::unmentioned, crate::proofs::Winding::extends_more))]
-    fn put_erased_in(&mut self, body: &TermId, by: &TermId) -> Result<TermId, NoMemory> {
-        if self.pool.is_erased(*by) {
-            return self.pool.substitute(*body, 0, *by);
+    #[tactic(auto, using(crate::proofs::Pooling::terms_owned, crate::proofs::Pooling::pool_keeps, crate::proofs::Serving::loaded_grown, crate::proofs::Serving::heads_grown, crate::proofs::Serving::values_grown, crate::proofs::Serving::normals_grown, crate::proofs::Serving::answers_grown))]
+    fn put_all_in(&mut self, body: &TermId, terms: &[TermId]) -> Result<TermId, NoMemory> {
+        self.pool.substitute_all(*body, 0, terms)
+    }
+
+    #[tactic(auto, using(crate::proofs::Winding::extends_none, crate::proofs::Winding::extends_more, crate::proofs::Pooling::pool_keeps, crate::proofs::Serving::loaded_grown, crate::proofs::Serving::heads_grown, crate::proofs::Serving::values_grown, crate::proofs::Serving::normals_grown, crate::proofs::Serving::answers_grown))]
+    fn as_argument(&mut self, t: &TermId, body: &TermId) -> Result<TermId, NoMemory> {
+        if self.pool.is_erased(*t) {
+            return Ok(*t);
         }
         if self.pool.mentions_others(*body, 1, &[])? {
-            let by = self.pool.erased(*by)?;
-            self.pool.substitute(*body, 0, by)
+            self.pool.erased(*t)
         } else {
-            self.pool.substitute(*body, 0, *by)
+            Ok(*t)
         }
+    }
+
+    fn is_closed(&self, t: &TermId) -> bool {
+        self.pool.is_closed(*t)
     }
 
     #[tactic(auto, using(crate::proofs::Pooling::pool_keeps, crate::proofs::Serving::loaded_grown, crate::proofs::Serving::heads_grown, crate::proofs::Serving::values_grown, crate::proofs::Serving::normals_grown, crate::proofs::Serving::answers_grown))]

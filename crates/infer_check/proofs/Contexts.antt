@@ -7,9 +7,9 @@ use Rattle.dk_model.specs.Substitution.{shift}
 use Rattle.dk_model.specs.Typing.{variable_type, rule_variable_type}
 use Rattle.dk_model.specs.declared.node.NodeOf.{NodeOf}
 use Rattle.dk_model.specs.declared.node.NodeOf.TheVariants.{Star, Kind, Sym, Var, Rvar, App, Abs, Prod}
-use Rattle.signature_log.specs.Reducers.{Keeps, OwnsParts}
+use Rattle.signature_log.specs.Reducers.{Keeps, OwnsParts, AreOwned}
 use Rattle.infer_check.specs.declared.context.Context.{Context}
-use Rattle.infer_check.specs.Contexts.{with_bound, innermost_first, rule_types, bound_types, AreOwned, OwnsContext}
+use Rattle.infer_check.specs.Contexts.{with_bound, innermost_first, rule_types, bound_types, OwnsContext}
 
 -- lists
 

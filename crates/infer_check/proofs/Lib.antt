@@ -1,5 +1,6 @@
 pub mod Contexts
 pub mod Formed
+pub mod Putting
 pub mod Judging
 pub mod Moving
 pub mod Spines

@@ -3,8 +3,7 @@ use Rattle.std.proofs.Common.{List, [], ◌∷◌, ◌++◌, ◌≡◌, map, ap,
 use Rattle.dk_model.specs.Trees.{Tree, apply}
 use Rattle.dk_model.specs.declared.node.NodeOf.{NodeOf}
 use Rattle.dk_model.specs.declared.node.NodeOf.TheVariants.{App}
-use Rattle.signature_log.specs.Reducers.{Keeps, OwnsParts, built}
-use Rattle.infer_check.specs.Contexts.{AreOwned}
+use Rattle.signature_log.specs.Reducers.{Keeps, OwnsParts, built, AreOwned}
 use Rattle.infer_check.specs.Spine.{wound}
 use Rattle.infer_check.proofs.Contexts.{owned_pushed, owned_kept, types_kept}
 use Rattle.infer_check.proofs.Spines.{map_pushed, wound_pushed}

@@ -1,6 +1,7 @@
 -- A context as trees, and that its types are a reducer's.
 use Rattle.std.specs.Prelude.{List, [], ◌∷◌, ◌++◌, map}
 use Rattle.dk_model.specs.Trees.{Tree}
+use Rattle.signature_log.specs.Reducers.{AreOwned}
 use Rattle.infer_check.specs.declared.context.Context.{Context}
 
 -- the context with one more variable, of this type
@@ -19,11 +20,6 @@ rule_types denotes r c = map (denotes r) c.rule_vars
 -- the types of the bound variables, the innermost first
 abbrev pub bound_types : {R T : Type 0} → (R → T → Tree) → R → Context T → List Tree
 bound_types denotes r c = innermost_first denotes r c.bound
-
--- that the values of a list are the reducer's
-abbrev pub AreOwned : {R T : Type 0} → (R → T → Type 0) → R → List T → Type 0
-AreOwned owns r [] = Unit {0}
-AreOwned owns r (t ∷ ts) = owns r t × AreOwned owns r ts
 
 -- that the types of a context are the reducer's
 pub record OwnsContext {R T : Type 0} (owns : R → T → Type 0) (r : R) (c : Context T) : Type 0 where

@@ -8,11 +8,13 @@ ghost use Rattle.signature_log.specs.Versions.{entries_of};
 ghost use Rattle.signature_log.specs.Reducers.{Keeps, OwnsParts, built};
 ghost use Rattle.infer_check.specs.Contexts.{OwnsContext};
 ghost use Rattle.infer_check.specs.Spine.{is_application};
+ghost use Rattle.infer_check.specs.Applied.{put_together, OwnsApplied};
 ghost use Rattle.infer_check.specs.Clauses.{Infers, GivesSort, FitsDomain, Applies};
 
 use crate::Context;
+use crate::applied::{Applied, applied_to, function_of, put_together, unapplied};
 use crate::checking::check_taken;
-use crate::expect::{as_sort, as_star, into_product, not_kind};
+use crate::expect::{as_sort, as_star, not_kind};
 use crate::spine::unwind;
 use crate::variables::{rule_variable_type, symbol_type, variable_type};
 use dk_model::{Code, NodeOf, TypeFault};
@@ -108,11 +110,12 @@ pub(crate) fn infer_node<R: Reducer>(
 {
     let spine = unwind(r, node)?;
     let mut arguments = spine.arguments;
-    let mut typ = infer_head(r, v, context, spine.head, left)?;
+    let head = infer_head(r, v, context, spine.head, left)?;
+    let mut typ = unapplied(r, head);
     while let Some(argument) = arguments.pop() {
         typ = apply(r, v, context, typ, argument, left)?;
     }
-    Ok(typ)
+    Ok(put_together(r, typ)?)
 }
 
 /// The type of a term that is no application.
@@ -263,22 +266,22 @@ fn apply<R: Reducer>(
     r: &mut R,
     v: &Version,
     context: &mut Context<R::T>,
-    typ: R::T,
+    typ: Applied<R::T>,
     argument: R::T,
     left: &mut u64,
-) -> Result<R::T, TypeFault>
-    requires typ { R.owns r.old typ }
+) -> Result<Applied<R::T>, TypeFault>
+    requires typ { OwnsApplied R.owns R.denotes r.old typ }
     requires argument { R.owns r.old argument }
     requires context { OwnsContext R.owns r.old context.old }
     requires serves { R.serves (entries_of v.now) r.old }
     ensures gives { Applies R.owns R.denotes (entries_of v.now) r.old context.old
-        (R.denotes r.old argument) (R.denotes r.old typ) left.old r.new result left.new }
+        (R.denotes r.old argument) (put_together R.owns R.denotes r.old 0 typ) left.old r.new result left.new }
     ensures keeps { Keeps R.owns R.denotes r.old r.new }
     ensures serves { R.serves (entries_of v.now) r.new }
     ensures kept { context.new ≡ context.old }
 {
-    let function = into_product(r, v, Code::E20, typ, left)?;
-    let found = r.put_erased_in(&function.codomain, &argument)?;
+    let function = function_of(r, v, typ, left)?;
+    let found = applied_to(r, function.codomain, &argument)?;
     check_taken(r, v, context, argument, function.domain, left)?;
     Ok(found)
 }

@@ -3,6 +3,7 @@
 //! The meanings are `inferred` and `checked` of dk_model (docs/typing.md). Begin at `infer` and `check`.
 #![tactic(auto)]
 
+mod applied;
 mod checking;
 mod context;
 mod expect;

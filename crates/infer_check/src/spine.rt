@@ -1,8 +1,7 @@
 //! An application taken apart: its head and its arguments.
 ghost use Rattle.std.specs.Prelude.{◌≡◌, ◌+◌, ◌≤◌, ◌<◌, false, IfOk, map};
 ghost use Rattle.dk_model.specs.Signatures.{PlainSignature};
-ghost use Rattle.signature_log.specs.Reducers.{Keeps, OwnsParts, built};
-ghost use Rattle.infer_check.specs.Contexts.{AreOwned};
+ghost use Rattle.signature_log.specs.Reducers.{Keeps, OwnsParts, built, AreOwned};
 ghost use Rattle.infer_check.specs.Spine.{is_application, wound, size, total_size};
 
 use dk_model::{NoMemory, NodeOf};

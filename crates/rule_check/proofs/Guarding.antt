@@ -8,10 +8,10 @@ use Rattle.dk_model.specs.Signatures.{PlainSignature}
 use Rattle.dk_model.specs.Typing.{answer, next, checked}
 use Rattle.dk_model.specs.RuleTyping.{Guard as PlainGuard, guard_walked}
 use Rattle.dk_model.specs.declared.stop.TypeFault.{TypeFault}
-use Rattle.signature_log.specs.Reducers.{Keeps, Makes}
+use Rattle.signature_log.specs.Reducers.{Keeps, Makes, AreOwned}
 use Rattle.signature_log.proofs.Keeping.{keeps_further}
 use Rattle.infer_check.specs.declared.context.Context.{Context}
-use Rattle.infer_check.specs.Contexts.{innermost_first, bound_types, AreOwned, OwnsContext}
+use Rattle.infer_check.specs.Contexts.{innermost_first, bound_types, OwnsContext}
 use Rattle.infer_check.specs.Given.{Fails}
 use Rattle.infer_check.proofs.Contexts.{innermost_kept, bound_types_kept, length_bound_types, types_kept as values_kept}
 use Rattle.infer_check.proofs.Judging.{fails_next}

@@ -8,9 +8,9 @@ use Rattle.dk_model.specs.Typing.{Judged, answer, refused, ended, next, as_produ
 use Rattle.dk_model.specs.RuleTyping.{Guard as PlainGuard, Found as PlainFound, Walked, found_type, with_type, with_wildcard, occurrence, as_convertible, first_type, later_type, bound_type}
 use Rattle.dk_model.specs.declared.code.Code.TheVariants.{E34}
 use Rattle.dk_model.specs.declared.stop.TypeFault.{TypeFault}
-use Rattle.signature_log.specs.Reducers.{Keeps}
+use Rattle.signature_log.specs.Reducers.{Keeps, AreOwned}
 use Rattle.infer_check.specs.declared.context.Context.{Context}
-use Rattle.infer_check.specs.Contexts.{innermost_first, bound_types, AreOwned, OwnsContext}
+use Rattle.infer_check.specs.Contexts.{innermost_first, bound_types, OwnsContext}
 use Rattle.infer_check.specs.Given.{GivesType, GivesFit, Fails}
 use Rattle.infer_check.proofs.Contexts.{bound_types_kept, length_bound_types, types_kept as values_kept}
 use Rattle.infer_check.proofs.Spines.{map_pushed}

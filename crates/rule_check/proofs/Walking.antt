@@ -10,8 +10,7 @@ use Rattle.dk_model.specs.declared.code.Code.TheVariants.{E34}
 use Rattle.dk_model.specs.declared.signature.Pat.{Pat}
 use Rattle.dk_model.specs.declared.term.Term.{Term}
 use Rattle.dk_model.specs.declared.stop.TypeFault.{TypeFault}
-use Rattle.signature_log.specs.Reducers.{Keeps}
-use Rattle.infer_check.specs.Contexts.{AreOwned}
+use Rattle.signature_log.specs.Reducers.{Keeps, AreOwned}
 use Rattle.infer_check.specs.Given.{Fails}
 use Rattle.infer_check.proofs.Contexts.{types_kept as values_kept}
 use Rattle.infer_check.proofs.Judging.{fails_next, fails_is, next_next}

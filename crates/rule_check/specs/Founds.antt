@@ -3,7 +3,8 @@ use Rattle.std.specs.Prelude.{◌≡◌, List, [], ◌∷◌, Option, Some, None
 use Rattle.dk_model.specs.Trees.{Tree}
 use Rattle.dk_model.specs.Signatures.{maybe_by}
 use Rattle.dk_model.specs.RuleTyping.{Guard as PlainGuard, Found as PlainFound, all_types}
-use Rattle.infer_check.specs.Contexts.{innermost_first, AreOwned}
+use Rattle.signature_log.specs.Reducers.{AreOwned}
+use Rattle.infer_check.specs.Contexts.{innermost_first}
 use Rattle.rule_check.specs.declared.found.Guard.{Guard}
 use Rattle.rule_check.specs.declared.found.Found.{Found}
 

@@ -6,7 +6,8 @@ use Rattle.dk_model.specs.Substitution.{shift, substitute}
 use Rattle.dk_model.specs.RuleTyping.{Found as PlainFound, Walked, found_type}
 use Rattle.dk_model.specs.declared.stop.TypeFault.{TypeFault}
 use Rattle.infer_check.specs.declared.context.Context.{Context}
-use Rattle.infer_check.specs.Contexts.{innermost_first, bound_types, AreOwned}
+use Rattle.signature_log.specs.Reducers.{AreOwned}
+use Rattle.infer_check.specs.Contexts.{innermost_first, bound_types}
 use Rattle.infer_check.specs.Given.{Fails}
 use Rattle.rule_check.specs.declared.found.Found.{Found}
 use Rattle.rule_check.specs.declared.found.Guard.{Guard}

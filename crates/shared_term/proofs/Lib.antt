@@ -1,9 +1,11 @@
 pub mod Summing
 pub mod Growth
+pub mod Together
 pub mod Unchanged
 pub mod Remembering
 pub mod Waiting
 pub mod Captures
+pub mod Arguments
 pub mod Others
 pub mod Places
 pub mod Parts

@@ -1,17 +1,17 @@
 -- What is remembered stays right as the pool grows, and with a result more.
-use Rattle.std.proofs.Common.{◌≡◌, ℕ, ◌<◌, ◌≤◌, List, [], ◌∷◌, length, Option, Some, None, refl, ap, sym, subst, ◌∙◌, ◌⊎◌, inl, inr, arith}
+use Rattle.std.proofs.Common.{◌≡◌, ℕ, ◌<◌, ◌≤◌, List, [], ◌∷◌, length, map, Option, Some, None, refl, ap, sym, subst, ◌∙◌, ◌⊎◌, inl, inr, arith}
 use Rattle.dk_model.specs.Trees.{Tree}
 use Rattle.dk_model.specs.Substitution.{substitute}
 use Rattle.dk_model.specs.Captures.{filled}
 use Rattle.shared_term.specs.declared.id.TermId.{TermId}
 use Rattle.shared_term.specs.declared.change.Change.{Change}
-use Rattle.shared_term.specs.declared.change.Change.TheVariants.{Shift, Substitute, Erase, Fill, Rename, Raise}
+use Rattle.shared_term.specs.declared.change.Change.TheVariants.{Shift, Substitute, SubstituteAll, Erase, Fill, Rename, Raise}
 use Rattle.shared_term.specs.declared.change.Goal.{Goal}
 use Rattle.shared_term.specs.declared.change.Given.{Given}
 use Rattle.shared_term.specs.declared.memo.Done.{Done}
 use Rattle.shared_term.specs.declared.memo.Memo.{Memo}
 use Rattle.shared_term.specs.Pools.{Node, term, Extends}
-use Rattle.shared_term.specs.Changes.{AreCaptures, captured_terms, changed, wanted, IsKnown, IsLasting, IsAsked}
+use Rattle.shared_term.specs.Changes.{AreCaptures, captured_terms, AreTerms, substitute_all, changed, wanted, IsKnown, IsLasting, IsAsked}
 use Rattle.shared_term.specs.Memos.{Remembers, IsBlank, Is, IsDone, AreDone, AreLasting}
 
 captures_grown : (old new : List Node) (cs : List (Option TermId)) → Extends old new → AreCaptures (length old) cs → captured_terms new cs ≡ captured_terms old cs
@@ -24,9 +24,18 @@ captures_known m n [] l h = tt
 captures_known m n (None ∷ cs) l h = captures_known m n cs l h
 captures_known m n (Some x ∷ cs) l h = (omega (arith, h.0), captures_known m n cs l h.1)
 
+terms_known : (m n : ℕ) (us : List TermId) → m ≤ n → AreTerms m us → AreTerms n us
+terms_known m n [] l h = tt
+terms_known m n (u ∷ us) l h = (omega (arith, h.0), terms_known m n us l h.1)
+
+terms_grown : (old new : List Node) (us : List TermId) → Extends old new → AreTerms (length old) us → map (term new) us ≡ map (term old) us
+terms_grown old new [] e h = refl
+terms_grown old new (u ∷ us) e h = λ i. e.keeps u.0 h.0 i ∷ terms_grown old new us e h.1 i
+
 pub known_grown : (m n : ℕ) (g : Given) (c : Change) → m ≤ n → IsKnown m g c → IsKnown n g c
 known_grown m n g (Shift by) l h = tt
 known_grown m n g (Substitute u) l h = omega (arith, h)
+known_grown m n g SubstituteAll l h = terms_known m n g.terms.now l h
 known_grown m n g Erase l h = tt
 known_grown m n g Fill l h = captures_known m n g.captures.now l h
 known_grown m n g Rename l h = tt
@@ -38,6 +47,7 @@ asked_grown old new g goal e h = (omega (arith, e.longer, h.0), known_grown (len
 pub changed_grown : (old new : List Node) (g : Given) (c : Change) (d : ℕ) (t : Tree) → Extends old new → IsKnown (length old) g c → changed new g c d t ≡ changed old g c d t
 changed_grown old new g (Shift by) d t e h = refl
 changed_grown old new g (Substitute u) d t e h = ap (λ x. substitute d x t) (e.keeps u.0 h)
+changed_grown old new g SubstituteAll d t e h = ap (λ us. substitute_all d us t) (terms_grown old new g.terms.now e h)
 changed_grown old new g Erase d t e h = refl
 changed_grown old new g Fill d t e h = ap (λ cs. filled cs d t) (captures_grown old new g.captures.now e h)
 changed_grown old new g Rename d t e h = refl
@@ -76,6 +86,7 @@ passing_put ns g old new done h s put = record {
 lasting_changed : (ns : List Node) (g h : Given) (c : Change) (d : ℕ) (t : Tree) → IsLasting c → changed ns g c d t ≡ changed ns h c d t
 lasting_changed ns g h (Shift by) d t l = refl
 lasting_changed ns g h (Substitute u) d t l = refl
+lasting_changed ns g h SubstituteAll d t l = absurd l
 lasting_changed ns g h Erase d t l = refl
 lasting_changed ns g h Fill d t l = absurd l
 lasting_changed ns g h Rename d t l = absurd l
@@ -84,6 +95,7 @@ lasting_changed ns g h Raise d t l = absurd l
 lasting_known : (n : ℕ) (g h : Given) (c : Change) → IsLasting c → IsKnown n g c → IsKnown n h c
 lasting_known n g h (Shift by) l k = tt
 lasting_known n g h (Substitute u) l k = k
+lasting_known n g h SubstituteAll l k = absurd l
 lasting_known n g h Erase l k = tt
 lasting_known n g h Fill l k = absurd l
 lasting_known n g h Rename l k = absurd l

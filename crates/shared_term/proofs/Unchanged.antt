@@ -1,5 +1,5 @@
 -- Where a summary shows that a change leaves a term as it is.
-use Rattle.std.proofs.Common.{◌≡◌, ℕ, ◌+◌, ◌<◌, ◌≤◌, nat_lt, List, false, refl, ap, ◌∙◌, arith, if◌then◌else◌, true≢false, Bool, true}
+use Rattle.std.proofs.Common.{◌≡◌, ℕ, ◌+◌, ◌<◌, ◌≤◌, nat_lt, List, map, false, refl, ap, ◌∙◌, arith, if◌then◌else◌, true≢false, Bool, true}
 use Rattle.std.proofs.lemmas.Bool.Decides.{nat_tests}
 use Rattle.dk_model.specs.Trees.{Tree, star, kind, symbol, variable, rule_variable, apply, bare, annotated, product}
 use Rattle.dk_model.specs.Erasure.{erased}
@@ -7,7 +7,7 @@ use Rattle.dk_model.specs.Substitution.{shift}
 use Rattle.dk_model.specs.Captures.{Captures, filled, renamed}
 use Rattle.dk_model.specs.Bounds.{IsClosedAt}
 use Rattle.shared_term.specs.declared.id.TermId.{TermId}
-use Rattle.shared_term.specs.declared.change.Change.TheVariants.{Shift, Substitute, Erase, Fill, Rename, Raise}
+use Rattle.shared_term.specs.declared.change.Change.TheVariants.{Shift, Substitute, SubstituteAll, Erase, Fill, Rename, Raise}
 use Rattle.shared_term.specs.declared.change.Goal.{Goal}
 use Rattle.shared_term.specs.declared.change.Given.{Given}
 use Rattle.shared_term.specs.declared.summary.Summary.{Summary}
@@ -15,6 +15,7 @@ use Rattle.shared_term.specs.Pools.{Node, term}
 use Rattle.shared_term.specs.Summaries.{IsSummary, HasNoRuleVariable, HasNoAnnotation}
 use Rattle.shared_term.specs.Changes.{changed, wanted, captured_terms, is_other, others_raised}
 use Rattle.dk_model.proofs.Closed.{closed_further, shift_closed, substitute_closed}
+use Rattle.shared_term.proofs.Together.{all_closed}
 
 pub erased_plain : (t : Tree) → HasNoAnnotation t → erased t ≡ t
 erased_plain star h = refl
@@ -96,6 +97,10 @@ module _ (ns : List Node) (g : Given) (goal : Goal) (s : Summary) (h : IsSummary
   pub unchanged_substitute : (u : TermId) → goal.change ≡ Substitute u → s.bound ≤ goal.depth → wanted ns g goal ≡ term ns goal.id
   unchanged_substitute u e l = ap (λ c. changed ns g c goal.depth (term ns goal.id)) e
       ∙ substitute_closed goal.depth (term ns u) (term ns goal.id) (closed_further s.bound goal.depth (term ns goal.id) l h.closed)
+
+  pub unchanged_all : goal.change ≡ SubstituteAll → s.bound ≤ goal.depth → wanted ns g goal ≡ term ns goal.id
+  unchanged_all e l = ap (λ c. changed ns g c goal.depth (term ns goal.id)) e
+      ∙ all_closed goal.depth (map (term ns) g.terms.now) (term ns goal.id) (closed_further s.bound goal.depth (term ns goal.id) l h.closed)
 
   pub unchanged_erase : goal.change ≡ Erase → s.annotations ≡ false → wanted ns g goal ≡ term ns goal.id
   unchanged_erase e l = ap (λ c. changed ns g c goal.depth (term ns goal.id)) e ∙ erased_plain (term ns goal.id) (h.plain l)

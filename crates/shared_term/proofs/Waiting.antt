@@ -3,7 +3,7 @@ use Rattle.std.proofs.Common.{◌≡◌, ℕ, ◌+◌, ◌<◌, List, [], ◌∷
 use Rattle.dk_model.specs.Trees.{Tree, star, kind, symbol, variable, rule_variable, apply, bare, annotated, product}
 use Rattle.shared_term.specs.declared.id.TermId.{TermId}
 use Rattle.shared_term.specs.declared.change.Change.{Change}
-use Rattle.shared_term.specs.declared.change.Change.TheVariants.{Shift, Substitute, Erase, Fill, Rename, Raise}
+use Rattle.shared_term.specs.declared.change.Change.TheVariants.{Shift, Substitute, SubstituteAll, Erase, Fill, Rename, Raise}
 use Rattle.shared_term.specs.declared.change.Goal.{Goal}
 use Rattle.shared_term.specs.declared.change.Given.{Given}
 use Rattle.shared_term.specs.declared.change.Pair.{Pair}
@@ -13,8 +13,8 @@ use Rattle.shared_term.specs.declared.change.State.{State}
 use Rattle.shared_term.specs.declared.change.State.TheVariants.{Down, Up}
 use Rattle.shared_term.specs.declared.entering.Step.TheVariants.{Answer, Instead, Inside, Parts}
 use Rattle.shared_term.specs.Pools.{Node, term, Extends}
-use Rattle.shared_term.specs.Changes.{AreCaptures, IsKnown, IsAsked, wanted, joined, under, part}
-use Rattle.shared_term.specs.Walks.{goal_of, completed, HasParts, Waits, Wait, Stands, weight, captures_weight, more, frame_weight, frames_weight, IsStep, Turns}
+use Rattle.shared_term.specs.Changes.{AreCaptures, AreTerms, IsKnown, IsAsked, wanted, joined, under, part}
+use Rattle.shared_term.specs.Walks.{goal_of, completed, HasParts, Waits, Wait, Stands, weight, captures_weight, terms_weight, more, frame_weight, frames_weight, IsStep, Turns}
 use Rattle.shared_term.proofs.Remembering.{asked_grown, wanted_grown}
 
 module _ (ns : List Node) (g : Given) where
@@ -144,9 +144,16 @@ module _ (old new : List Node) (g : Given) (e : Extends old new) where
       let k : weight new g 0 (term new x) ≡ weight old g 0 (term old x) = ap (weight new g 0) (e.keeps x.0 h.0) ∙ same_weight 0 (term old x) in
       omega (arith, k, captures_grown cs h.1)
 
+  terms_grown : (us : List TermId) → AreTerms (length old) us → terms_weight new g us ≡ terms_weight old g us
+  terms_grown [] h = refl
+  terms_grown (u ∷ us) h =
+      let k : weight new g 0 (term new u) ≡ weight old g 0 (term old u) = ap (weight new g 0) (e.keeps u.0 h.0) ∙ same_weight 0 (term old u) in
+      omega (arith, k, terms_grown us h.1)
+
   more_grown : (c : Change) → IsKnown (length old) g c → more new g c ≡ more old g c
   more_grown (Shift by) h = refl
   more_grown (Substitute u) h = ap (weight new g 0) (e.keeps u.0 h) ∙ same_weight 0 (term old u)
+  more_grown SubstituteAll h = terms_grown g.terms.now h
   more_grown Erase h = refl
   more_grown Fill h = captures_grown g.captures.now h
   more_grown Rename h = refl

@@ -3,7 +3,7 @@ use Rattle.std.specs.Prelude.{◌≡◌, ℕ, ◌+◌, ◌<◌, ◌≤◌, List,
 use Rattle.dk_model.specs.Trees.{Tree, variable, apply, bare, annotated, product}
 use Rattle.shared_term.specs.declared.id.TermId.{TermId}
 use Rattle.shared_term.specs.declared.change.Change.{Change}
-use Rattle.shared_term.specs.declared.change.Change.TheVariants.{Substitute, Fill}
+use Rattle.shared_term.specs.declared.change.Change.TheVariants.{Substitute, SubstituteAll, Fill}
 use Rattle.shared_term.specs.declared.change.Goal.{Goal}
 use Rattle.shared_term.specs.declared.change.Given.{Given}
 use Rattle.shared_term.specs.declared.change.Frame.{Frame}
@@ -70,9 +70,14 @@ module _ (ns : List Node) (g : Given) where
   captures_weight (None ∷ cs) = captures_weight cs
   captures_weight (Some i ∷ cs) = weight 0 (term ns i) + captures_weight cs
 
+  abbrev pub terms_weight : List TermId → ℕ
+  terms_weight [] = 0
+  terms_weight (u ∷ us) = weight 0 (term ns u) + terms_weight us
+
   -- what a leaf may take more, where another term takes its place
   abbrev pub more : Change → ℕ
   more (Substitute u) = weight 0 (term ns u)
+  more SubstituteAll = terms_weight g.terms.now
   more Fill = captures_weight g.captures.now
   more c = 0
 

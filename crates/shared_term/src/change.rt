@@ -9,6 +9,8 @@ pub(crate) enum Change {
     Shift(u64),
     /// The term takes the place of the variable with that number.
     Substitute(TermId),
+    /// The terms of the call take the place of as many variables from that number on.
+    SubstituteAll,
     /// Its annotations go.
     Erase,
     /// Its rule variables are replaced by their captures.
@@ -27,12 +29,12 @@ pub(crate) struct Goal {
     pub(crate) depth: u64,
 }
 
-/// What the changes of one call look up: the captures; how many variables the pattern binds, and
-/// which of them are the
-/// arguments of the capture.
+/// What the changes of one call look up: the captures; the terms that take the place of variables, the last one that of the
+/// first; how many variables the pattern binds, and which of them are the arguments of the capture.
 #[derive(Clone, Copy)]
 pub(crate) struct Given<'a> {
     pub(crate) captures: &'a [Option<TermId>],
+    pub(crate) terms: &'a [TermId],
     pub(crate) bound: u64,
     pub(crate) arguments: &'a [u32],
 }

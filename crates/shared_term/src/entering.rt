@@ -3,7 +3,7 @@ ghost use Rattle.std.specs.Prelude.{◌≡◌, ◌+◌, ◌<◌, ◌≤◌, leng
 ghost use Rattle.dk_model.specs.Trees.{variable, rule_variable};
 ghost use Rattle.dk_model.specs.Captures.{is_in, index_of};
 ghost use Rattle.shared_term.specs.Pools.{term, terms, denoted, Extends, IsWithin};
-ghost use Rattle.shared_term.specs.Changes.{IsAsked, IsErase, capture_id, is_other, wanted};
+ghost use Rattle.shared_term.specs.Changes.{IsAsked, IsErase, capture_id, from_last, is_other, wanted};
 ghost use Rattle.shared_term.specs.Memos.{AreDone, AreLasting};
 ghost use Rattle.shared_term.specs.Walks.{IsStep, IsPlaced};
 
@@ -75,10 +75,24 @@ pub(crate) fn stays(nodes: &Nodes, given: &Given<'_>, goal: Goal) -> bool
         Change::Shift(0) => true,
         Change::Shift(_) => u64::from(summary.bound) <= goal.depth,
         Change::Substitute(_) => u64::from(summary.bound) <= goal.depth,
+        Change::SubstituteAll => u64::from(summary.bound) <= goal.depth,
         Change::Erase => !summary.annotations,
         Change::Fill => !summary.rule_variables,
         Change::Rename => u64::from(summary.bound) <= goal.depth,
         Change::Raise => u64::from(summary.bound) <= goal.depth,
+    }
+}
+
+// The term that stands so many before the last one.
+#[tactic(auto, using(crate::proofs::Together::from_last_found, crate::proofs::Together::from_last_missing))]
+fn from_last(terms: &[TermId], back: u64) -> Option<TermId>
+    ensures { result ≡ from_last terms.now back }
+{
+    let count = terms.len() as u64;
+    if back < count {
+        Some(terms[(count - 1 - back) as usize])
+    } else {
+        None
     }
 }
 
@@ -113,6 +127,18 @@ fn variable(nodes: &mut Nodes, given: &Given<'_>, goal: Goal, k: u64) -> Result<
             }))
         } else {
             placed(nodes, k - 1)
+        },
+        Change::SubstituteAll => if k < goal.depth {
+            Ok(Step::Answer(goal.id))
+        } else {
+            match from_last(given.terms, k - goal.depth) {
+                Some(by) => Ok(Step::Instead(Goal {
+                    change: Change::Shift(goal.depth),
+                    id: by,
+                    depth: 0,
+                })),
+                None => placed(nodes, k - given.terms.len() as u64),
+            }
         },
         Change::Erase => Ok(Step::Answer(goal.id)),
         Change::Fill => Ok(Step::Answer(goal.id)),
@@ -152,6 +178,7 @@ fn rule_variable(nodes: &Nodes, given: &Given<'_>, goal: Goal, k: u32) -> Step
     match goal.change {
         Change::Shift(_) => same,
         Change::Substitute(_) => same,
+        Change::SubstituteAll => same,
         Change::Erase => same,
         Change::Fill => match capture_at(given.captures, k) {
             None => same,
@@ -173,6 +200,7 @@ fn is_erase(change: Change) -> bool
     match change {
         Change::Shift(_) => false,
         Change::Substitute(_) => false,
+        Change::SubstituteAll => false,
         Change::Erase => true,
         Change::Fill => false,
         Change::Rename => false,

@@ -47,6 +47,7 @@ fn slot_of(goal: Goal, count: usize) -> usize {
     let change = match goal.change {
         Change::Shift(by) => by.wrapping_mul(2),
         Change::Substitute(by) => (by.0 as u64).wrapping_mul(2).wrapping_add(1),
+        Change::SubstituteAll => 0,
         Change::Erase => 0,
         Change::Fill => 0,
         Change::Rename => 0,

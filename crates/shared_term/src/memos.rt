@@ -27,6 +27,7 @@ fn is_lasting(change: Change) -> bool
     match change {
         Change::Shift(_) => true,
         Change::Substitute(_) => true,
+        Change::SubstituteAll => false,
         Change::Erase => true,
         Change::Fill => false,
         Change::Rename => false,

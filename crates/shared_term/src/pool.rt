@@ -1,11 +1,12 @@
 //! A pool of shared terms.
-ghost use Rattle.std.specs.Prelude.{◌≡◌, ◌<◌, ◌↔◌, [], length, slice_get, Some, IfOk, IsTrue};
+ghost use Rattle.std.specs.Prelude.{◌≡◌, ◌<◌, ◌↔◌, [], length, map, slice_get, Some, IfOk, IsTrue};
 ghost use Rattle.dk_model.specs.Substitution.{shift, substitute};
 ghost use Rattle.dk_model.specs.Erasure.{erased};
 ghost use Rattle.dk_model.specs.Captures.{filled, renamed, captured, mentions_others};
+ghost use Rattle.dk_model.specs.Bounds.{IsClosedAt};
 ghost use Rattle.shared_term.specs.Storage.{stored_term};
 ghost use Rattle.shared_term.specs.Pools.{term, terms, denoted, Extends, IsWithin, Moves};
-ghost use Rattle.shared_term.specs.Changes.{AreCaptures, captured_terms};
+ghost use Rattle.shared_term.specs.Changes.{AreCaptures, captured_terms, AreTerms, substitute_all};
 
 use crate::change::{Change, Frame, Given, Goal};
 use crate::entering::stays;
@@ -42,6 +43,7 @@ impl Model for Pool {
 
 const NOTHING: Given<'static> = Given {
     captures: &[],
+    terms: &[],
     bound: 0,
     arguments: &[],
 };
@@ -113,6 +115,14 @@ impl Pool {
         stays(&self.nodes, &NOTHING, goal)
     }
 
+    /// Whether the term mentions no variable that isn't bound in it.
+    pub fn is_closed(&self, id: TermId) -> bool
+        requires { id.0 < length self.now }
+        ensures { IsTrue result → IsClosedAt 0 (term self.now id) }
+    {
+        self.nodes.summary(id).bound == 0
+    }
+
     /// The place of a node, which goes last where it isn't there.
     #[tactic(auto, using(crate::proofs::Remembering::lasting_grown))]
     pub fn intern(&mut self, node: Node) -> Result<TermId, NoMemory>
@@ -142,6 +152,39 @@ impl Pool {
             &mut self.memos,
             &mut self.frames,
             &NOTHING,
+            goal,
+        )
+    }
+
+    /// Puts these in the place of as many variables from `depth` on, the last one in that of variable `depth`, all at once.
+    pub fn substitute_all(
+        &mut self,
+        id: TermId,
+        depth: u64,
+        by: &[TermId],
+    ) -> Result<TermId, NoMemory>
+        requires id { id.0 < length self.old }
+        requires by { AreTerms (length self.old) by.now }
+        ensures moves { IfOk result
+            (λ r. Moves (substitute_all depth (map (term self.old) by.now)) self.old self.new id r) }
+        ensures keeps { Extends self.old self.new }
+    {
+        let given = Given {
+            captures: &[],
+            terms: by,
+            bound: 0,
+            arguments: &[],
+        };
+        let goal = Goal {
+            change: Change::SubstituteAll,
+            id,
+            depth,
+        };
+        walked(
+            &mut self.nodes,
+            &mut self.memos,
+            &mut self.frames,
+            &given,
             goal,
         )
     }
@@ -196,6 +239,7 @@ impl Pool {
     {
         let given = Given {
             captures,
+            terms: &[],
             bound: 0,
             arguments: &[],
         };
@@ -223,6 +267,7 @@ impl Pool {
     {
         let given = Given {
             captures: &[],
+            terms: &[],
             bound,
             arguments,
         };
@@ -276,6 +321,7 @@ impl Pool {
     {
         let given = Given {
             captures: &[],
+            terms: &[],
             bound,
             arguments,
         };

@@ -1,5 +1,5 @@
 -- What a call of a reducer gives, and what it leaves as it was.
-use Rattle.std.specs.Prelude.{ℕ, ◌≡◌, Some, None, Bool, Result, Ok, Err}
+use Rattle.std.specs.Prelude.{ℕ, ◌≡◌, List, [], ◌∷◌, Some, None, Bool, Result, Ok, Err}
 use Rattle.dk_model.specs.Trees.{Tree, star, kind, symbol, variable, rule_variable, apply, bare, annotated, product}
 use Rattle.dk_model.specs.Units.{Units}
 use Rattle.dk_model.specs.declared.node.NodeOf.{NodeOf}
@@ -51,6 +51,11 @@ OwnsParts owns r (App f a) = owns r f × owns r a
 OwnsParts owns r (Abs None b) = owns r b
 OwnsParts owns r (Abs (Some n) b) = owns r n × owns r b
 OwnsParts owns r (Prod a b) = owns r a × owns r b
+
+-- that the values of a list are the reducer's
+abbrev pub AreOwned : {R T : Type 0} → (R → T → Type 0) → R → List T → Type 0
+AreOwned owns r [] = Unit {0}
+AreOwned owns r (t ∷ ts) = owns r t × AreOwned owns r ts
 
 -- the outermost node of this term
 abbrev pub Shows : {R T : Type 0} → (R → T → Type 0) → (R → T → Tree) → R → Tree → NodeOf T → Type 0

@@ -1,16 +1,18 @@
 //! Evaluation over whatever stands for terms: boxed trees, or numbers of shared nodes.
 //!
 //! Typing and commands are written once over this trait. The meanings are those of plain trees (docs/evaluation.md).
-ghost use Rattle.std.specs.Prelude.{◌≡◌, ◌≤◌, ℕ, IfOk};
+ghost use Rattle.std.specs.Prelude.{◌≡◌, ◌≤◌, ℕ, [], map, true, IfOk, IsTrue};
 ghost use Rattle.dk_model.specs.Trees.{Tree, tree};
 ghost use Rattle.dk_model.specs.Substitution.{shift, substitute};
 ghost use Rattle.dk_model.specs.Erasure.{erased};
 ghost use Rattle.dk_model.specs.Signatures.{PlainSignature};
 ghost use Rattle.dk_model.specs.Captures.{mentions_others, renamed};
+ghost use Rattle.dk_model.specs.Bounds.{IsClosedAt};
+ghost use Rattle.shared_term.specs.Changes.{substitute_all};
 ghost use Rattle.dk_model.specs.Evaluation.{whnf_of, comparison_of, normal_of};
 ghost use Rattle.shared_term.specs.Storage.{stored_term};
 ghost use Rattle.signature_log.specs.Versions.{entries_of};
-ghost use Rattle.signature_log.specs.Reducers.{Keeps, Gives, GivesAnswer, Makes, Shows, OwnsParts, built};
+ghost use Rattle.signature_log.specs.Reducers.{Keeps, Gives, GivesAnswer, Makes, Shows, OwnsParts, AreOwned, built};
 
 use crate::Version;
 use dk_model::{NoMemory, NodeOf, Stop, Term};
@@ -106,14 +108,30 @@ pub trait Reducer {
         ensures keeps { Keeps owns denotes self.old self.new }
         ensures serves { (S : PlainSignature) → serves S self.old → serves S self.new };
 
-    /// The same with `by` without annotations, which is looked at only where the body mentions the variable.
-    fn put_erased_in(&mut self, body: &Self::T, by: &Self::T) -> Result<Self::T, NoMemory>
+    /// Puts these in the place of its innermost variables, all at once, the last one in that of variable 0.
+    fn put_all_in(&mut self, body: &Self::T, terms: &[Self::T]) -> Result<Self::T, NoMemory>
         requires own { owns self.old body.now }
-        requires other { owns self.old by.now }
+        requires others { AreOwned owns self.old terms.now }
         ensures makes { IfOk result (Makes owns denotes self.new
-            (substitute 0 (erased (denotes self.old by.now)) (denotes self.old body.now))) }
+            (substitute_all 0 (map (denotes self.old) terms.now) (denotes self.old body.now))) }
         ensures keeps { Keeps owns denotes self.old self.new }
         ensures serves { (S : PlainSignature) → serves S self.old → serves S self.new };
+
+    /// A term without annotations, to be put in the place of variable 0 of a body. It is looked at only where the body
+    /// mentions the variable.
+    fn as_argument(&mut self, t: &Self::T, body: &Self::T) -> Result<Self::T, NoMemory>
+        requires own { owns self.old t.now }
+        requires other { owns self.old body.now }
+        ensures own { IfOk result (λ u. owns self.new u) }
+        ensures erased { mentions_others 0 1 [] (denotes self.old body.now) ≡ true
+            → IfOk result (λ u. denotes self.new u ≡ erased (denotes self.old t.now)) }
+        ensures keeps { Keeps owns denotes self.old self.new }
+        ensures serves { (S : PlainSignature) → serves S self.old → serves S self.new };
+
+    /// Whether it is known that the term mentions no variable but those that are bound in it.
+    fn is_closed(&self, t: &Self::T) -> bool
+        requires { owns self.now t.now }
+        ensures { IsTrue result → IsClosedAt 0 (denotes self.now t.now) };
 
     /// Adds `by` to each free variable.
     fn shift(&mut self, t: &Self::T, by: u64) -> Result<Self::T, NoMemory>

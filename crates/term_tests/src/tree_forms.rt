@@ -113,7 +113,8 @@ fn carried(alloc: Global, term: &Term) -> Result<Term, NoMemory> {
 /// Each call besides the three of evaluation, once: from `plus z 2` to `plus z 0` by way of `plus z 1`.
 fn renamed(alloc: Global) -> Result<Option<Term>, NoMemory> {
     let built = rebuilt(alloc, &put_and_shifted(alloc)?)?;
-    let put = Trees::new(alloc).put_erased_in(&built, &Term::Sym(Z))?;
+    let argument = Trees::new(alloc).as_argument(&Term::Sym(Z), &built)?;
+    let put = Trees::new(alloc).put_all_in(&built, &[argument])?;
     let carried = carried(alloc, &put)?;
     let free = Trees::new(alloc).mentions_others(&carried, 2, &[0])?;
     let bound = Trees::new(alloc).mentions_others(&carried, 2, &[1])?;

@@ -10,5 +10,4 @@ mod Comparing
 mod Refining
 mod References
 mod Reducing
-mod Mentioning
 mod Listing

@@ -9,4 +9,3 @@ pub mod Turning
 pub mod Selecting
 pub mod Clauses
 pub mod Nodes
-pub mod Mentions

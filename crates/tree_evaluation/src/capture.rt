@@ -7,7 +7,7 @@ ghost use Rattle.tree_evaluation.specs.Matrix.{captures_of};
 use dk_model::{NoMemory, Term, make_annotated, make_app, make_bare, make_product};
 use std::alloc::Global;
 
-fn next(number: u64) -> Result<u64, NoMemory>
+pub(crate) fn next(number: u64) -> Result<u64, NoMemory>
     ensures { IfOk result (λ n. n ≡ number + 1) }
 {
     sum(number, 1)

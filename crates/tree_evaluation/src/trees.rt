@@ -6,7 +6,7 @@ ghost use Rattle.tree_evaluation.specs.Nodes.{owned, denoted};
 
 use crate::capture::{mentions_others, renamed};
 use crate::evaluation::Evaluation;
-use crate::instance::instance;
+use crate::instance::all_put;
 use crate::nodes::{as_node, from_node, into_node};
 use dk_model::{NoMemory, NodeOf, Stop, Term};
 use shared_term::Stored;
@@ -99,9 +99,23 @@ impl Reducer for Trees {
         body.substitute(self.alloc, 0, by)
     }
 
+    #[tactic(auto, using(crate::proofs::Reducing::trees_keep, crate::proofs::Reducing::same_trees))]
+    fn put_all_in(&mut self, body: &Term, terms: &[Term]) -> Result<Term, NoMemory> {
+        all_put(self.alloc, 0, terms, body)
+    }
+
     #[tactic(auto, using(crate::proofs::Reducing::trees_keep))]
-    fn put_erased_in(&mut self, body: &Term, by: &Term) -> Result<Term, NoMemory> {
-        instance(self.alloc, body, by)
+    fn as_argument(&mut self, t: &Term, body: &Term) -> Result<Term, NoMemory> {
+        if mentions_others(0, 1, &[], body)? {
+            t.erased(self.alloc)
+        } else {
+            Ok(Term::Star)
+        }
+    }
+
+    fn is_closed(&self, t: &Term) -> bool {
+        let _term = t;
+        false
     }
 
     #[tactic(auto, using(crate::proofs::Reducing::trees_keep))]

@@ -5,11 +5,13 @@ use Rattle.dk_model.specs.Substitution.{substitute}
 use Rattle.dk_model.specs.Erasure.{erased}
 use Rattle.dk_model.specs.Typing.{answer, is_abstraction}
 use Rattle.signature_log.specs.Versions.{entries_of}
-use Rattle.signature_log.specs.Reducers.{built}
+use Rattle.signature_log.specs.Reducers.{built, AreOwned}
 use Rattle.signature_log.proofs.Keeping.{keeps_further}
-use Rattle.infer_check.specs.Contexts.{with_bound, rule_types, bound_types, AreOwned}
+use Rattle.infer_check.specs.Contexts.{with_bound, rule_types, bound_types}
 use Rattle.infer_check.specs.Spine.{along, size}
 use Rattle.infer_check.proofs.Judging.{fails_is, check_infer_fails, annotated_domain_fails, annotated_same_fails, annotated_body, bare_body, argument_check_fails, argument_given_type, abstraction_body_fails, abstraction_kind_fails, abstraction_given, product_codomain_fails, product_sort}
+use Rattle.infer_check.specs.Applied.{put_together}
+use Rattle.infer_check.proofs.Putting.{applied_kept, together_kept}
 use Rattle.infer_check.proofs.Contexts.{owned_last}
 use Rattle.infer_check.proofs.Spines.{map_pushed, argument_fails}
 use Rattle.infer_check.proofs.Moving.{same_size, context_moved, rule_types_moved, bound_types_moved, context_under, rule_types_under, bound_types_under, checked_same, inferred_same, domain_same, argument_same, same_same, fit_is, type_is, opened_bare, owned_bare, opened_annotated, owned_annotated, not_abstraction, last_smaller}
@@ -266,8 +268,8 @@ inference::apply-check_taken-requires g t c =
     let x = c.args.context.now in
     let V = rule_types D r x in
     let G = bound_types D r x in
-    let q = c.into_product.new.r in
-    let p = c.put_erased_in.new.self in
+    let q = c.function_of.new.r in
+    let p = c.applied_to.new.r in
     let fn = c.in_ok-function.function in
     let kq = c.in_ok-function.ensures.keeps in
     let kqp = c.in_ok-found.ensures.keeps in
@@ -286,15 +288,15 @@ inference::apply-returns-in_err-check_taken-clause-gives g t c =
     let x = c.args.context.now in
     let V = rule_types D r x in
     let G = bound_types D r x in
-    let q = c.into_product.new.r in
-    let p = c.put_erased_in.new.self in
+    let q = c.function_of.new.r in
+    let p = c.applied_to.new.r in
     let fn = c.in_ok-function.function in
     let kq = c.in_ok-function.ensures.keeps in
     let kqp = c.in_ok-found.ensures.keeps in
     let k = keeps_further r q p kq kqp in
-    let fits = flip (checked_same S c.into_product.new.left (rule_types_moved r p k x x c.requires.context refl) (bound_types_moved r p k x x c.requires.context refl)
+    let fits = flip (checked_same S c.function_of.new.left (rule_types_moved r p k x x c.requires.context refl) (bound_types_moved r p k x x c.requires.context refl)
     (k.same c.args.argument c.requires.argument) (kqp.same fn.domain c.in_ok-function.ensures.gives.1)) in
-    let h = argument_check_fails S V G c.in_err-check_taken.field-0.0 (D r c.args.argument) (D r c.args.typ) (D q fn.domain) (D q fn.codomain) c.args.left.now c.into_product.new.left
+    let h = argument_check_fails S V G c.in_err-check_taken.field-0.0 (D r c.args.argument) (put_together g.R.Reducer.owns D r 0 c.args.typ) (D q fn.domain) (put_together g.R.Reducer.owns D q 1 fn.codomain) c.args.left.now c.function_of.new.left
     c.in_ok-function.ensures.gives.0 (fails_is c.in_err-check_taken.field-0.0 _ _ fits c.in_err-check_taken.ensures.gives) in
     search rules
 
@@ -306,21 +308,21 @@ inference::apply-returns-clause-gives g t c =
     let x = c.args.context.now in
     let V = rule_types D r x in
     let G = bound_types D r x in
-    let q = c.into_product.new.r in
-    let p = c.put_erased_in.new.self in
+    let q = c.function_of.new.r in
+    let p = c.applied_to.new.r in
     let fn = c.in_ok-function.function in
     let kq = c.in_ok-function.ensures.keeps in
     let kqp = c.in_ok-found.ensures.keeps in
     let k = keeps_further r q p kq kqp in
-    let fits = flip (checked_same S c.into_product.new.left (rule_types_moved r p k x x c.requires.context refl) (bound_types_moved r p k x x c.requires.context refl)
+    let fits = flip (checked_same S c.function_of.new.left (rule_types_moved r p k x x c.requires.context refl) (bound_types_moved r p k x x c.requires.context refl)
     (k.same c.args.argument c.requires.argument) (kqp.same fn.domain c.in_ok-function.ensures.gives.1)) in
     let kf = c.in_ok-check_taken.ensures.keeps in
     let found = c.in_ok-found.found in (
-      argument_given_type S V G (D r c.args.argument) (D r c.args.typ) (D q fn.domain) (D q fn.codomain) c.args.left.now c.into_product.new.left c.check_taken.new.left
+      argument_given_type S V G (D r c.args.argument) (put_together g.R.Reducer.owns D r 0 c.args.typ) (D q fn.domain) (put_together g.R.Reducer.owns D q 1 fn.codomain) c.args.left.now c.function_of.new.left c.check_taken.new.left
           c.in_ok-function.ensures.gives.0 (fits ∙ c.in_ok-check_taken.ensures.gives)
-          ∙ ap (λ y. answer y c.check_taken.new.left) (flip (kf.same found c.in_ok-found.ensures.makes.1 ∙ c.in_ok-found.ensures.makes.0
-          ∙ ap (λ y. substitute 0 (erased y) (D q fn.codomain)) (kq.same c.args.argument c.requires.argument))),
-      kf.own found c.in_ok-found.ensures.makes.1,
+          ∙ ap (λ y. answer y c.check_taken.new.left) (flip (together_kept g.R.Reducer.owns D p c.check_taken.new.r kf 0 found c.in_ok-found.ensures.own ∙ c.in_ok-found.ensures.is
+          ∙ ap (λ y. substitute 0 (erased y) (put_together g.R.Reducer.owns D q 1 fn.codomain)) (kq.same c.args.argument c.requires.argument))),
+      applied_kept g.R.Reducer.owns D p c.check_taken.new.r kf found c.in_ok-found.ensures.own,
     )
 
 pub inference::infer_abstraction-infer_domain-requires : goal.inference::infer_abstraction-infer_domain-requires
@@ -478,8 +480,8 @@ inference::infer_node-apply-requires g t c =
     let h = context_moved r at l.keeps x c.loop-argument.context c.requires.context l.kept in
     search rules
 
-pub inference::infer_node-returns-in_err-typ-2-clause-gives : goal.inference::infer_node-returns-in_err-typ-2-clause-gives
-inference::infer_node-returns-in_err-typ-2-clause-gives g t c =
+pub inference::infer_node-returns-in_err-typ-clause-gives : goal.inference::infer_node-returns-in_err-typ-clause-gives
+inference::infer_node-returns-in_err-typ-clause-gives g t c =
     let S = entries_of c.args.v.now in
     let D = g.R.Reducer.denotes in
     let r = c.args.r.now in
@@ -489,12 +491,12 @@ inference::infer_node-returns-in_err-typ-2-clause-gives g t c =
     let l = c.loop-argument.invariant in
     let at = c.loop-argument.r in
     let n = c.loop-argument.left in
-    let f = c.in_err-typ-2.field-0.0 in
+    let f = c.in_err-typ.field-0.0 in
     let a = c.in-Some.argument in
     let rest = map (D at) c.pop.new.self.items in
-    let F = D at c.loop-argument.typ in
+    let F = put_together g.R.Reducer.owns D at 0 c.loop-argument.typ in
     let h = fails_is f _ _ (flip (argument_same S {a = D at a} {A = F} n (rule_types_moved r at l.keeps x c.loop-argument.context c.requires.context l.kept)
-    (bound_types_moved r at l.keeps x c.loop-argument.context c.requires.context l.kept) refl refl)) c.in_err-typ-2.ensures.gives in
+    (bound_types_moved r at l.keeps x c.loop-argument.context c.requires.context l.kept) refl refl)) c.in_err-typ.ensures.gives in
     let p = fails_is f _ _ (flip l.same ∙ ap (λ y. along S V G y F n) (ap (map (D at)) c.in-Some.ensures.items ∙ map_pushed (D at) c.pop.new.self.items a))
     (argument_fails S V G f rest (D at a) F n h) in
     search rules
@@ -730,7 +732,7 @@ checking::check_bare-returns-clause-kept g t c =
 
 pub inference::apply-returns-in_err-found-clause-keeps : goal.inference::apply-returns-in_err-found-clause-keeps
 inference::apply-returns-in_err-found-clause-keeps g t c =
-    keeps_further c.args.r.now c.into_product.new.r c.put_erased_in.new.self c.in_ok-function.ensures.keeps c.in_err-found.ensures.keeps
+    keeps_further c.args.r.now c.function_of.new.r c.applied_to.new.r c.in_ok-function.ensures.keeps c.in_err-found.ensures.keeps
 
 pub inference::apply-returns-in_err-found-clause-serves : goal.inference::apply-returns-in_err-found-clause-serves
 inference::apply-returns-in_err-found-clause-serves g t c =
@@ -738,8 +740,8 @@ inference::apply-returns-in_err-found-clause-serves g t c =
 
 pub inference::apply-returns-in_err-check_taken-clause-keeps : goal.inference::apply-returns-in_err-check_taken-clause-keeps
 inference::apply-returns-in_err-check_taken-clause-keeps g t c =
-    let k = keeps_further c.args.r.now c.into_product.new.r c.put_erased_in.new.self c.in_ok-function.ensures.keeps c.in_ok-found.ensures.keeps in
-    keeps_further c.args.r.now c.put_erased_in.new.self c.check_taken.new.r k c.in_err-check_taken.ensures.keeps
+    let k = keeps_further c.args.r.now c.function_of.new.r c.applied_to.new.r c.in_ok-function.ensures.keeps c.in_ok-found.ensures.keeps in
+    keeps_further c.args.r.now c.applied_to.new.r c.check_taken.new.r k c.in_err-check_taken.ensures.keeps
 
 pub inference::apply-returns-in_err-check_taken-clause-serves : goal.inference::apply-returns-in_err-check_taken-clause-serves
 inference::apply-returns-in_err-check_taken-clause-serves g t c =
@@ -751,8 +753,8 @@ inference::apply-returns-in_err-check_taken-clause-kept g t c =
 
 pub inference::apply-returns-clause-keeps : goal.inference::apply-returns-clause-keeps
 inference::apply-returns-clause-keeps g t c =
-    let k = keeps_further c.args.r.now c.into_product.new.r c.put_erased_in.new.self c.in_ok-function.ensures.keeps c.in_ok-found.ensures.keeps in
-    keeps_further c.args.r.now c.put_erased_in.new.self c.check_taken.new.r k c.in_ok-check_taken.ensures.keeps
+    let k = keeps_further c.args.r.now c.function_of.new.r c.applied_to.new.r c.in_ok-function.ensures.keeps c.in_ok-found.ensures.keeps in
+    keeps_further c.args.r.now c.applied_to.new.r c.check_taken.new.r k c.in_ok-check_taken.ensures.keeps
 
 pub inference::apply-returns-clause-serves : goal.inference::apply-returns-clause-serves
 inference::apply-returns-clause-serves g t c =
@@ -958,9 +960,21 @@ inference::infer_product-returns-clause-kept g t c =
     let bound = c.in_ok-bind.ensures.ok ∙ ap (λ y. with_bound y c.in_ok-erased.erased) c.in_ok-infer_domain.ensures.kept in
     (c.leave-domain.ensures c.args.context.now c.in_ok-erased.erased (c.infer_taken-found.ensures.kept ∙ bound)).0
 
+pub inference::infer_node-returns-in_err-head-clause-keeps : goal.inference::infer_node-returns-in_err-head-clause-keeps
+inference::infer_node-returns-in_err-head-clause-keeps g t c =
+    keeps_further c.args.r.now c.unwind.new.r c.infer_head.new.r c.in_ok-spine.ensures.keeps c.in_err-head.ensures.keeps
+
+pub inference::infer_node-returns-in_err-head-clause-serves : goal.inference::infer_node-returns-in_err-head-clause-serves
+inference::infer_node-returns-in_err-head-clause-serves g t c =
+    c.in_err-head.ensures.serves
+
+pub inference::infer_node-returns-in_err-head-clause-kept : goal.inference::infer_node-returns-in_err-head-clause-kept
+inference::infer_node-returns-in_err-head-clause-kept g t c =
+    c.in_err-head.ensures.kept
+
 pub inference::infer_node-returns-in_err-typ-clause-keeps : goal.inference::infer_node-returns-in_err-typ-clause-keeps
 inference::infer_node-returns-in_err-typ-clause-keeps g t c =
-    keeps_further c.args.r.now c.unwind.new.r c.infer_head.new.r c.in_ok-spine.ensures.keeps c.in_err-typ.ensures.keeps
+    keeps_further c.args.r.now c.loop-argument.r c.apply.new.r c.loop-argument.invariant.keeps c.in_err-typ.ensures.keeps
 
 pub inference::infer_node-returns-in_err-typ-clause-serves : goal.inference::infer_node-returns-in_err-typ-clause-serves
 inference::infer_node-returns-in_err-typ-clause-serves g t c =
@@ -968,27 +982,15 @@ inference::infer_node-returns-in_err-typ-clause-serves g t c =
 
 pub inference::infer_node-returns-in_err-typ-clause-kept : goal.inference::infer_node-returns-in_err-typ-clause-kept
 inference::infer_node-returns-in_err-typ-clause-kept g t c =
-    c.in_err-typ.ensures.kept
-
-pub inference::infer_node-returns-in_err-typ-2-clause-keeps : goal.inference::infer_node-returns-in_err-typ-2-clause-keeps
-inference::infer_node-returns-in_err-typ-2-clause-keeps g t c =
-    keeps_further c.args.r.now c.loop-argument.r c.apply.new.r c.loop-argument.invariant.keeps c.in_err-typ-2.ensures.keeps
-
-pub inference::infer_node-returns-in_err-typ-2-clause-serves : goal.inference::infer_node-returns-in_err-typ-2-clause-serves
-inference::infer_node-returns-in_err-typ-2-clause-serves g t c =
-    c.in_err-typ-2.ensures.serves
-
-pub inference::infer_node-returns-in_err-typ-2-clause-kept : goal.inference::infer_node-returns-in_err-typ-2-clause-kept
-inference::infer_node-returns-in_err-typ-2-clause-kept g t c =
-    c.in_err-typ-2.ensures.kept ∙ c.loop-argument.invariant.kept
+    c.in_err-typ.ensures.kept ∙ c.loop-argument.invariant.kept
 
 pub inference::infer_node-returns-clause-keeps : goal.inference::infer_node-returns-clause-keeps
 inference::infer_node-returns-clause-keeps g t c =
-    c.loop-argument.invariant.keeps
+    keeps_further c.args.r.now c.loop-argument.r c.put_together.new.r c.loop-argument.invariant.keeps c.in_ok-put_together.ensures.keeps
 
 pub inference::infer_node-returns-clause-serves : goal.inference::infer_node-returns-clause-serves
 inference::infer_node-returns-clause-serves g t c =
-    c.loop-argument.invariant.serves
+    c.in_ok-put_together.ensures.serves (entries_of c.args.v.now) c.loop-argument.invariant.serves
 
 pub inference::infer_node-returns-clause-kept : goal.inference::infer_node-returns-clause-kept
 inference::infer_node-returns-clause-kept g t c =

@@ -1,8 +1,9 @@
 use Rattle.std.proofs.Common.{◌≡◌, ◌<◌, ◌+◌, ◌*◌, vec_len, map}
 use Rattle.dk_model.specs.Typing.{inferred}
 use Rattle.signature_log.specs.Versions.{entries_of}
-use Rattle.signature_log.specs.Reducers.{Keeps, built}
-use Rattle.infer_check.specs.Contexts.{rule_types, bound_types, AreOwned}
+use Rattle.signature_log.specs.Reducers.{Keeps, built, AreOwned}
+use Rattle.infer_check.specs.Contexts.{rule_types, bound_types}
+use Rattle.infer_check.specs.Applied.{put_together, OwnsApplied}
 use Rattle.infer_check.specs.Spine.{along, size, total_size}
 use Rattle.infer_check.proofs.+typing.Given as goal
 
@@ -39,10 +40,10 @@ decreases-inference::infer_taken g l = 8 * size (g.R.Reducer.denotes l.r.now l.t
 abbrev pub invariant-inference::infer_node-loop-argument : goal.invariant-inference::infer_node-loop-argument
 invariant-inference::infer_node-loop-argument g l = record {
   same : along (entries_of l.fn.v) (rule_types g.R.Reducer.denotes l.fn.r l.fn.context) (bound_types g.R.Reducer.denotes l.fn.r l.fn.context)
-      (map (g.R.Reducer.denotes l.r) l.arguments.items) (g.R.Reducer.denotes l.r l.typ) l.left
+      (map (g.R.Reducer.denotes l.r) l.arguments.items) (put_together g.R.Reducer.owns g.R.Reducer.denotes l.r 0 l.typ) l.left
       ≡ inferred (entries_of l.fn.v) (rule_types g.R.Reducer.denotes l.fn.r l.fn.context) (bound_types g.R.Reducer.denotes l.fn.r l.fn.context)
       (built g.R.Reducer.denotes l.fn.r l.fn.node) l.fn.left;
-  typ : g.R.Reducer.owns l.r l.typ;
+  typ : OwnsApplied g.R.Reducer.owns g.R.Reducer.denotes l.r l.typ;
   arguments : AreOwned g.R.Reducer.owns l.r l.arguments.items;
   kept : l.context ≡ l.fn.context;
   keeps : Keeps g.R.Reducer.owns g.R.Reducer.denotes l.fn.r l.r;

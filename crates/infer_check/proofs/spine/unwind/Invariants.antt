@@ -1,7 +1,6 @@
 use Rattle.std.proofs.Common.{◌≡◌, map}
 use Rattle.dk_model.specs.Signatures.{PlainSignature}
-use Rattle.signature_log.specs.Reducers.{Keeps, OwnsParts, built}
-use Rattle.infer_check.specs.Contexts.{AreOwned}
+use Rattle.signature_log.specs.Reducers.{Keeps, OwnsParts, built, AreOwned}
 use Rattle.infer_check.specs.Spine.{wound, size}
 use Rattle.infer_check.proofs.spine.unwind.Given as goal
 

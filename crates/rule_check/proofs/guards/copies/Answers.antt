@@ -1,6 +1,6 @@
 use Rattle.std.proofs.Common.{◌∙◌, sym as flip, subst}
 use Rattle.signature_log.proofs.Keeping.{keeps_further}
-use Rattle.infer_check.specs.Contexts.{AreOwned}
+use Rattle.signature_log.specs.Reducers.{AreOwned}
 use Rattle.infer_check.proofs.Contexts.{owned_pushed, owned_kept}
 use Rattle.rule_check.proofs.Moving.{copied_more, mapped_is}
 use Rattle.rule_check.proofs.guards.copies.Goals as goal

@@ -1,7 +1,6 @@
 use Rattle.std.proofs.Common.{◌≡◌, ◌++◌, length, map}
 use Rattle.dk_model.specs.Signatures.{PlainSignature}
-use Rattle.signature_log.specs.Reducers.{Keeps}
-use Rattle.infer_check.specs.Contexts.{AreOwned}
+use Rattle.signature_log.specs.Reducers.{Keeps, AreOwned}
 use Rattle.rule_check.proofs.guards.copies.Given as goal
 
 abbrev pub invariant-loop-first : goal.invariant-loop-first

@@ -1,8 +1,7 @@
 use Rattle.std.proofs.Common.{◌≡◌, ◌++◌, length, map}
 use Rattle.dk_model.specs.Signatures.{PlainSignature}
 use Rattle.dk_model.specs.RuleTyping.{all_types}
-use Rattle.signature_log.specs.Reducers.{Keeps}
-use Rattle.infer_check.specs.Contexts.{AreOwned}
+use Rattle.signature_log.specs.Reducers.{Keeps, AreOwned}
 use Rattle.rule_check.specs.Founds.{types_of, OwnsTypes}
 use Rattle.rule_check.proofs.sides.all_types.Given as goal
 

@@ -2,7 +2,7 @@
 use Rattle.std.proofs.Common.{◌∙◌, sym, arith}
 use Rattle.std.proofs.lemmas.Bool.{not-true}
 use Rattle.std.proofs.lemmas.Bool.Decides.{nat_tests}
-use Rattle.shared_term.proofs.Unchanged.{unchanged_shift, unchanged_shift_none, unchanged_substitute, unchanged_erase, unchanged_fill, unchanged_rename, unchanged_raise}
+use Rattle.shared_term.proofs.Unchanged.{unchanged_shift, unchanged_shift_none, unchanged_substitute, unchanged_all, unchanged_erase, unchanged_fill, unchanged_rename, unchanged_raise}
 use Rattle.shared_term.proofs.entering.stays.Goals as goal
 
 pub returns-in-Shift-eq0 : goal.returns-in-Shift-eq0
@@ -13,6 +13,9 @@ returns-in-Shift c = λ h. unchanged_shift c.args.nodes.now c.args.given.now c.a
 
 pub returns-in-Substitute : goal.returns-in-Substitute
 returns-in-Substitute c = λ h. unchanged_substitute c.args.nodes.now c.args.given.now c.args.goal c.summary-summary.result c.summary-summary.ensures _ c.in-Substitute.is (grind (arith, nat_tests))
+
+pub returns-in-SubstituteAll : goal.returns-in-SubstituteAll
+returns-in-SubstituteAll c = λ h. unchanged_all c.args.nodes.now c.args.given.now c.args.goal c.summary-summary.result c.summary-summary.ensures c.in-SubstituteAll.is (grind (arith, nat_tests))
 
 pub returns-in-Erase : goal.returns-in-Erase
 returns-in-Erase c = λ h. unchanged_erase c.args.nodes.now c.args.given.now c.args.goal c.summary-summary.result c.summary-summary.ensures c.in-Erase.is (not-true _ h)
