@@ -13,6 +13,10 @@ use Rattle.dk_model.specs.contracts.signature.Rule as Rule
 use Rattle.dk_model.specs.contracts.scoped.Scoped as Scoped
 use Rattle.dk_model.specs.contracts.signature.Entry as Entry
 use Rattle.board_core.specs.contracts.past.Past as Past
+use Rattle.dk_model.specs.contracts.node.NodeOf as NodeOf
+use Rattle.shared_term.specs.contracts.id.TermId as TermId
+use Rattle.shared_term.specs.contracts.short.ShortNode as ShortNode
+use Rattle.shared_term.specs.contracts.packed.Packed as Packed
 use Rattle.shared_term.specs.contracts.stored.Stored as Stored
 use Rattle.signature_log.specs.contracts.branch.Branch as Branch
 use Rattle.signature_log.specs.contracts.cells.Cells as Cells
@@ -138,11 +142,29 @@ scoped_send = let a = rule_send in search (sendable, crosses, TermKnot.crosses) 
 scoped_sync : IsSync Scoped.the_field.row
 scoped_sync = let a = rule_sync in search (sendable, crosses, TermKnot.crosses) depth 40 fits 20000
 
+node_send : IsSend (NodeOf.the_row TermId.the_row)
+node_send = search (sendable, crosses) depth 40 fits 20000
+
+node_sync : IsSync (NodeOf.the_row TermId.the_row)
+node_sync = search (sendable, crosses) depth 40 fits 20000
+
+short_send : IsSend ShortNode.the_row
+short_send = search (sendable, crosses) depth 40 fits 20000
+
+short_sync : IsSync ShortNode.the_row
+short_sync = search (sendable, crosses) depth 40 fits 20000
+
+packed_send : IsSend Packed.the_row
+packed_send = let a = node_send in let b = short_send in search (sendable, crosses) depth 40 fits 20000
+
+packed_sync : IsSync Packed.the_row
+packed_sync = let a = node_sync in let b = short_sync in search (sendable, crosses) depth 40 fits 20000
+
 stored_send : IsSend Stored.the_row
-stored_send = search (sendable, crosses) depth 40
+stored_send = let a = packed_send in search (sendable, crosses) depth 40 fits 20000
 
 stored_sync : IsSync Stored.the_row
-stored_sync = search (sendable, crosses) depth 40
+stored_sync = let a = packed_sync in search (sendable, crosses) depth 40 fits 20000
 
 pat_send : IsSend (Pat.the_row Stored.the_row)
 pat_send = let a = stored_send in search (sendable, crosses, PatKnot.crosses) depth 40 fits 20000
