@@ -9,3 +9,16 @@ pub use file_check::STACK;
 pub use file_report::{fault_of_history, report_of_history};
 pub use gate::NoGate;
 pub use top::{run, run_with};
+
+#[cfg(test)]
+mod failure_tests;
+#[cfg(test)]
+mod front_tests;
+#[cfg(test)]
+mod make_tests;
+#[cfg(test)]
+mod rule_tests;
+#[cfg(test)]
+mod tests;
+#[cfg(test)]
+mod worker_tests;

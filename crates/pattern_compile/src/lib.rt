@@ -9,6 +9,8 @@ mod erase;
 mod mark;
 mod pattern;
 mod rule;
+#[cfg(test)]
+mod tests;
 
 pub use erase::erase_all;
 pub use rule::{shape, shape_all};

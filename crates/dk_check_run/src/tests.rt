@@ -1,7 +1,7 @@
 //! Whole reports.
 ghost use Rattle.std.specs.Prelude.{◌<◌};
 
-use dk_check_run::{NoGate, run};
+use crate::{NoGate, run};
 use dk_io::{Book, MemShelf, MemSink};
 use std::alloc::Global;
 use std::test::Fail;

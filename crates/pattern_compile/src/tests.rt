@@ -1,9 +1,8 @@
-//! Which left sides are patterns, and the rule that a scoped rule stands for.
+use crate::{erase_all, shape, shape_all};
 use dk_model::{
     Code, Entry, Fault, Left, Listed, NoMemory, Pat, Rule, ScopedRule, Signature, SymSort, Term,
     make_annotated, make_app, make_bare,
 };
-use pattern_compile::{erase_all, shape, shape_all};
 use std::alloc::Global;
 use std::test::Fail;
 

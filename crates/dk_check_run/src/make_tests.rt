@@ -1,6 +1,6 @@
 //! `make`: summaries, budgets, and a sink that fails.
-use crate::reports::words_of;
-use dk_check_run::{NoGate, run};
+use crate::tests::words_of;
+use crate::{NoGate, run};
 use dk_io::{MemShelf, MemSink};
 use std::alloc::Global;
 use std::test::Fail;

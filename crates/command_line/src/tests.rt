@@ -1,5 +1,4 @@
-//! What the words ask.
-use command_line::{Request, read_request, usage_text};
+use crate::{Request, read_request, usage_text};
 use std::alloc::{AllocError, Global};
 use std::test::Fail;
 

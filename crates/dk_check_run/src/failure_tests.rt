@@ -1,6 +1,6 @@
 //! What failing calls of shelf and sink lead to.
-use crate::reports::{shelf_of, words_of};
-use dk_check_run::{NoGate, run};
+use crate::tests::{shelf_of, words_of};
+use crate::{NoGate, run};
 use dk_io::MemSink;
 use std::test::Fail;
 

@@ -1,6 +1,6 @@
 //! Files that are cut off, files of one byte, and calls that fail one by one.
-use crate::reports::{NUMBERS, shelf_of, shelf_with, words_of};
-use dk_check_run::{NoGate, run, run_with};
+use crate::tests::{NUMBERS, shelf_of, shelf_with, words_of};
+use crate::{NoGate, run, run_with};
 use dk_io::MemSink;
 use dk_model::Limits;
 use std::test::Fail;

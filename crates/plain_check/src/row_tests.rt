@@ -1,5 +1,5 @@
 //! Files with rules, with one refusal of each code of a check, and at their exact budgets: over trees and over shared terms.
-use crate::commands::outcome;
+use crate::tests::outcome;
 use dk_lexer::{Fed, Lexer, Token};
 use dk_model::{Code, Fault, Limits, NoMemory, Scoped, Verdict};
 use dk_parser::{Parser, Step};

@@ -1,11 +1,11 @@
 //! Small files, as the commands that scoping makes of them.
+use crate::{check_plain, infer_plain};
 use command_check::{enter_command, is_untyped};
 use conversion::PoolReducer;
 use dk_model::{
     Code, Entry, Listed, NoMemory, Scoped, Signature, SymSort, Term, Verdict, make_annotated,
     make_app, make_bare, make_product,
 };
-use plain_check::{check_plain, infer_plain};
 use shared_term::Stored;
 use signature_log::Version;
 use std::alloc::Global;

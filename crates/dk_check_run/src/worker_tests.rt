@@ -1,7 +1,7 @@
 //! The same answers from any number of workers, and checks that run beside each other.
-use crate::reports::{shelf_of, words_of};
+use crate::tests::{shelf_of, words_of};
+use crate::{NoGate, run};
 use board_core::Gate;
-use dk_check_run::{NoGate, run};
 use dk_io::MemSink;
 use std::alloc::Global;
 use std::sync::Wait;
