@@ -1,5 +1,6 @@
 pub mod Winding
 pub mod Serving
+mod Filling
 mod Opening
 mod Unfolding
 mod Turning

@@ -1,6 +1,6 @@
 -- The clauses of a reducer from those of a pool.
-use Rattle.std.proofs.Common.{◌≡◌, ◌∙◌, ◌<◌, ℕ, List, [], ◌∷◌, Some, None, Bool, Result, Ok, Err, refl, ap, arith, length}
-use Rattle.dk_model.specs.Trees.{Tree, star, kind, symbol, variable, rule_variable, apply, bare, annotated, product}
+use Rattle.std.proofs.Common.{◌≡◌, ◌∙◌, ◌<◌, ℕ, List, [], ◌∷◌, Some, None, Bool, Result, Ok, Err, refl, arith, length}
+use Rattle.dk_model.specs.Trees.{Tree}
 use Rattle.dk_model.specs.Units.{Units}
 use Rattle.dk_model.specs.declared.NodeOf.TheVariants.{Star, Kind, Sym, Var, Rvar, App, Abs, Prod}
 use Rattle.dk_model.specs.declared.stop.Stop.{Stop}

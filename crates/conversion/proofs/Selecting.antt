@@ -12,7 +12,7 @@ use Rattle.dk_model.specs.Evaluation.{whnf_of}
 use Rattle.dk_model.specs.Equations.{after_selection}
 use Rattle.dk_model.specs.declared.stop.Stop.{Stop}
 use Rattle.shared_term.specs.declared.id.TermId.{TermId}
-use Rattle.shared_term.specs.Pools.{Node, term, Extends, Moves}
+use Rattle.shared_term.specs.Pools.{Node, term, Extends}
 use Rattle.shared_term.specs.Changes.{captured_terms}
 use Rattle.rule_match.specs.declared.matcher.Answer.{Answer}
 use Rattle.rule_match.specs.declared.matcher.Answer.TheVariants.{Value as Told}
@@ -124,20 +124,18 @@ right_is S k at r e = ap right_side e
     right_side : Option PlainRule → Option Tree
     right_side o = elim o [ None ↦ None | Some rule ↦ Some rule.right ]
 
-pub right_put : (S : PlainSignature) (k : ℕ) (old mid new : List Node) (cs : List (Option TermId)) (r : PlainRule) (at : ℕ) (ids ids' : List TermId) (right t : TermId)
-    → IsLoaded S mid k at right → slice_get (rules_of S k) at ≡ Some r → Extends old mid → Extends mid new → captured_terms mid cs ≡ captured_terms old cs
-    → Moves (filled (captured_terms mid cs) 0) mid new right t → AreWithin (length old) ids → ids' ≡ take (length ids - length r.pats) ids
+pub right_put : (S : PlainSignature) (k : ℕ) (old mid new : List Node) (cs : List (Option TermId)) (r : PlainRule) (at : ℕ) (ids kept ids' : List TermId) (right t : TermId)
+    → IsLoaded S mid k at right → slice_get (rules_of S k) at ≡ Some r → Extends old mid → captured_terms mid cs ≡ captured_terms old cs
+    → wound (term new t) (behind new ids') ≡ wound (filled (captured_terms mid cs) 0 (term mid right)) (behind mid kept) → AreWithin (length old) ids → kept ≡ take (length ids - length r.pats) ids
     → wound (term new t) (behind new ids') ≡ applied (filled (captured_terms old cs) 0 r.right) (drop (length r.pats) (from_top (behind old ids)))
-right_put S k old mid new cs r at ids ids' right t l e x y c mv w q =
-    let all : Extends old new = record { longer = omega (arith, x.longer, y.longer); keeps = λ i b. y.keeps i (omega (arith, x.longer)) ∙ x.keeps i b } in
+right_put S k old mid new cs r at ids kept ids' right t l e x c put w q =
     let is : right_at S k at ≡ Some r.right = right_is S k at r e in
     let same : term mid right ≡ r.right = same_some (term mid right) r.right (flip l.is ∙ is) in
-    let grown : behind new ids ≡ behind old ids = behind_grown old new ids all w in
+    let grown : behind mid ids ≡ behind old ids = behind_grown old mid ids x w in
     let count : length (behind old ids) ≡ length ids = length-map ids (term old) in
-    let taken : behind new ids' ≡ take (length (behind old ids) - length r.pats) (behind old ids) =
-    ap (behind new) q ∙ flip (take-map (term new) (length ids - length r.pats) ids) ∙ (λ i. take (flip count i - length r.pats) (grown i)) in
-    let head : term new t ≡ filled (captured_terms old cs) 0 r.right = mv.is ∙ (λ i. filled (c i) 0 (same i)) in
-    (λ i. wound (head i) (taken i)) ∙ put_before (filled (captured_terms old cs) 0 r.right) (behind old ids) (length r.pats)
+    let taken : behind mid kept ≡ take (length (behind old ids) - length r.pats) (behind old ids) =
+    ap (behind mid) q ∙ flip (take-map (term mid) (length ids - length r.pats) ids) ∙ (λ i. take (flip count i - length r.pats) (grown i)) in
+    put ∙ (λ i. wound (filled (c i) 0 (same i)) (taken i)) ∙ put_before (filled (captured_terms old cs) 0 r.right) (behind old ids) (length r.pats)
 
 pub rule_there : (rules : List PlainRule) (i : ℕ) (r : PlainRule) → slice_get rules i ≡ Some r → rule_at rules i ≡ r
 rule_there [] i r e = cc

@@ -14,7 +14,7 @@ use Rattle.dk_model.specs.Equations.{selection_of, after_selection}
 use Rattle.dk_model.specs.declared.stop.Stop.{Stop}
 use Rattle.dk_model.proofs.Turns.{whnf_contracts, whnf_stands, whnf_selects}
 use Rattle.shared_term.specs.declared.id.TermId.{TermId}
-use Rattle.shared_term.specs.Pools.{Node, term, Extends, Moves}
+use Rattle.shared_term.specs.Pools.{Node, term, Extends}
 use Rattle.rule_match.specs.declared.matcher.Answer.{Answer}
 use Rattle.rule_match.specs.declared.matcher.Answer.TheVariants.{Begin}
 use Rattle.rule_match.specs.declared.matcher.Stage.{Stage}
@@ -27,7 +27,7 @@ use Rattle.conversion.specs.declared.turn.Turn.{Turn}
 use Rattle.conversion.specs.Machine.{behind, AreWithin, wound, from_top, unbound, is_application, is_stuck}
 use Rattle.conversion.specs.Pausing.{IsSelection, StartsOver, selected}
 use Rattle.conversion.specs.Turning.{TurnsTo, rule_due, rewritten_by}
-use Rattle.conversion.proofs.Winding.{wound_tree, behind_pushed, behind_grown, within_popped}
+use Rattle.conversion.proofs.Winding.{wound_tree, behind_pushed, behind_grown}
 use Rattle.conversion.specs.Reducers.{unfolding_rule}
 use Rattle.conversion.proofs.Unfolding.{rule_unfolds, rule_stands}
 
@@ -99,15 +99,14 @@ module _ (S : PlainSignature) where
   pub turn_out : (t : Tree) → whnf_of S 0 t ≡ None
   turn_out t = refl
 
-  pub turn_contracts : (n : ℕ) (old new : List Node) (ids : List TermId) (head body next a : TermId) → 0 < n → term old head ≡ bare (term old body)
-      → Moves (substitute 0 (term old a)) old new body next → Extends old new → AreWithin (length old) (ids ++ (a ∷ []))
-      → whnf_of S n (wound (term old head) (behind old (ids ++ (a ∷ [])))) ≡ whnf_of S (n - 1) (wound (term new next) (behind new ids))
-  turn_contracts n old new ids head body next a l e m k w =
+  pub turn_contracts : (n : ℕ) (old new : List Node) (ids ids' : List TermId) (head body next a : TermId) → 0 < n → term old head ≡ bare (term old body)
+      → wound (term new next) (behind new ids') ≡ wound (substitute 0 (term old a) (term old body)) (behind old ids)
+      → whnf_of S n (wound (term old head) (behind old (ids ++ (a ∷ [])))) ≡ whnf_of S (n - 1) (wound (term new next) (behind new ids'))
+  turn_contracts n old new ids ids' head body next a l e q =
       ap (λ t. whnf_of S n (wound t (behind old (ids ++ (a ∷ []))))) e
       ∙ ap (λ xs. whnf_of S n (wound (bare (term old body)) xs)) (behind_pushed old ids a)
       ∙ tree_contracts S n (term old body) (behind old ids) (term old a) l
-      ∙ ap (λ t. whnf_of S (n - 1) (wound t (behind old ids))) (flip m.is)
-      ∙ ap (λ xs. whnf_of S (n - 1) (wound (term new next) xs)) (flip (behind_grown old new ids k (within_popped (length old) ids a w)))
+      ∙ ap (whnf_of S (n - 1)) (flip q)
 
   pub turn_bare : (n : ℕ) (ns : List Node) (ids ids' : List TermId) (head : TermId) (b : Tree) → 0 < n → term ns head ≡ bare b → ids ≡ [] → ids' ≡ []
       → whnf_of S n (wound (term ns head) (behind ns ids)) ≡ Some (wound (term ns head) (behind ns ids'), n - 1)

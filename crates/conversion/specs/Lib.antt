@@ -1,4 +1,5 @@
 pub mod Machine
+pub mod Fillings
 pub mod Tables
 pub mod Reducers
 pub mod Rules

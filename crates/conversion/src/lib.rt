@@ -11,6 +11,7 @@ mod known;
 mod loading;
 mod machine;
 mod normal;
+mod putting;
 mod reducer;
 mod rules;
 mod selection;

@@ -17,6 +17,7 @@ ghost use Rattle.conversion.specs.Clauses.{TurnsHead, TurnsSymbol, TurnsSelectio
 
 use crate::PoolReducer;
 use crate::evaluate::Pause;
+use crate::putting::{Filling, put};
 use crate::rules::rule_at;
 use crate::selection::{Selection, left_sides, told};
 use crate::state::{Head, deeper};
@@ -69,7 +70,7 @@ impl PoolReducer {
         match self.pool.get(head) {
             NodeOf::Abs(None, body) => match stack.pop() {
                 Some(a) => {
-                    let next = self.pool.substitute(body, 0, a)?;
+                    let next = put(&mut self.pool, body, Filling::Argument(a), stack)?;
                     Ok(Turn::Goes(next))
                 }
                 None => Ok(Turn::Stands(head)),
@@ -275,9 +276,9 @@ impl PoolReducer {
         };
         let rule = rule_at(&version.rules_of(symbol), symbol, at);
         let right = self.brought(version, symbol, at)?;
-        let next = self.pool.filled(right, captures)?;
         let kept = stack.len().saturating_sub(rule.pattern_count());
         stack.truncate(kept);
+        let next = put(&mut self.pool, right, Filling::Captures(captures), stack)?;
         Ok(next)
     }
 
