@@ -1,102 +1,102 @@
 //! The typing of a declaration, definition or theorem.
 ghost use Rattle.std.specs.Prelude.{◌≡◌, [], Some};
-ghost use Rattle.dk_model.specs.Trees.{tree};
-ghost use Rattle.dk_model.specs.Signatures.{maybe_tree};
+ghost use Rattle.dk_model.specs.Signatures.{maybe_by};
 ghost use Rattle.dk_model.specs.Verdicts.{body_checked, body_type, declaration_checked};
 ghost use Rattle.signature_log.specs.Versions.{entries_of};
 ghost use Rattle.signature_log.specs.Reducers.{Keeps};
 ghost use Rattle.infer_check.specs.Given.{GivesFit, GivesType};
 
-use dk_model::{Term, TypeFault};
+use crate::kept::Kept;
+use dk_model::TypeFault;
 use infer_check::{Context, check, infer, not_kind, sort_of};
 use signature_log::{Reducer, Version};
 
 /// The type of a body without a declared type, which isn't `Kind`.
 #[tactic(auto, using(crate::proofs::Declaring::body_fails, crate::proofs::Declaring::body_kind, infer_check::proofs::Contexts::context_empty, infer_check::proofs::Contexts::rule_types_empty, infer_check::proofs::Contexts::bound_types_empty, signature_log::proofs::Keeping::keeps_further))]
-pub fn infer_body<R: Reducer>(
+pub fn infer_body<R: Reducer, K: Kept>(
     r: &mut R,
     v: &Version,
-    body: &Term,
+    body: &K::Term,
     left: &mut u64,
 ) -> Result<R::T, TypeFault>
     requires { R.serves (entries_of v.now) r.old }
     ensures gives { GivesType R.owns R.denotes
-        (body_type (entries_of v.now) (tree body.now) left.old) r.new result left.new }
+        (body_type (entries_of v.now) (K.kept_tree body.now) left.old) r.new result left.new }
     ensures keeps { Keeps R.owns R.denotes r.old r.new }
     ensures serves { R.serves (entries_of v.now) r.new }
 {
     let mut context = Context::new(r.alloc());
-    let body = r.load(body)?;
+    let body = K::bring(r, body)?;
     let found = infer(r, v, &mut context, &body, left)?;
     not_kind(r, found)
 }
 
 /// That a declared type has a sort, and a body fits it.
 #[tactic(auto, using(crate::proofs::Declaring::declared_fails, crate::proofs::Declaring::declared_body, infer_check::proofs::Contexts::context_empty, infer_check::proofs::Contexts::rule_types_empty, infer_check::proofs::Contexts::bound_types_empty, signature_log::proofs::Keeping::keeps_further))]
-fn check_declared<R: Reducer>(
+fn check_declared<R: Reducer, K: Kept>(
     r: &mut R,
     v: &Version,
-    typ: &Term,
-    body: &Option<Term>,
+    typ: &K::Term,
+    body: &Option<K::Term>,
     left: &mut u64,
 ) -> Result<(), TypeFault>
     requires { R.serves (entries_of v.now) r.old }
     ensures gives { GivesFit (declaration_checked (entries_of v.now)
-        (Some (tree typ.now)) (maybe_tree body.now) left.old) result left.new }
+        (Some (K.kept_tree typ.now)) (maybe_by K.kept_tree body.now) left.old) result left.new }
     ensures keeps { Keeps R.owns R.denotes r.old r.new }
     ensures serves { R.serves (entries_of v.now) r.new }
 {
     let mut context = Context::new(r.alloc());
-    let typ = r.load(typ)?;
+    let typ = K::bring(r, typ)?;
     let _sort = sort_of(r, v, &mut context, &typ, left)?;
     match body {
-        Some(body) => check_body(r, v, &typ, body, left),
+        Some(body) => check_body::<R, K>(r, v, &typ, body, left),
         None => Ok(()),
     }
 }
 
 /// That a body fits the declared type.
 #[tactic(auto, using(infer_check::proofs::Contexts::context_empty, infer_check::proofs::Contexts::rule_types_empty, infer_check::proofs::Contexts::bound_types_empty, signature_log::proofs::Keeping::keeps_further))]
-fn check_body<R: Reducer>(
+fn check_body<R: Reducer, K: Kept>(
     r: &mut R,
     v: &Version,
     typ: &R::T,
-    body: &Term,
+    body: &K::Term,
     left: &mut u64,
 ) -> Result<(), TypeFault>
     requires own { R.owns r.old typ.now }
     requires serves { R.serves (entries_of v.now) r.old }
     ensures gives { GivesFit (body_checked (entries_of v.now)
-        (R.denotes r.old typ.now) (Some (tree body.now)) left.old) result left.new }
+        (R.denotes r.old typ.now) (Some (K.kept_tree body.now)) left.old) result left.new }
     ensures keeps { Keeps R.owns R.denotes r.old r.new }
     ensures serves { R.serves (entries_of v.now) r.new }
 {
     let mut context = Context::new(r.alloc());
-    let body = r.load(body)?;
+    let body = K::bring(r, body)?;
     let expected = r.erase(typ)?;
     check(r, v, &mut context, &body, &expected, left)
 }
 
 /// The same; without a declared type, that the body has a type.
 #[tactic(auto, using(crate::proofs::Declaring::untyped_fails, crate::proofs::Declaring::untyped_given, signature_log::proofs::Keeping::keeps_none))]
-pub fn check_declaration<R: Reducer>(
+pub fn check_declaration<R: Reducer, K: Kept>(
     r: &mut R,
     v: &Version,
-    typ: &Option<Term>,
-    body: &Option<Term>,
+    typ: &Option<K::Term>,
+    body: &Option<K::Term>,
     left: &mut u64,
 ) -> Result<(), TypeFault>
     requires { R.serves (entries_of v.now) r.old }
     ensures gives { GivesFit (declaration_checked (entries_of v.now)
-        (maybe_tree typ.now) (maybe_tree body.now) left.old) result left.new }
+        (maybe_by K.kept_tree typ.now) (maybe_by K.kept_tree body.now) left.old) result left.new }
     ensures keeps { Keeps R.owns R.denotes r.old r.new }
     ensures serves { R.serves (entries_of v.now) r.new }
 {
     match typ {
-        Some(typ) => check_declared(r, v, typ, body, left),
+        Some(typ) => check_declared::<R, K>(r, v, typ, body, left),
         None => match body {
             Some(body) => {
-                let _typ = infer_body(r, v, body, left)?;
+                let _typ = infer_body::<R, K>(r, v, body, left)?;
                 Ok(())
             }
             None => Ok(()),

@@ -6,8 +6,11 @@
 
 mod declaration;
 mod entry;
+mod kept;
 mod shapes;
+mod stored;
 mod verdict;
 
 pub use entry::{entry_of, is_untyped};
-pub use verdict::{check_command, enter_command, infer_type};
+pub use stored::{StoredCommand, store_command};
+pub use verdict::{check_command, check_stored, enter_command, infer_type};

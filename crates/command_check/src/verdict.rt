@@ -13,10 +13,13 @@ ghost use Rattle.infer_check.specs.Given.{GivesFit};
 ghost use Rattle.dk_model.specs.WellFormed.{IsSignature};
 ghost use Rattle.typing_model.specs.Conditions.{HasNoAnnotations, IsNumbered};
 ghost use Rattle.typing_model.specs.Derivations.{HasDerivation};
+ghost use Rattle.command_check.specs.Commands.{stored_command};
 ghost use Rattle.command_check.specs.Given.{command_shapes, fault_verdict, HasBodyType};
 
+use crate::StoredCommand;
 use crate::declaration::{check_declaration, infer_body};
 use crate::entry::{entry_of, is_untyped};
+use crate::kept::{Boxed, InLists};
 use crate::shapes::shapes_of;
 use dk_model::{Entry, Listed, Rule, Scoped, ScopedRule, Term, TypeFault, Verdict};
 use rule_check::check_rule;
@@ -87,8 +90,31 @@ fn judge<R: Reducer>(
     ensures serves { R.serves (entries_of v.now) r.new }
 {
     match command {
-        Scoped::Declare { typ, body, .. } => check_declaration(r, v, typ, body, left),
+        Scoped::Declare { typ, body, .. } => {
+            check_declaration::<R, Boxed>(r, v, typ, body, left)
+        }
         Scoped::Rules(rules) => check_rules(r, v, rules, left),
+    }
+}
+
+/// The same of a command whose terms are stored.
+fn judge_stored<R: Reducer>(
+    r: &mut R,
+    v: &Version,
+    command: &StoredCommand,
+    left: &mut u64,
+) -> Result<(), TypeFault>
+    requires { R.serves (entries_of v.now) r.old }
+    ensures gives { GivesFit
+        (command_checked (entries_of v.now) (stored_command command.now) left.old) result left.new }
+    ensures keeps { Keeps R.owns R.denotes r.old r.new }
+    ensures serves { R.serves (entries_of v.now) r.new }
+{
+    match command {
+        StoredCommand::Declare { typ, body, .. } => {
+            check_declaration::<R, InLists>(r, v, typ, body, left)
+        }
+        StoredCommand::Rules(rules) => check_rules(r, v, rules, left),
     }
 }
 
@@ -117,6 +143,30 @@ pub fn check_command<R: Reducer>(reducer: &mut R, v: &Version, c: &Scoped, budge
     }
 }
 
+/// The same verdict on a command whose terms are stored.
+#[tactic(auto, using(crate::proofs::Verdicts::fit_verdict, crate::proofs::Verdicts::fault_due, crate::proofs::Verdicts::fault_refuses, crate::proofs::Verdicts::derived))]
+pub fn check_stored<R: Reducer>(
+    reducer: &mut R,
+    v: &Version,
+    c: &StoredCommand,
+    budget: u64,
+) -> Verdict
+    requires { R.serves (entries_of v.now) reducer.old }
+    ensures due { IsVerdictOrMemory
+        (verdict_of (entries_of v.now) (stored_command c.now) budget) result }
+    ensures derivation { result ≡ Verdict.Accepted → IsSignature (entries_of v.now)
+        → HasDerivation (entries_of v.now) (stored_command c.now) }
+    ensures keeps { Keeps R.owns R.denotes reducer.old reducer.new }
+    ensures serves { R.serves (entries_of v.now) reducer.new }
+{
+    accepted_has_derivation();
+    let mut left = budget;
+    match judge_stored(reducer, v, c, &mut left) {
+        Ok(()) => Verdict::Accepted,
+        Err(refusal) => fault_verdict(refusal),
+    }
+}
+
 /// The type of a body without a declared type, where it has one; else the verdict.
 #[tactic(auto, using(crate::proofs::Verdicts::fault_due, crate::proofs::Verdicts::fault_refuses, signature_log::proofs::Keeping::keeps_further))]
 fn infer_untyped<R: Reducer>(
@@ -134,7 +184,7 @@ fn infer_untyped<R: Reducer>(
     ensures serves { R.serves (entries_of v.now) reducer.new }
 {
     let mut left = budget;
-    match infer_body(reducer, v, body, &mut left) {
+    match infer_body::<R, Boxed>(reducer, v, body, &mut left) {
         Ok(typ) => match reducer.send(&typ) {
             Ok(typ) => Ok(typ),
             Err(_) => Err(Verdict::Memory),

@@ -10,7 +10,6 @@ use Rattle.dk_model.specs.contracts.scoped.Left as Left
 use Rattle.dk_model.specs.contracts.scoped.ScopedRule as ScopedRule
 use Rattle.dk_model.specs.contracts.signature.Pat as Pat
 use Rattle.dk_model.specs.contracts.signature.Rule as Rule
-use Rattle.dk_model.specs.contracts.scoped.Scoped as Scoped
 use Rattle.dk_model.specs.contracts.signature.Entry as Entry
 use Rattle.board_core.specs.contracts.past.Past as Past
 use Rattle.dk_model.specs.contracts.node.NodeOf as NodeOf
@@ -28,6 +27,7 @@ use Rattle.signature_log.specs.contracts.place.Place as Place
 use Rattle.signature_log.specs.contracts.rule_list.Listing as Listing
 use Rattle.signature_log.specs.contracts.rule_list.RuleList as RuleList
 use Rattle.signature_log.specs.contracts.version.Version as Version
+use Rattle.command_check.specs.contracts.stored.StoredCommand as StoredCommand
 use Rattle.file_check.specs.contracts.job.Job as Job
 
 -- blocks of what may go to any thread, and be shared
@@ -136,12 +136,6 @@ rule_send = let a = term_send in let b = left_send in search (sendable, crosses,
 rule_sync : IsSync ScopedRule.the_row
 rule_sync = let a = term_sync in let b = left_sync in search (sendable, crosses, LeftKnot.crosses, TermKnot.crosses) depth 40 fits 20000
 
-scoped_send : IsSend Scoped.the_field.row
-scoped_send = let a = rule_send in search (sendable, crosses, TermKnot.crosses) depth 40 fits 20000
-
-scoped_sync : IsSync Scoped.the_field.row
-scoped_sync = let a = rule_sync in search (sendable, crosses, TermKnot.crosses) depth 40 fits 20000
-
 node_send : IsSend (NodeOf.the_row TermId.the_row)
 node_send = search (sendable, crosses) depth 40 fits 20000
 
@@ -165,6 +159,12 @@ stored_send = let a = packed_send in search (sendable, crosses) depth 40 fits 20
 
 stored_sync : IsSync Stored.the_row
 stored_sync = let a = packed_sync in search (sendable, crosses) depth 40 fits 20000
+
+command_send : IsSend StoredCommand.the_field.row
+command_send = let a = rule_send in let b = stored_send in search (sendable, crosses) depth 40 fits 20000
+
+command_sync : IsSync StoredCommand.the_field.row
+command_sync = let a = rule_sync in let b = stored_sync in search (sendable, crosses) depth 40 fits 20000
 
 pat_send : IsSend (Pat.the_row Stored.the_row)
 pat_send = let a = stored_send in search (sendable, crosses, PatKnot.crosses) depth 40 fits 20000
@@ -248,7 +248,7 @@ pub version_sync : IsSync Version.the_row
 version_sync = let a = four_sync Held.the_row held_send held_sync in let b = table_sync in search sendable depth 20
 
 pub job_send : IsSend Job.the_row
-job_send = let a = version_send in let b = scoped_send in search (sendable, crosses, past_send) depth 20
+job_send = let a = version_send in let b = command_send in search (sendable, crosses, past_send) depth 20
 
 pub job_sync : IsSync Job.the_row
-job_sync = let a = version_sync in let b = scoped_sync in search (sendable, crosses, past_sync) depth 20
+job_sync = let a = version_sync in let b = command_sync in search (sendable, crosses, past_sync) depth 20

@@ -1,11 +1,11 @@
 -- For proofs: the program's jobs as the law of histories sees them, and how one is made.
 use Rattle.std.specs.Prelude.{◌≡◌, ◌≢◌, ℕ, Bool, true}
-use Rattle.dk_model.specs.Scoping.{plain_command}
 use Rattle.dk_model.specs.Answering.{IsVerdictOrMemory}
 use Rattle.dk_model.specs.declared.code.Verdict.{Verdict}
 use Rattle.dk_model.specs.declared.code.Verdict.TheVariants.{Accepted}
 use Rattle.dk_parser.specs.Written.{WrittenCommand}
 use Rattle.signature_log.specs.Versions.{entries_of}
+use Rattle.command_check.specs.Commands.{stored_command}
 use Rattle.file_report.specs.Outcomes.{Theory, theory_after}
 use Rattle.file_report.specs.Jobs.{IsJobOf, due_of, is_early, title_of}
 use Rattle.file_report.specs.Jobs as plain
@@ -15,7 +15,7 @@ use Rattle.file_check.specs.declared.theory.Theory.{Theory as Kept}
 
 -- the job without pointers
 abbrev pub job_of : Job → plain.Job
-job_of j = record { signature = entries_of j.version; command = plain_command j.command; budget = j.budget; name = j.title.job.name; line = j.title.job.line }
+job_of j = record { signature = entries_of j.version; command = stored_command j.command; budget = j.budget; name = j.title.job.name; line = j.title.job.line }
 
 -- the verdict that the job is due, and whether the reader may check it itself
 abbrev pub due : Job → Verdict

@@ -10,7 +10,7 @@ ghost use Rattle.file_report.specs.Jobs.{due_of};
 ghost use Rattle.file_check.specs.Jobs.{IsOtherVerdict, job_of};
 
 use board_core::Past;
-use command_check::{check_command, infer_type};
+use command_check::{StoredCommand, check_stored, infer_type};
 use conversion::PoolReducer;
 use dk_model::{NoMemory, Scoped, Verdict};
 use shared_term::Stored;
@@ -24,7 +24,7 @@ use verdict_book::Title;
 pub struct Job {
     /// The version of the commands before it.
     pub version: Version,
-    pub command: Scoped,
+    pub command: StoredCommand,
     /// The units that its check may take.
     pub budget: u64,
     pub title: Past<Title>,
@@ -49,7 +49,7 @@ impl Worker {
         ensures { (result ≡ due_of (job_of job.now)) ⊎ (result ≡ Memory) }
     {
         self.reducer.clear();
-        check_command(&mut self.reducer, &job.version, &job.command, job.budget)
+        check_stored(&mut self.reducer, &job.version, &job.command, job.budget)
     }
 
     /// The type of a definition without a declared one, where it is accepted; else its verdict.

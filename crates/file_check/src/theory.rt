@@ -13,7 +13,7 @@ ghost use Rattle.file_check.specs.Jobs.{IsOtherVerdict, Prepares, theory_of};
 
 use crate::job::{Job, Worker};
 use board_core::Past;
-use command_check::{entry_of, is_untyped};
+use command_check::{entry_of, is_untyped, store_command};
 use dk_model::{Entry, Fault, Listed, NoMemory, Scoped, TypeFault, Verdict};
 use dk_parser::{Raw, RawForm, RawPat, RawRule};
 use scope_terms::Names;
@@ -163,6 +163,9 @@ impl Theory {
             return Err(Verdict::Memory);
         };
         let settled = is_untyped(&command);
+        let Ok(command) = store_command(alloc, command) else {
+            return Err(Verdict::Memory);
+        };
         let title = Title { name, line };
         let job = Job {
             version: before,

@@ -57,8 +57,28 @@ fn spine<'a>(
     }
 }
 
-/// The term under these binders, or its first code. It nests with brackets and binders, and not with the arguments of an
-/// application.
+/// Whether it is an application to three arguments or more. A function that isn't is scoped without a stack of arguments, and
+/// nests by them.
+fn is_long(it: &RawTerm) -> bool {
+    match it {
+        RawTerm::App(pair) => is_applied_twice(&pair.first),
+        _ => false,
+    }
+}
+
+fn is_applied_twice(it: &RawTerm) -> bool {
+    match it {
+        RawTerm::App(pair) => is_application(&pair.first),
+        _ => false,
+    }
+}
+
+fn is_application(it: &RawTerm) -> bool {
+    matches!(it, RawTerm::App(_))
+}
+
+/// The term under these binders, or its first code. It nests with brackets and binders, and with no more than three of the
+/// arguments of an application.
 #[tactic(auto, using(crate::proofs::Stages::one_scoped, crate::proofs::Stages::one_fault, crate::proofs::Stages::both_scoped, crate::proofs::Stages::both_first, crate::proofs::Stages::both_second, crate::proofs::Spines::total_pushed, crate::proofs::Spines::spine_begun, crate::proofs::Spines::spine_head_fault, crate::proofs::Spines::spine_further, crate::proofs::Spines::spine_argument_fault))]
 pub(crate) fn term_at<'a>(
     alloc: Global,
@@ -75,8 +95,7 @@ pub(crate) fn term_at<'a>(
         RawTerm::Qualified(_) => Err(Fault::Refused(Code::E10)),
         RawTerm::Star => Ok(Term::Star),
         RawTerm::Wild => Err(Fault::Refused(Code::E12)),
-        // One argument, as of most applications, needs no stack.
-        RawTerm::App(pair) if !matches!(pair.first, RawTerm::App(_)) => {
+        RawTerm::App(pair) if !is_long(&pair.first) => {
             let f = term_at(alloc, scope, &pair.first, bound)?;
             let a = term_at(alloc, scope, &pair.second, bound)?;
             Ok(make_app(alloc, f, a)?)
