@@ -104,7 +104,7 @@ unfolding lexer_after
 line_after limits bytes = sym (line_from (start limits) bytes) ∙ ap (λ (x : Lexed). x.line) (run_tokens limits bytes broken)
 
 -- after a fault it stands
-failed_of : (p : Part) (code : Code) → fault_of p ≡ Some code → p ≡ part.Failed code
+pub failed_of : (p : Part) (code : Code) → fault_of p ≡ Some code → p ≡ part.Failed code
 failed_of (part.Failed c) code h = cc
 failed_of _ code h = cc
 
@@ -146,7 +146,7 @@ fault_part l bs code is =
     let same : run l (bs ++ []) broken ≡ run l bs broken = ap (λ (x : List ℕ). run l x broken) (append-nil bs) in
     failed_of (lexer_from l bs).part code (sym (run_fault l bs [] broken) ∙ ap (λ (x : Lexed). x.fault) same ∙ is)
 
-step_failed : (l : Lexer) (b : ℕ) (code : Code) → l.part ≡ part.Failed code → (step l b).fed ≡ fed_fault code
+pub step_failed : (l : Lexer) (b : ℕ) (code : Code) → l.part ≡ part.Failed code → (step l b).fed ≡ fed_fault code
 unfolding step
 step_failed l b code is = ap (λ (p : Part). (part_step (record l { part = part.Nothing }) p (class_of b) b).fed) is
 
@@ -157,7 +157,7 @@ has_failed l limits bytes code (inl (is, fault)) =
     ap (λ (x : Lexer). x.part) is ∙ fault_part (start limits) bytes code (ap (λ (x : Lexed). x.fault) (run_tokens limits bytes broken) ∙ fault)
 has_failed l limits bytes code (inr (is, fault)) = ap (λ (x : Lexer). x.part) is ∙ ap closed_part (sym (adds_end limits bytes).fault ∙ fault)
 
-step_same : (l : Lexer) (b : ℕ) (code : Code) → l.part ≡ part.Failed code → (step l b).lexer ≡ l
+pub step_same : (l : Lexer) (b : ℕ) (code : Code) → l.part ≡ part.Failed code → (step l b).lexer ≡ l
 unfolding step
 step_same l b code is =
     ap (λ (p : Part). (part_step (record l { part = part.Nothing }) p (class_of b) b).lexer) is ∙ ap (λ (p : Part). let x : Lexer = record l { part = p } in x) (sym is)
@@ -211,3 +211,24 @@ pieces_run l (piece ∷ pieces) =
 pub pieces_tokens : (limits : Limits) (pieces : List (List ℕ)) → tokens_of_pieces limits pieces ≡ (tokens limits (joined pieces) broken).tokens
 unfolding tokens_of_pieces
 pieces_tokens limits pieces = pieces_run (start limits) pieces ∙ ap (λ (x : Lexed). x.tokens) (run_tokens limits (joined pieces) broken)
+
+-- a piece
+fault_from : (l : Lexer) (bs : List ℕ) → (run l bs broken).fault ≡ fault_of (lexer_from l bs).part
+fault_from l [] = refl
+fault_from l (b ∷ bs) = fault_from (step l b).lexer bs
+
+pub fault_after : (limits : Limits) (bytes : List ℕ) → (tokens limits bytes broken).fault ≡ fault_of (lexer_after limits bytes).part
+unfolding lexer_after
+fault_after limits bytes = ap (λ (x : Lexed). x.fault) (sym (run_tokens limits bytes broken)) ∙ fault_from (start limits) bytes
+
+pub piece_after : (limits : Limits) (before piece : List ℕ) → lexer_from (lexer_after limits before) piece ≡ lexer_after limits (before ++ piece)
+unfolding lexer_after
+piece_after limits before piece = sym (from_append (start limits) before piece)
+
+pub piece_adds : (limits : Limits) (before piece : List ℕ) → (tokens limits (before ++ piece) broken).tokens ≡ (tokens limits before broken).tokens ++ piece_tokens (lexer_after limits before) piece
+unfolding lexer_after
+piece_adds limits before piece =
+    ap (λ (x : Lexed). x.tokens) (sym (run_tokens limits (before ++ piece) broken))
+    ∙ run_append (start limits) before piece broken
+    ∙ ap (λ (x : Lexed). x.tokens ++ (run (lexer_from (start limits) before) piece broken).tokens) (run_tokens limits before broken)
+    ∙ ap (λ (ts : List Token). (tokens limits before broken).tokens ++ ts) (sym (piece_run (lexer_from (start limits) before) piece))

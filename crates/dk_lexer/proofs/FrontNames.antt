@@ -113,23 +113,6 @@ front_fits items bytes most count is le =
     let len : length items ≡ min most (length bytes) = ap length is ∙ length-take most bytes in
     (omega arith, length-take-le count bytes (omega arith), ap (take count) is ∙ take-take count most bytes (omega arith))
 
-pub name_taken : (l new : Lexer) (text all more items bytes : List ℕ) (begin r most count : ℕ) → begin ≡ own l → r ≡ (bound l.limits (Some begin)).last - l.here.offset → most ≤ r → most ≤ l.limits.name_bytes - length text
-    → items ≡ take most bytes → count ≤ length items → StandInName (take count items) → more ≡ take count bytes → all ≡ text ++ more
-    → new ≡ run_at l all (l.here.offset + count) → Passes (with_part l (part.Run text)) (take count bytes) new
-name_taken l new text all more items bytes begin r most zero begin_is r_is most_r most_name items_is le stand more_is all_is new_is =
-    subst (λ (n : Lexer). Passes (with_part l (part.Run text)) [] n) (ap (λ (t : List ℕ). run_at l t (l.here.offset + 0)) (sym (all_is ∙ ap (λ (t : List ℕ). text ++ t) more_is)) ∙ sym new_is)
-    (let o : l.here.offset + 0 ≡ l.here.offset = omega arith in
-    let p : Passes (with_part l (part.Run text)) [] (run_at l (text ++ []) (l.here.offset + 0)) = record { nothing = tt; after = ap (λ (t : List ℕ). run_at l t (l.here.offset + 0)) (append-nil text) ∙ ap (run_at l text) o } in
-    p)
-name_taken l new text all more items bytes begin r most (suc k) begin_is r_is most_r most_name items_is le stand more_is all_is new_is =
-    let f = front_fits items bytes most (suc k) items_is le in
-    let at_most : suc k ≤ most = f.0 in
-    let len : length (take (suc k) bytes) ≡ suc k = f.1 in
-    let bound_is : (bound l.limits (Some begin)).last ≡ (bound l.limits (Some (own l))).last = ap (λ n. (bound l.limits (Some n)).last) begin_is in
-    subst (λ (n : Lexer). Passes (with_part l (part.Run text)) (take (suc k) bytes) n)
-    (ap (λ n. run_at l (text ++ take (suc k) bytes) (l.here.offset + n)) len ∙ ap (λ (t : List ℕ). run_at l t (l.here.offset + suc k)) (sym (all_is ∙ ap (λ (t : List ℕ). text ++ t) more_is)) ∙ sym new_is)
-    (name_passes l text (take (suc k) bytes) (subst StandInName f.2 stand) (omega arith) (omega arith))
-
 begin_unwrapped : (o : Option ℕ) (n : ℕ) → unwrap_or o n ≡ begin_of o n
 begin_unwrapped None n = refl
 begin_unwrapped (Some b) n = refl

@@ -1,27 +1,18 @@
 -- A front that gives nothing.
-use Rattle.std.proofs.Common.{◌≡◌, ◌<◌, ℕ, Bool, true, false, List, [], ◌∷◌, ◌++◌, ◌+◌, get_or, sym, ap, subst, ◌∙◌, refl, length, take-add}
-use Rattle.std.proofs.lemmas.List.{append-nil, append_assoc, take_more}
-use Rattle.std.specs.Prelude.{Option, Some, None, Result, Ok, Err, IfOk, take, drop}
-use Rattle.dk_model.specs.declared.memory.NoMemory.{NoMemory}
+use Rattle.std.proofs.Common.{◌≡◌, ◌<◌, ℕ, Bool, true, List, [], ◌∷◌, ◌++◌, ◌+◌, get_or, sym, ap, subst, ◌∙◌, refl, length}
+use Rattle.std.proofs.lemmas.List.{take_more}
+use Rattle.std.specs.Prelude.{Option, Some, None, take}
 use Rattle.dk_model.specs.declared.code.Code.{Code}
-use Rattle.dk_model.specs.declared.code.Code.TheVariants.{E05}
-use Rattle.dk_model.specs.declared.limits.Limits.{Limits}
 use Rattle.dk_lexer.specs.declared.class.Class.{Class}
 use Rattle.dk_lexer.specs.declared.class.Class.TheVariants as class
-use Rattle.dk_lexer.specs.declared.fed.Fed.{Fed}
 use Rattle.dk_lexer.specs.declared.lexer.Lexer.{Lexer}
 use Rattle.dk_lexer.specs.declared.part.Part.{Part}
 use Rattle.dk_lexer.specs.declared.part.Part.TheVariants as part
-use Rattle.dk_lexer.specs.declared.token.Token.{Token}
-use Rattle.dk_lexer.specs.Classes.{class_of, in_name}
-use Rattle.dk_lexer.specs.Fronts.{AddNothing, GiveNothing, Passes, GoesTo, is_blank_class, nothing_fed, with_part}
-use Rattle.dk_lexer.specs.Given.{given}
-use Rattle.dk_lexer.specs.Spelling.{Pair, apart, closes, opens, pair}
-use Rattle.dk_lexer.specs.Steps.{Move, Step, begin_by, comment_pair, fails, goes_on, lexer_after, lexer_from, one, own, part_step, past, run_name, run_step, start, step, taken, takes}
-use Rattle.dk_lexer.specs.Tokens.{Lexed, behind, broken, tokens}
+use Rattle.dk_lexer.specs.Classes.{class_of}
+use Rattle.dk_lexer.specs.Fronts.{GiveNothing, Passes, GoesTo, is_blank_class, nothing_fed, with_part}
+use Rattle.dk_lexer.specs.Steps.{Step, begin_by, lexer_from, one, past, step, taken, takes}
+use Rattle.dk_lexer.specs.Tokens.{behind}
 use Rattle.dk_lexer.specs.declared.place.Place.{Place}
-use Rattle.dk_lexer.proofs.Agree.{adds_more}
-use Rattle.dk_lexer.proofs.Outcomes.{le_false}
 
 -- ---- one byte more
 
@@ -42,29 +33,13 @@ passes_more old mid new bs b p e = record {
   after = sym (ap (λ (s : Step). s.lexer) e) ∙ ap (λ (l : Lexer). (step l b).lexer) p.after ∙ sym (from_more old bs b);
 }
 
--- ---- one byte before others, and one front before another
+-- ---- one byte before others
 
 pub passes_cons : (old mid new : Lexer) (b : ℕ) (bs : List ℕ) → GoesTo old b mid → Passes mid bs new → Passes old (b ∷ bs) new
 passes_cons old mid new b bs e p = record {
   nothing = (ap (λ (s : Step). s.fed) e, subst (λ (l : Lexer). GiveNothing l bs) (sym (ap (λ (s : Step). s.lexer) e)) p.nothing);
   after = p.after ∙ ap (λ (l : Lexer). lexer_from l bs) (sym (ap (λ (s : Step). s.lexer) e));
 }
-
-give_join : (l : Lexer) (xs ys : List ℕ) → GiveNothing l xs → GiveNothing (lexer_from l xs) ys → GiveNothing l (xs ++ ys)
-give_join l [] ys h g = g
-give_join l (x ∷ xs) ys h g = (h.0, give_join (step l x).lexer xs ys h.1 g)
-
-after_from : (l : Lexer) (bs more : List ℕ) → lexer_from l (bs ++ more) ≡ lexer_from (lexer_from l bs) more
-after_from l [] more = refl
-after_from l (b ∷ bs) more = after_from (step l b).lexer bs more
-
--- the first bytes of a list, and those behind them
-pub passes_both : (old mid new : Lexer) (bytes : List ℕ) (n k : ℕ) → Passes old (take n bytes) mid → Passes mid (take k (drop n bytes)) new → Passes old (take (n + k) bytes) new
-passes_both old mid new bytes n k p q =
-    subst (λ (bs : List ℕ). Passes old bs new) (sym (take-add n k bytes)) (record {
-      nothing = give_join old (take n bytes) (take k (drop n bytes)) p.nothing (subst (λ (l : Lexer). GiveNothing l (take k (drop n bytes))) p.after q.nothing);
-      after = q.after ∙ ap (λ (l : Lexer). lexer_from l (take k (drop n bytes))) p.after ∙ sym (after_from old (take n bytes) (take k (drop n bytes)));
-    })
 
 -- ---- what the bytes of a front do
 
@@ -84,44 +59,6 @@ unfolding step
 blank_step l b blank within =
     ap one (blank_begins (class_of b) (record l { part = part.Nothing; first = l.here }) b blank)
     ∙ taken_within (record l { part = part.Nothing; first = l.here }) part.Nothing b (past l l.command) within
-
--- ---- what a front adds to the bytes before it
-
-pub front_after : (old new : Lexer) (front : List ℕ) → Passes old front new → (limits : Limits) (bytes : List ℕ) → old ≡ lexer_after limits bytes → new ≡ lexer_after limits (bytes ++ front)
-unfolding lexer_after
-front_after old new front p limits bytes is = p.after ∙ ap (λ (l : Lexer). lexer_from l front) is ∙ sym (after_from (start limits) bytes front)
-
-more_after : (limits : Limits) (bytes : List ℕ) (b : ℕ) → (step (lexer_after limits bytes) b).lexer ≡ lexer_after limits (bytes ++ b ∷ [])
-unfolding lexer_after
-more_after limits bytes b = sym (from_more (start limits) bytes b)
-
-add_one : (limits : Limits) (bytes : List ℕ) (b : ℕ) → (step (lexer_after limits bytes) b).fed ≡ nothing_fed → (tokens limits (bytes ++ b ∷ []) broken).tokens ≡ (tokens limits bytes broken).tokens
-add_one limits bytes b e = (adds_more limits bytes b).tokens ∙ ap (λ (f : Fed). (tokens limits bytes broken).tokens ++ given f) e ∙ append-nil (tokens limits bytes broken).tokens
-
-no_fault : (limits : Limits) (bytes : List ℕ) (b : ℕ) → (step (lexer_after limits bytes) b).fed ≡ nothing_fed → (tokens limits (bytes ++ b ∷ []) broken).fault ≡ None
-no_fault limits bytes b e = (adds_more limits bytes b).fault ∙ ap (λ (f : Fed). f.fault) e
-
-adds_nothing : (limits : Limits) (bytes front : List ℕ) → (tokens limits bytes broken).fault ≡ None → GiveNothing (lexer_after limits bytes) front → AddNothing limits bytes front
-adds_nothing limits bytes [] none h = record {
-  same_tokens = ap (λ bs. (tokens limits bs broken).tokens) (append-nil bytes);
-  same_fault = ap (λ bs. (tokens limits bs broken).fault) (append-nil bytes);
-}
-adds_nothing limits bytes (b ∷ front) none h =
-    let fault = no_fault limits bytes b h.0 in
-    let later = adds_nothing limits (bytes ++ b ∷ []) front fault (subst (λ (l : Lexer). GiveNothing l front) (more_after limits bytes b) h.1) in
-    let same = append_assoc bytes (b ∷ []) front in
-    record {
-      same_tokens = ap (λ bs. (tokens limits bs broken).tokens) (sym same) ∙ later.same_tokens ∙ add_one limits bytes b h.0;
-      same_fault = ap (λ bs. (tokens limits bs broken).fault) (sym same) ∙ later.same_fault ∙ fault ∙ sym none;
-    }
-
-pub front_adds : (old new : Lexer) (front : List ℕ) → Passes old front new → (limits : Limits) (bytes : List ℕ) → old ≡ lexer_after limits bytes → (tokens limits bytes broken).fault ≡ None → AddNothing limits bytes front
-front_adds old new front p limits bytes is none = adds_nothing limits bytes front none (subst (λ (l : Lexer). GiveNothing l front) is p.nothing)
-
--- what holds where a call passed over a front
-pub if_passes : (r : Result ℕ NoMemory) (old new : Lexer) (bytes : List ℕ) {P : ℕ → Type 0} → IfOk r (λ n. Passes old (take n bytes) new) → ((n : ℕ) → Passes old (take n bytes) new → P n) → IfOk r P
-if_passes (Ok n) old new bytes p f = f n p
-if_passes (Err e) old new bytes p f = tt
 
 -- ---- as the calls find it
 

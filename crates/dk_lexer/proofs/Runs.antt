@@ -1,7 +1,6 @@
 -- The lexer run over a list of bytes, and what that is to agree with.
 use Rattle.std.proofs.Common.{◌≡◌, ◌≤◌, ℕ, zero, suc, ◌+◌, List, [], ◌∷◌, ◌++◌, length, refl}
-use Rattle.std.specs.Prelude.{Option, Some, None}
-use Rattle.dk_model.specs.declared.code.Code.{Code}
+use Rattle.std.specs.Prelude.{Option, Some}
 use Rattle.dk_lexer.specs.declared.place.Place.{Place}
 use Rattle.dk_lexer.specs.declared.class.Class.TheVariants as class
 use Rattle.dk_lexer.specs.declared.part.Part.{Part}
@@ -12,14 +11,11 @@ use Rattle.dk_lexer.specs.Classes.{class_of}
 use Rattle.dk_lexer.specs.Spelling.{Spelling, comment, run_of, behind_run, letters_of, behind_letters, is_wildcard, Quoted, one_more, behind_bar, behind_last_bar, quoted, quoted_spelled, second_spelled, behind_brace, behind_dot, name_spelled, word_spelled, behind_colon, behind_equals, behind_minus, behind_two_minus, behind_bracket, behind_open}
 use Rattle.dk_lexer.specs.Tokens.{Ending, whole, broken, Lexed, bound, behind, input_limit, late_bound, Setting, outcome, outcome_at, tokens_from, fault_at}
 use Rattle.dk_lexer.specs.Given.{with_token, given}
+pub use Rattle.dk_lexer.specs.Parts.{fault_of}
 use Rattle.dk_lexer.specs.Steps.{Step, step, part_step, own, ends, line_of, after_end}
 
 abbrev pub adds : Fed → Lexed → Lexed
 adds fed lexed = record lexed { tokens = with_token fed.first (with_token fed.second (with_token fed.third (with_token fed.fourth lexed.tokens))) }
-
-abbrev pub fault_of : Part → Option Code
-fault_of (part.Failed code) = Some code
-fault_of _ = None
 
 abbrev pub stop : Lexer → Ending → Lexed
 stop l broken = record { tokens = []; fault = fault_of l.part; line = line_of l }

@@ -1,6 +1,5 @@
 -- For proofs: a front of a piece, of which each byte gives no token and no fault.
 use Rattle.std.specs.Prelude.{◌≡◌, ℕ, ◌+◌, ◌-◌, min, Bool, true, false, List, [], ◌∷◌, ◌++◌, length, Option, Some, None, nat_le}
-use Rattle.dk_model.specs.declared.limits.Limits.{Limits}
 use Rattle.dk_lexer.specs.declared.class.Class.{Class}
 use Rattle.dk_lexer.specs.declared.class.Class.TheVariants as class
 use Rattle.dk_lexer.specs.declared.fed.Fed.{Fed}
@@ -10,7 +9,6 @@ use Rattle.dk_lexer.specs.declared.part.Part.TheVariants as part
 use Rattle.dk_lexer.specs.Classes.{class_of, in_name}
 use Rattle.dk_lexer.specs.Spelling.{Pair, apart, closes, opens, pair}
 use Rattle.dk_lexer.specs.Steps.{fed_one, lexer_from, none_begun, step}
-use Rattle.dk_lexer.specs.Tokens.{Lexed, broken, tokens}
 
 -- no token and no fault
 abbrev pub nothing_fed : Fed
@@ -25,11 +23,6 @@ GiveNothing l (b ∷ bs) = ((step l b).fed ≡ nothing_fed) × GiveNothing (step
 pub record Passes (old : Lexer) (bs : List ℕ) (new : Lexer) : Type 0 where
   pub nothing : GiveNothing old bs
   pub after : new ≡ lexer_from old bs
-
--- the tokens and the fault of the bytes are those of more bytes too
-pub record AddNothing (limits : Limits) (bytes more : List ℕ) : Type 0 where
-  pub same_tokens : (tokens limits (bytes ++ more) broken).tokens ≡ (tokens limits bytes broken).tokens
-  pub same_fault : (tokens limits (bytes ++ more) broken).fault ≡ (tokens limits bytes broken).fault
 
 -- each of the bytes may stand in a name
 abbrev pub StandInName : List ℕ → Type 0

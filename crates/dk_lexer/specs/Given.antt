@@ -33,3 +33,22 @@ pub record IsFrontOf (old new : Lexed) : Type 0 where
   pub more : List Token
   pub tokens : new.tokens ≡ old.tokens ++ more
   pub fault : Stays old.fault old new
+
+-- the tokens of some bytes and their fault are these
+pub record HasTokens (lexed : Lexed) (ts : List Token) (fault : Option Code) : Type 0 where
+  pub tokens_are : lexed.tokens ≡ ts
+  pub fault_is : lexed.fault ≡ fault
+
+-- the line of the first of these tokens, else this one
+abbrev pub first_line : List Token → ℕ → ℕ
+first_line [] place = place
+first_line (t ∷ ts) place = t.line
+
+-- memory ended within a piece behind these bytes: a front of it completes these tokens, and those that are missing
+pub record EndsIn (limits : Limits) (before piece : List ℕ) (ts : List Token) (line : ℕ) : Type 0 where
+  pub given : List ℕ
+  pub rest : List ℕ
+  pub missing : List Token
+  pub piece_is : piece ≡ given ++ rest
+  pub tokens_are : (tokens limits (before ++ given) broken).tokens ≡ ts ++ missing
+  pub line_is : line ≡ first_line missing (begun_line limits (before ++ given))

@@ -6,3 +6,4 @@ pub mod Steps
 pub mod Fronts
 pub mod Given
 pub mod Pieces
+pub mod Takes

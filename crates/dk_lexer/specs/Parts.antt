@@ -1,5 +1,6 @@
 -- For proofs: which bytes take memory, by the part that is begun.
-use Rattle.std.specs.Prelude.{Bool, true, false, ◌||◌}
+use Rattle.std.specs.Prelude.{Bool, true, false, ◌||◌, Option, Some, None}
+use Rattle.dk_model.specs.declared.code.Code.{Code}
 use Rattle.dk_lexer.specs.declared.class.Class.{Class}
 use Rattle.dk_lexer.specs.declared.class.Class.TheVariants as class
 use Rattle.dk_lexer.specs.declared.part.Part.{Part}
@@ -36,3 +37,8 @@ in_text (part.Bar kind text room) class = stays_quoted class
 in_text part.Brace class = begins_name class || is_bar class
 in_text (part.RunBrace text dot brace) class = begins_name class || is_bar class
 in_text _ class = begins_name class
+
+-- the fault that stands before
+abbrev pub fault_of : Part → Option Code
+fault_of (part.Failed code) = Some code
+fault_of _ = None

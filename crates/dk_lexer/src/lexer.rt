@@ -1,15 +1,18 @@
-//! The lexer (docs/syntax.md, "Tokens"). Begin at `Lexer::feed` in lexer/feed.rt.
+//! The lexer (docs/syntax.md, "Tokens"). Begin at `Lexer::take` in lexer/take.rt.
 mod ends;
 mod feed;
 mod front;
 mod moves;
 mod names;
 mod quoted;
+mod spelt;
 mod step;
+mod take;
 
 use crate::Place;
 use crate::part::Part;
 use dk_model::Limits;
+pub use take::Exhausted;
 
 /// A lexer: what has been read so far.
 #[derive(Drop)]

@@ -1,4 +1,4 @@
-//! Tokens of the bytes of a file, one byte at a time. Begin at `Lexer::feed`.
+//! Tokens of the bytes of a file, which come in pieces. Begin at `Lexer::take`.
 #![tactic(auto)]
 
 mod class;
@@ -12,6 +12,6 @@ mod words;
 
 pub use fed::Fed;
 pub use laws::{front_law, pieces_law, place_law};
-pub use lexer::Lexer;
+pub use lexer::{Exhausted, Lexer};
 pub use place::Place;
 pub use token::{Sign, Token, TokenKind};

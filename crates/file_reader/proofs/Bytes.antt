@@ -8,7 +8,6 @@ use Rattle.dk_model.specs.declared.limits.Limits.{Limits}
 use Rattle.dk_lexer.specs.declared.token.Token.{Token}
 use Rattle.dk_lexer.specs.declared.lexer.Lexer.{Lexer}
 use Rattle.dk_lexer.specs.Tokens.{Lexed, broken, tokens, whole}
-use Rattle.dk_lexer.specs.Fronts.{AddNothing}
 use Rattle.dk_lexer.specs.Given.{IsFrontOf, Stays, begun_line}
 use Rattle.dk_lexer.specs.Steps.{lexer_after}
 use Rattle.dk_lexer.proofs.Agree.{tokens_front}
@@ -57,15 +56,10 @@ memory_behind limits given rest line line_is = record {
 }
 
 module _ {J : Type 0} (stands stops : J → List WrittenCommand → Type 0) (limits : Limits) where
-  halts_bytes : (given : List ℕ) (judge : J) (halt : Halt) → HaltsAtLexed stands stops limits given broken judge halt → HaltsAtBytes stands stops limits given judge halt
+  pub halts_bytes : (given : List ℕ) (judge : J) (halt : Halt) → HaltsAtLexed stands stops limits given broken judge halt → HaltsAtBytes stands stops limits given judge halt
   halts_bytes given judge (Refused line code) halts = (halts.0, halts.1, bytes_settle limits given _ halts.2)
   halts_bytes given judge (NoMemory line) halts = (halts.0, halts.1, memory_here limits given halts.0 line halts.2)
   halts_bytes given judge Judged halts = (halts.0, halts.1, bytes_begin limits given halts.0 halts.2)
-
-  -- all that the bytes give was taken
-  pub byte_comes : (given : List ℕ) (r : Reader) (judge : J) (came : Result Unit Halt) → r.lexer ≡ lexer_after limits given → ComesToLexed stands stops limits given broken r judge came → ComesToBytes stands stops limits given r judge came
-  byte_comes given r judge (Ok u) lexer comes = record { lexer = lexer; goes = comes.0; no_fault = comes.1 }
-  byte_comes given r judge (Err halt) lexer halts = halts_bytes given judge halt halts
 
   -- the lexer went on
   pub behind_lexer : {ts : List Token} {r : Reader} {judge : J} (l : Lexer) → GoesOnBehind stands limits ts r judge → GoesOnBehind stands limits ts (record r { lexer = l }) judge
@@ -75,16 +69,6 @@ module _ {J : Type 0} (stands stops : J → List WrittenCommand → Type 0) (lim
   pub memory_halts : (given rest : List ℕ) (line : ℕ) (r : Reader) (judge : J) → GoesOnAfter stands limits given r judge
       → line ≡ due_line limits (tokens limits given broken).tokens (begun_line limits given) → HaltsAtBytes stands stops limits (given ++ rest) judge (NoMemory line)
   memory_halts given rest line r judge goes line_is = (_, goes.goes.behind, memory_behind limits given rest line line_is)
-
-  -- a front that gave nothing was taken
-  pub front_goes : (given front : List ℕ) (old new : Reader) (judge : J) → GoesOnAfter stands limits given old judge → new.lexer ≡ lexer_after limits (given ++ front) → new.parser ≡ old.parser
-      → AddNothing limits given front → GoesOnAfter stands limits (given ++ front) new judge
-  front_goes given front old new judge goes lexer parser adds = record {
-    lexer = lexer;
-    goes = subst (λ (ts : List Token). GoesOnBehind stands limits ts new judge) (sym adds.same_tokens)
-        (record { parser = ap (λ p. parsing p) parser ∙ goes.goes.parser; no_fault = goes.goes.no_fault; behind = goes.goes.behind });
-    no_fault = adds.same_fault ∙ goes.no_fault;
-  }
 
   -- more bytes change nothing of why reading halted
   pub halts_wider : (given rest : List ℕ) (judge : J) (halt : Halt) → HaltsAtBytes stands stops limits given judge halt → HaltsAtBytes stands stops limits (given ++ rest) judge halt

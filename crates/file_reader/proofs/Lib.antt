@@ -4,3 +4,5 @@ pub mod Lines
 pub mod Pieces
 pub mod Stands
 pub mod Starts
+pub mod Fed
+pub mod Waiting

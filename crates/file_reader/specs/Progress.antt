@@ -1,9 +1,8 @@
 -- For callers: how far the reading of a file has come, and why it halted.
-use Rattle.std.specs.Prelude.{◌≡◌, ◌⊎◌, ℕ, List, ◌++◌, take, Option, Some, None, Result, Ok, Err, unwrap_or}
+use Rattle.std.specs.Prelude.{◌≡◌, ◌⊎◌, ℕ, List, ◌++◌, Option, Some, None, Result, Ok, Err, unwrap_or}
 use Rattle.dk_model.specs.declared.limits.Limits.{Limits}
 use Rattle.dk_lexer.specs.declared.token.Token.{Token}
 use Rattle.dk_lexer.specs.Tokens.{Ending, Lexed, broken, whole, tokens}
-use Rattle.dk_lexer.specs.Fronts.{AddNothing}
 use Rattle.dk_lexer.specs.Given.{IsFrontOf, begun_line}
 use Rattle.dk_lexer.specs.Steps.{lexer_after}
 use Rattle.dk_parser.specs.Parsing.{parsing_after}
@@ -122,17 +121,6 @@ ComesToLexed stands stops limits given ending r judge (Err halt) = HaltsAtLexed 
 abbrev pub ComesToBytes : {J : Type 0} → (J → List WrittenCommand → Type 0) → (J → List WrittenCommand → Type 0) → Limits → List ℕ → Reader → J → Result Unit Halt → Type 0
 ComesToBytes stands stops limits given r judge (Ok u) = GoesOnAfter stands limits given r judge
 ComesToBytes stands stops limits given r judge (Err halt) = HaltsAtBytes stands stops limits given judge halt
-
--- so many of the bytes were taken, at least one, or reading halted
-abbrev pub ComesToFront : {J : Type 0} → (J → List WrittenCommand → Type 0) → (J → List WrittenCommand → Type 0) → Limits → List ℕ → List ℕ → Reader → J → Result ℕ Halt → Type 0
-ComesToFront stands stops limits given bytes r judge (Ok count) = GoesOnAfter stands limits (given ++ take count bytes) r judge
-ComesToFront stands stops limits given bytes r judge (Err halt) = HaltsAtBytes stands stops limits (given ++ bytes) judge halt
-
--- so many of the bytes complete no token; or memory ended at the line that was due
-abbrev pub PassesOver : Limits → List ℕ → List ℕ → Reader → Reader → Result ℕ Halt → Type 0
-PassesOver limits given bytes old new (Ok count) = (new.lexer ≡ lexer_after limits (given ++ take count bytes)) × AddNothing limits given (take count bytes)
-PassesOver limits given bytes old new (Err halt) =
-    (ts : List Token) → parsing old.parser ≡ parsing_after limits ts → halt ≡ NoMemory (due_line limits ts (begun_line limits given))
 
 -- the file is read to its end, or up to a fault; or memory ended; or the judge stopped
 abbrev pub ComesToEnd : {J : Type 0} → (J → List WrittenCommand → Type 0) → (J → List WrittenCommand → Type 0) → Limits → List ℕ → J → Result Unit Halt → Type 0

@@ -1,13 +1,13 @@
 //! Reads the commands of a file from its bytes and hands each to a judge as soon as it is whole.
-ghost use Rattle.std.specs.Prelude.{◌≡◌, ◌≢◌, ◌≤◌, length, take, ◌∷◌, ◌++◌, [], ℕ, List, IfOk, IfErr, None};
+ghost use Rattle.std.specs.Prelude.{◌≡◌, ◌≢◌, reverse, ◌∷◌, ◌++◌, [], ℕ, List, IfOk, None};
 ghost use Rattle.dk_lexer.specs.Given.{AddsTokens, begun_line, with_token};
 ghost use Rattle.dk_lexer.specs.Steps.{lexer_after};
 ghost use Rattle.dk_parser.specs.Parsing.{parsing_after};
 ghost use Rattle.dk_parser.specs.Views.{parsing};
-ghost use Rattle.dk_lexer.specs.Tokens.{Ending, Lexed, broken, tokens};
+ghost use Rattle.dk_lexer.specs.Tokens.{Ending, Lexed, tokens};
 ghost use Rattle.dk_lexer.specs.declared.token.Token.{Token};
 ghost use Rattle.dk_model.specs.declared.limits.Limits.{Limits};
-ghost use Rattle.file_reader.specs.Progress.{ComesToBytes, ComesToEnd, ComesToLexed, ComesToTokens, GoesOnAfter, GoesOnBehind, LeavesJudge, PassesOver, due_line};
+ghost use Rattle.file_reader.specs.Progress.{ComesToBytes, ComesToEnd, ComesToLexed, ComesToTokens, GoesOnAfter, GoesOnBehind, LeavesJudge, due_line};
 
 use crate::judge::{Judge, Over};
 use dk_lexer::{Fed, Lexer, Token};
@@ -20,6 +20,8 @@ use std::alloc::Global;
 pub struct Reader {
     pub lexer: Lexer,
     pub parser: Parser,
+    // The tokens of the piece at hand that the parser has not had, the next one last.
+    waiting: Vec<Token>,
 }
 
 /// Why nothing further is read of a file before its end.
@@ -41,6 +43,7 @@ impl Reader {
         Ok(Reader {
             lexer: Lexer::new(limits),
             parser: Parser::new(alloc, limits),
+            waiting: Vec::new(alloc),
         })
     }
 
@@ -56,6 +59,7 @@ impl Reader {
             ComesToTokens (J.stands bounds) (J.stops bounds) limits bytes ending
             (taken ++ token ∷ []) self.new judge.new result }
         ensures lexer { self.new.lexer ≡ self.old.lexer }
+        ensures waiting { self.new.waiting ≡ self.old.waiting }
     {
         let line = self.parser.begun().unwrap_or(token.line);
         match self.parser.feed(alloc, token) {
@@ -169,39 +173,50 @@ impl Reader {
         self.parser.begun().unwrap_or(self.lexer.line())
     }
 
-    /// Takes the next byte.
-    pub fn feed<J: Judge>(&mut self, alloc: Global, judge: &mut J, byte: u8) -> Result<(), Halt>
+    // Takes the tokens that wait, the last of them first.
+    fn take_waiting<J: Judge>(&mut self, alloc: Global, judge: &mut J) -> Result<(), Halt>
+        requires ready { J.ready judge.old }
+        ensures fixed { J.fixed judge.new ≡ J.fixed judge.old }
+        ensures ready { LeavesJudge J.ready J.over judge.new result }
+        ensures stands { (bounds : J.Bounds) (limits : Limits) (bytes : List ℕ) (ending : Ending)
+            (taken coming : List Token) →
+            (tokens limits bytes ending).tokens ≡ taken ++ (reverse self.old.waiting.items ++ coming) →
+            GoesOnBehind (J.stands bounds) limits taken self.old judge.old →
+            ComesToTokens (J.stands bounds) (J.stops bounds) limits bytes ending
+            (taken ++ reverse self.old.waiting.items) self.new judge.new result }
+        ensures lexer { self.new.lexer ≡ self.old.lexer }
+    {
+        while let Some(token) = self.waiting.pop() {
+            self.token(alloc, judge, token)?;
+        }
+        Ok(())
+    }
+
+    /// Takes the next bytes: their tokens one by one, then a fault of the bytes, if one stands.
+    pub fn feed<J: Judge>(
+        &mut self,
+        alloc: Global,
+        judge: &mut J,
+        bytes: &[u8],
+    ) -> Result<(), Halt>
         requires ready { J.ready judge.old }
         ensures fixed { J.fixed judge.new ≡ J.fixed judge.old }
         ensures ready { LeavesJudge J.ready J.over judge.new result }
         ensures stands { (bounds : J.Bounds) (limits : Limits) (given : List ℕ) →
             GoesOnAfter (J.stands bounds) limits given self.old judge.old →
-            ComesToBytes (J.stands bounds) (J.stops bounds) limits (given ++ byte ∷ [])
+            ComesToBytes (J.stands bounds) (J.stops bounds) limits (given ++ bytes.now)
             self.new judge.new result }
     {
-        let due = self.due_line();
-        match self.lexer.feed(alloc, byte) {
-            Ok(fed) => {
-                let place = self.lexer.line();
-                self.take(alloc, judge, fed, place)
-            }
-            Err(_) => Err(Halt::NoMemory(due)),
-        }
-    }
-
-    /// Takes a front of the bytes at once, where none of them completes a token, and says how many.
-    pub fn pass(&mut self, alloc: Global, bytes: &[u8]) -> Result<usize, Halt>
-        ensures within { IfOk result (λ count. count ≤ length bytes.now) }
-        ensures passes { (limits : Limits) (given : List ℕ) →
-            self.old.lexer ≡ lexer_after limits given → (tokens limits given broken).fault ≡ None →
-            PassesOver limits given bytes.now self.old self.new result }
-        ensures parser { self.new.parser ≡ self.old.parser }
-        ensures memory { IfErr result (λ halt. (line : ℕ) × (halt ≡ Halt.NoMemory line)) }
-    {
-        let due = self.due_line();
-        match self.lexer.pass(alloc, bytes) {
-            Ok(count) => Ok(count),
-            Err(_) => Err(Halt::NoMemory(due)),
+        self.waiting.clear();
+        let taken = self.lexer.take(alloc, bytes, &mut self.waiting);
+        self.waiting.reverse();
+        self.take_waiting(alloc, judge)?;
+        match taken {
+            Ok(fault) => match fault {
+                None => Ok(()),
+                Some(code) => Err(Halt::Refused(self.due_line(), code)),
+            },
+            Err(end) => Err(Halt::NoMemory(self.parser.begun().unwrap_or(end.line))),
         }
     }
 

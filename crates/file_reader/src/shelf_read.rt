@@ -1,11 +1,11 @@
 //! Reads a book from a shelf, piece by piece.
-ghost use Rattle.std.specs.Prelude.{◌≡◌, ◌<◌, ◌≤◌, ◌++◌, [], ℕ, List, Some, IfOk, length, take};
+ghost use Rattle.std.specs.Prelude.{◌≡◌, [], ℕ, List, Some};
 ghost use Rattle.dk_lexer.specs.Steps.{lexer_after};
 ghost use Rattle.dk_parser.specs.Parsing.{parsing_after};
 ghost use Rattle.dk_parser.specs.Views.{parsing};
 ghost use Rattle.dk_model.specs.declared.limits.Limits.{Limits};
 ghost use Rattle.file_reader.specs.Counts.{MayRiseByEnd, RoseByEnd};
-ghost use Rattle.file_reader.specs.Progress.{ComesToBytes, ComesToFront, GoesOnAfter, LeavesAtEnd, LeavesJudge, ReadsTo};
+ghost use Rattle.file_reader.specs.Progress.{LeavesAtEnd, ReadsTo};
 
 use crate::judge::Judge;
 use crate::reader::{Halt, Reader};
@@ -20,55 +20,6 @@ pub enum ReadEnd {
     /// A read failed.
     Unread,
     Halted(Halt),
-}
-
-// Takes a front of the bytes that completes no token and then the next byte, and says how many.
-fn feed_front<J: Judge>(
-    alloc: Global,
-    reader: &mut Reader,
-    judge: &mut J,
-    bytes: &[u8],
-) -> Result<usize, Halt>
-    requires some { 0 < length bytes.now }
-    requires ready { J.ready judge.old }
-    ensures fixed { J.fixed judge.new ≡ J.fixed judge.old }
-    ensures ready { LeavesJudge J.ready J.over judge.new result }
-    ensures some { IfOk result (λ count. 0 < count) }
-    ensures within { IfOk result (λ count. count ≤ length bytes.now) }
-    ensures stands { (bounds : J.Bounds) (limits : Limits) (given : List ℕ) →
-        GoesOnAfter (J.stands bounds) limits given reader.old judge.old →
-        ComesToFront (J.stands bounds) (J.stops bounds) limits given bytes.now
-        reader.new judge.new result }
-{
-    let count = reader.pass(alloc, bytes)?;
-    if count >= bytes.len() {
-        return Ok(count);
-    }
-    reader.feed(alloc, judge, bytes[count])?;
-    Ok(count + 1)
-}
-
-// Takes the bytes of a piece.
-fn feed_piece<J: Judge>(
-    alloc: Global,
-    reader: &mut Reader,
-    judge: &mut J,
-    bytes: &[u8],
-) -> Result<(), Halt>
-    requires ready { J.ready judge.old }
-    ensures fixed { J.fixed judge.new ≡ J.fixed judge.old }
-    ensures ready { LeavesJudge J.ready J.over judge.new result }
-    ensures stands { (bounds : J.Bounds) (limits : Limits) (given : List ℕ) →
-        GoesOnAfter (J.stands bounds) limits given reader.old judge.old →
-        ComesToBytes (J.stands bounds) (J.stops bounds) limits (given ++ bytes.now)
-        reader.new judge.new result }
-{
-    let mut at = 0;
-    while at < bytes.len() {
-        let (_, rest) = bytes.split_at(at);
-        at += feed_front(alloc, reader, judge, rest)?;
-    }
-    Ok(())
 }
 
 /// Reads the current book from its beginning, in pieces of 4,096 bytes, and hands its commands to the judge, until it takes
@@ -105,7 +56,7 @@ pub fn read_book<H: Shelf, J: Judge>(
             };
         }
         let (piece, _) = buf.split_at(count);
-        if let Err(halt) = feed_piece(alloc, reader, judge, piece) {
+        if let Err(halt) = reader.feed(alloc, judge, piece) {
             return ReadEnd::Halted(halt);
         }
     }

@@ -28,19 +28,19 @@ returns-in-Err-finish-clause-ends g c = λ bounds limits bytes lexer parser behi
     c.in-Err-finish.ensures.ends bounds limits bytes
     (given_all (g.J.Judge.stands bounds) (g.J.Judge.stops bounds) limits bytes (c.pieces.invariant.read bounds limits bytes lexer parser behind left) (g.H.Shelf.left c.read.new.self) c.read.new.buf (rw c.if-count-eq0.true at c.in-Ok.ensures.bytes))
 
-pub returns-in-Err-feed_piece-clause-ends : goal.returns-in-Err-feed_piece-clause-ends
-returns-in-Err-feed_piece-clause-ends g c = λ bounds limits bytes lexer parser behind left.
-    given_halted (g.J.Judge.stands bounds) (g.J.Judge.stops bounds) limits bytes (c.pieces.invariant.read bounds limits bytes lexer parser behind left) (g.H.Shelf.left c.read.new.self) c.read.new.buf c.in-Ok.count c.feed_piece.new.judge c.in-Err-feed_piece.halt c.in-Ok.ensures.bytes
-    (λ given goes. subst (λ (l : List ℕ). HaltsAtBytes (g.J.Judge.stands bounds) (g.J.Judge.stops bounds) limits (given ++ l) c.feed_piece.new.judge c.in-Err-feed_piece.halt) c.split_at.ensures.front (c.in-Err-feed_piece.ensures.stands bounds limits given goes))
+pub returns-in-Err-feed-clause-ends : goal.returns-in-Err-feed-clause-ends
+returns-in-Err-feed-clause-ends g c = λ bounds limits bytes lexer parser behind left.
+    given_halted (g.J.Judge.stands bounds) (g.J.Judge.stops bounds) limits bytes (c.pieces.invariant.read bounds limits bytes lexer parser behind left) (g.H.Shelf.left c.read.new.self) c.read.new.buf c.in-Ok.count c.feed.new.judge c.in-Err-feed.halt c.in-Ok.ensures.bytes
+    (λ given goes. subst (λ (l : List ℕ). HaltsAtBytes (g.J.Judge.stands bounds) (g.J.Judge.stops bounds) limits (given ++ l) c.feed.new.judge c.in-Err-feed.halt) c.split_at.ensures.front (c.in-Err-feed.ensures.stands bounds limits given goes))
 
 pub pieces-preserved : goal.pieces-preserved
 pieces-preserved g c = record {
   buf = c.if-count-eq0.array_long;
-  fixed = c.feed_piece.ensures.fixed ∙ c.pieces.invariant.fixed;
+  fixed = c.feed.ensures.fixed ∙ c.pieces.invariant.fixed;
   ready = c.in_default.ensures.ready;
   read = λ bounds limits bytes lexer parser behind left.
-      given_more (g.J.Judge.stands bounds) (g.J.Judge.stops bounds) limits bytes (c.pieces.invariant.read bounds limits bytes lexer parser behind left) c.read.new.buf c.in-Ok.count c.feed_piece.new.reader c.feed_piece.new.judge c.in-Ok.ensures.bytes
-      (λ given goes. subst (λ (l : List ℕ). GoesOnAfter (g.J.Judge.stands bounds) limits (given ++ l) c.feed_piece.new.reader c.feed_piece.new.judge) c.split_at.ensures.front (c.in_default.ensures.stands bounds limits given goes));
+      given_more (g.J.Judge.stands bounds) (g.J.Judge.stops bounds) limits bytes (c.pieces.invariant.read bounds limits bytes lexer parser behind left) c.read.new.buf c.in-Ok.count c.feed.new.self c.feed.new.judge c.in-Ok.ensures.bytes
+      (λ given goes. subst (λ (l : List ℕ). GoesOnAfter (g.J.Judge.stands bounds) limits (given ++ l) c.feed.new.self c.feed.new.judge) c.split_at.ensures.front (c.in_default.ensures.stands bounds limits given goes));
   books = c.in-Ok.ensures.books ∙ c.pieces.invariant.books;
   faults = c.in-Ok.ensures.cause.stands ∙ c.pieces.invariant.faults;
   missed = λ name. c.in-Ok.ensures.missed.stands name ∙ c.pieces.invariant.missed name;
