@@ -1,27 +1,24 @@
 -- What a byte, or the end of the input, comes to.
-use Rattle.std.proofs.Common.{◌≡◌, inl, inr, ℕ, List, [], ◌∷◌, ◌++◌, refl, sym, ap, subst, ◌∙◌}
+use Rattle.std.proofs.Common.{◌≡◌, inl, inr, ℕ, List, [], ◌++◌, refl, sym, ap, subst, ◌∙◌}
 use Rattle.std.proofs.lemmas.List.{append_assoc, append-nil}
-use Rattle.std.specs.Prelude.{Option, Some, None, Result, Ok, Err, unwrap_or}
+use Rattle.std.specs.Prelude.{Option, Some, None, Ok, Err, unwrap_or}
 use Rattle.dk_model.specs.declared.code.Code.{Code}
-use Rattle.dk_model.specs.declared.code.Code.TheVariants.{E03}
 use Rattle.dk_model.specs.declared.limits.Limits.{Limits}
 use Rattle.dk_lexer.specs.declared.token.Token.{Token}
 use Rattle.dk_lexer.specs.declared.lexer.Lexer.{Lexer}
 use Rattle.dk_lexer.specs.Tokens.{Lexed, broken, tokens, whole}
 use Rattle.dk_lexer.specs.Given.{IsFrontOf, Stays, begun_line}
-use Rattle.dk_lexer.specs.Steps.{lexer_after}
 use Rattle.dk_lexer.proofs.Agree.{tokens_front}
 use Rattle.dk_parser.specs.FileReading.{Reading, read, tail_by_bytes, tail_by_ending, tail_by_tokens}
 use Rattle.dk_parser.specs.FileReading as tail
 use Rattle.dk_parser.specs.Reading.{TokenReading}
 use Rattle.dk_parser.specs.Steps.{finished_by, read_tokens}
-use Rattle.dk_parser.specs.Views.{parsing}
 use Rattle.dk_parser.specs.Written.{WrittenCommand}
 use Rattle.dk_parser.proofs.Exact.{read_extends}
 use Rattle.file_reader.specs.declared.reader.Halt.{Halt}
 use Rattle.file_reader.specs.declared.reader.Halt.TheVariants.{Refused, NoMemory, Judged}
 use Rattle.file_reader.specs.declared.reader.Reader.{Reader}
-use Rattle.file_reader.specs.Progress.{BeginsWith, BytesBegin, BytesSettle, ComesToBytes, ComesToEnd, ComesToLexed, GoesOnAfter, GoesOnBehind, HaltsAtBytes, HaltsAtLexed, LexedSettles, MemoryAt, MemoryIn, due_line}
+use Rattle.file_reader.specs.Progress.{BeginsWith, BytesBegin, BytesSettle, ComesToEnd, GoesOnAfter, GoesOnBehind, HaltsAtBytes, HaltsAtLexed, LexedSettles, MemoryAt, MemoryIn, due_line}
 
 bytes_settle : (limits : Limits) (given : List ℕ) (reading : Reading) → LexedSettles limits (tokens limits given broken) reading → BytesSettle limits given reading
 bytes_settle limits given reading settles more ending = settles (tokens limits (given ++ more) ending) ending (tokens_front limits given more ending)

@@ -1,7 +1,7 @@
 -- A book that is read in pieces.
-use Rattle.std.proofs.Common.{◌≡◌, inl, ℕ, List, [], ◌++◌, take, drop, refl, sym, ap, subst, ◌∙◌}
+use Rattle.std.proofs.Common.{◌≡◌, ℕ, List, [], ◌++◌, take, drop, refl, sym, ap, subst, ◌∙◌}
 use Rattle.std.proofs.lemmas.List.{append_assoc, append-nil, take-append-drop}
-use Rattle.std.specs.Prelude.{Option, Some, None, Err}
+use Rattle.std.specs.Prelude.{Option, Some}
 use Rattle.dk_io.specs.Bytes.{TakesFront}
 use Rattle.dk_model.specs.declared.limits.Limits.{Limits}
 use Rattle.dk_lexer.specs.declared.token.Token.{Token}
@@ -19,7 +19,7 @@ use Rattle.file_reader.specs.declared.reader.Halt.{Halt}
 use Rattle.file_reader.specs.declared.reader.Halt.TheVariants.{NoMemory}
 use Rattle.file_reader.specs.declared.reader.Reader.{Reader}
 use Rattle.file_reader.specs.declared.shelf_read.ReadEnd.TheVariants.{Halted, Unread}
-use Rattle.file_reader.specs.Progress.{ComesToEnd, GoesOnAfter, GoesOnBehind, HaltsAtBytes, ReadsTo, due_line}
+use Rattle.file_reader.specs.Progress.{GoesOnAfter, HaltsAtBytes, ReadsTo, due_line}
 use Rattle.file_reader.proofs.Bytes.{halted_ends, halts_wider, memory_halts}
 use Rattle.file_reader.proofs.Starts.{starts}
 

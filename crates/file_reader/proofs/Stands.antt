@@ -1,11 +1,11 @@
 -- What a token comes to.
-use Rattle.std.proofs.Common.{◌≡◌, ℕ, List, [], ◌∷◌, ◌++◌, refl, sym, ap, subst, ◌∙◌}
+use Rattle.std.proofs.Common.{◌≡◌, ℕ, List, [], ◌∷◌, ◌++◌, refl, sym, ap, ◌∙◌}
 use Rattle.std.proofs.lemmas.List.{append_assoc}
 use Rattle.std.specs.Prelude.{Option, Some, None, IsSome, unwrap_or}
 use Rattle.dk_model.specs.declared.code.Code.{Code}
 use Rattle.dk_model.specs.declared.limits.Limits.{Limits}
 use Rattle.dk_lexer.specs.declared.token.Token.{Token}
-use Rattle.dk_lexer.specs.Tokens.{Ending, Lexed, tokens}
+use Rattle.dk_lexer.specs.Tokens.{Ending, tokens}
 use Rattle.dk_lexer.specs.Given.{begun_line}
 use Rattle.dk_parser.specs.Parsing.{commands_from, parsing_after}
 use Rattle.dk_parser.specs.Reading.{TokenReading}

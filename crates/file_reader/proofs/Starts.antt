@@ -1,5 +1,5 @@
 -- The reader before the first byte.
-use Rattle.std.proofs.Common.{◌≡◌, ℕ, List, [], refl, sym, ap, subst}
+use Rattle.std.proofs.Common.{◌≡◌, List, [], refl, sym, ap, subst}
 use Rattle.std.specs.Prelude.{None}
 use Rattle.dk_model.specs.declared.limits.Limits.{Limits}
 use Rattle.dk_lexer.specs.declared.token.Token.{Token}

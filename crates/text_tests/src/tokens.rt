@@ -142,38 +142,47 @@ fn reads_each_file_of_one_byte(rt: HostRuntime) -> Result<(), Fail> {
     Ok(())
 }
 
-fn feed_all(alloc: Global, lexer: &mut Lexer, text: &str) -> Result<(), NoMemory> {
-    for byte in text.as_bytes() {
-        let _fed = lexer.feed(alloc, *byte)?;
+// Takes the bytes of a piece.
+fn take(
+    alloc: Global,
+    lexer: &mut Lexer,
+    read: &mut Read,
+    piece: &[u8],
+) -> Result<(), Fail> {
+    let mut waiting = Vec::new(alloc);
+    let Ok(fault) = lexer.take(alloc, piece, &mut waiting) else {
+        return Err(NoMemory.into());
+    };
+    read.fault = fault;
+    for token in waiting {
+        keep(alloc, &mut read.tokens, Some(token))?;
     }
     Ok(())
 }
 
-// How many bytes of a text are taken at once behind what was fed before.
-fn passed(alloc: Global, before: &str, text: &str) -> Option<usize> {
-    let mut lexer = Lexer::new(Limits::standard());
-    match feed_all(alloc, &mut lexer, before) {
-        Ok(()) => lexer.pass(alloc, text.as_bytes()).ok(),
-        Err(_) => None,
-    }
+// Whether a text whose first bytes come in a piece of their own has the tokens, the fault and the line of the whole.
+fn is_lexed_in_two(alloc: Global, row: &Row<'_>, cut: usize) -> Result<bool, Fail> {
+    let (text, limit, tokens, fault, line) = *row;
+    let mut lexer = Lexer::new(limits(limit));
+    let mut read = Read {
+        tokens: String::new(alloc),
+        fault: None,
+        line: 1,
+    };
+    let (front, rest) = text.split_at(cut.min(text.len()));
+    take(alloc, &mut lexer, &mut read, front)?;
+    take(alloc, &mut lexer, &mut read, rest)?;
+    let fed = lexer.finish(alloc);
+    keep_all(alloc, &mut read, fed)?;
+    Ok(read.tokens.as_str() == tokens && read.fault == fault && lexer.line() == line)
 }
 
 #[test]
-fn takes_a_whole_front(rt: HostRuntime) -> Result<(), Fail> {
-    for (before, text, count) in [
-        ("", "  \n\t", 4),
-        ("", "  \nx", 4),
-        ("", " ab' c", 4),
-        ("", " 'a", 1),
-        ("(; ", "a ( b \n ;) c", 10),
-        ("(; ", "a (; b ;) c ;", 13),
-        ("na", "me' : x", 3),
-        ("x ", ": y", 0),
-        ("{|", "abc", 0),
-        ("$", "abc", 0),
-    ] {
-        let found = passed(rt.alloc(), before, text);
-        assert!(rt; found == Some(count), "at {text} behind {before}");
+fn any_cut_of_a_text_gives_the_same_tokens(rt: HostRuntime) -> Result<(), Fail> {
+    for row in &ROWS {
+        for cut in 0..=row.0.len() {
+            assert!(rt; is_lexed_in_two(rt.alloc(), row, cut)?, "at {:?} cut behind {cut}", row.0);
+        }
     }
     Ok(())
 }

@@ -1,7 +1,7 @@
-use Rattle.std.proofs.Common.{refl, sym, ap, subst, ◌∙◌, ◌≡◌, ◌++◌, [], List, ℕ}
+use Rattle.std.proofs.Common.{sym, ap, subst, ◌∙◌, ◌++◌, [], List}
 use Rattle.std.proofs.lemmas.List.{append-nil, append_assoc}
 use Rattle.std.proofs.lemmas.Result.{err_from_is_err_and}
-use Rattle.std.specs.Prelude.{Ok, None, Some, reverse, unwrap_or}
+use Rattle.std.specs.Prelude.{reverse, unwrap_or}
 use Rattle.dk_lexer.specs.declared.token.Token.{Token}
 use Rattle.dk_lexer.specs.Tokens.{broken, tokens}
 use Rattle.file_reader.specs.Progress.{GoesOnBehind}

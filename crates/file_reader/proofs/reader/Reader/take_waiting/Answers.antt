@@ -4,7 +4,7 @@ use Rattle.std.proofs.lemmas.Result.{err_from_is_err_and}
 use Rattle.std.specs.Prelude.{reverse, take, vec_len, ◌-◌}
 use Rattle.dk_lexer.specs.declared.token.Token.{Token}
 use Rattle.file_reader.specs.Progress.{GoesOnBehind}
-use Rattle.file_reader.proofs.Waiting.{Comes, none_more, one_more, reverse_last}
+use Rattle.file_reader.proofs.Waiting.{none_more, one_more, reverse_last}
 use Rattle.file_reader.proofs.reader.Reader.take_waiting.Goals as goal
 
 pub loop-token-init : goal.loop-token-init
