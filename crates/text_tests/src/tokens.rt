@@ -143,12 +143,7 @@ fn reads_each_file_of_one_byte(rt: HostRuntime) -> Result<(), Fail> {
 }
 
 // Takes the bytes of a piece.
-fn take(
-    alloc: Global,
-    lexer: &mut Lexer,
-    read: &mut Read,
-    piece: &[u8],
-) -> Result<(), Fail> {
+fn take(alloc: Global, lexer: &mut Lexer, read: &mut Read, piece: &[u8]) -> Result<(), Fail> {
     let mut waiting = Vec::new(alloc);
     let Ok(fault) = lexer.take(alloc, piece, &mut waiting) else {
         return Err(NoMemory.into());
@@ -181,7 +176,11 @@ fn is_lexed_in_two(alloc: Global, row: &Row<'_>, cut: usize) -> Result<bool, Fai
 fn any_cut_of_a_text_gives_the_same_tokens(rt: HostRuntime) -> Result<(), Fail> {
     for row in &ROWS {
         for cut in 0..=row.0.len() {
-            assert!(rt; is_lexed_in_two(rt.alloc(), row, cut)?, "at {:?} cut behind {cut}", row.0);
+            assert!(rt;
+                is_lexed_in_two(rt.alloc(), row, cut)?,
+                "at {:?} cut behind {cut}",
+                row.0
+            );
         }
     }
     Ok(())
