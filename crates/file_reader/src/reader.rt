@@ -193,12 +193,7 @@ impl Reader {
     }
 
     /// Takes the next bytes: their tokens one by one, then a fault of the bytes, if one stands.
-    pub fn feed<J: Judge>(
-        &mut self,
-        alloc: Global,
-        judge: &mut J,
-        bytes: &[u8],
-    ) -> Result<(), Halt>
+    pub fn feed<J: Judge>(&mut self, alloc: Global, judge: &mut J, bytes: &[u8]) -> Result<(), Halt>
         requires ready { J.ready judge.old }
         ensures fixed { J.fixed judge.new ≡ J.fixed judge.old }
         ensures ready { LeavesJudge J.ready J.over judge.new result }
