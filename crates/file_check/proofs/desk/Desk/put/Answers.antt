@@ -1,9 +1,14 @@
 use Rattle.std.proofs.Common.{◌≡◌, ◌∷◌, ◌++◌, [], List, Bool, ap, sym, subst, ◌∙◌}
+use Rattle.board_core.specs.Machine.{MaySettle}
 use Rattle.verdict_book.specs.declared.title.Title.{Title}
 use Rattle.file_check.specs.declared.job.Job.{Job}
+use Rattle.file_check.specs.Jobs.{due, early}
 use Rattle.file_check.specs.Desks.{IsSound, known_at}
 use Rattle.file_check.proofs.Desking.{before_last, sound_kept, sound_put}
 use Rattle.file_check.proofs.desk.Desk.put.Goals as goal
+
+pub put-requires-clause-settled : goal.put-requires-clause-settled
+put-requires-clause-settled g c = subst (λ (j : Job). MaySettle due early (j, c.args.prepared.settled)) (sym c.in-Ok.ensures.ok) c.requires.settled
 
 pub returns-in-Ok-put-clause-sound : goal.returns-in-Ok-put-clause-sound
 returns-in-Ok-put-clause-sound g c =
@@ -15,6 +20,14 @@ returns-in-Ok-put-clause-sound g c =
     subst (λ (ts : List Title). IsSound limits ts c.put.new.pass.seat.me.0.known) (sym c.in-Ok-push.ensures.ok)
     (subst (λ (js : List (Job × Bool)). IsSound limits (c.args.self.now.titles ++ p.title ∷ []) js) (sym known_is)
     (sound_put limits c.args.self.now.titles p.title known p.job p.settled c.requires.sound c.requires.few c.requires.title))
+
+pub returns-in-Err-Stopped-clause-puts : goal.returns-in-Err-Stopped-clause-puts
+returns-in-Err-Stopped-clause-puts g c =
+    let refused = c.in-Err-Stopped.ensures.refused in
+    let reason = rw c.in-Err-Stopped.field-0-is at refused.reason in (
+      record { jobs = refused.known; titles = c.pop.ensures ∙ before_last c.args.self.now.titles c.push.new.self c.args.prepared.title c.in-Ok-push.ensures.ok },
+      reason.1,
+    )
 
 pub returns-in-Err-Stopped-clause-sound : goal.returns-in-Err-Stopped-clause-sound
 returns-in-Err-Stopped-clause-sound g c =

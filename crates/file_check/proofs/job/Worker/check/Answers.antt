@@ -1,0 +1,7 @@
+use Rattle.file_report.specs.Jobs.{due_of}
+use Rattle.file_check.specs.Jobs.{job_of}
+use Rattle.file_check.proofs.Preparing.{verdict_or_memory}
+use Rattle.file_check.proofs.job.Worker.check.Goals as goal
+
+pub returns : goal.returns
+returns c = verdict_or_memory (due_of (job_of c.args.job.now)) c.check_stored.result c.check_stored.ensures.due
