@@ -58,14 +58,6 @@ ends_name class.Quote = false
 ends_name class.Dot = false
 ends_name _ = true
 
--- it ends a name and a dot behind it
-abbrev pub ends_dot : Class → Bool
-ends_dot class.Letter = false
-ends_dot class.Digit = false
-ends_dot class.Underscore = false
-ends_dot class.OpenBrace = false
-ends_dot _ = true
-
 abbrev pub is_newline_class : Class → Bool
 is_newline_class class.Newline = true
 is_newline_class _ = false

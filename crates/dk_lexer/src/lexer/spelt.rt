@@ -2,7 +2,7 @@
 ghost use Rattle.std.specs.Prelude.{◌≡◌, ◌≤◌, ◌<◌, ◌+◌, ◌++◌, ◌∷◌, [], true, IfErr, IfOk, OnErr, OnOk, Some, length, slice_get};
 ghost use Rattle.dk_lexer.specs.Classes.{class_of};
 ghost use Rattle.dk_lexer.specs.Parts.{begins_name};
-ghost use Rattle.dk_lexer.specs.Takes.{Exhausts, Takes, class_at, ends_dot, ends_name, front_sign};
+ghost use Rattle.dk_lexer.specs.Takes.{Exhausts, Takes, class_at, ends_name, front_sign};
 
 use super::Lexer;
 use super::front::{at_most, name_length};
@@ -31,16 +31,6 @@ fn ends_name(class: Class) -> bool
     !matches!(
         class,
         Class::Letter | Class::Digit | Class::Underscore | Class::Quote | Class::Dot
-    )
-}
-
-// It ends a name and a dot behind it.
-fn ends_dot(class: Class) -> bool
-    ensures { result ≡ ends_dot class }
-{
-    !matches!(
-        class,
-        Class::Letter | Class::Digit | Class::Underscore | Class::OpenBrace
     )
 }
 
@@ -81,8 +71,7 @@ fn front_sign(class: Class, next: Option<Class>) -> Option<(Sign, usize)>
 }
 
 impl Lexer {
-    // A name that begins with this byte, as far as its bytes are there: with its token where the byte behind it ends it,
-    // and with a dot that is the sign where the byte behind the dot says so.
+    // A name that begins with this byte, as far as its bytes are there, with its token where the byte behind it ends it.
     pub(super) fn name(
         &mut self,
         alloc: Global,
