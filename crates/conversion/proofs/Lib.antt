@@ -12,3 +12,4 @@ mod Comparing
 mod Waiting
 mod References
 mod Pooling
+mod Treeing

@@ -11,3 +11,4 @@ pub mod Spine
 pub mod Owned
 pub mod Given
 pub mod Clauses
+pub mod Trees

@@ -5,6 +5,7 @@
 #![tactic(auto)]
 
 mod brought;
+mod calls;
 mod compare;
 mod evaluate;
 mod known;
@@ -17,6 +18,8 @@ mod rules;
 mod selection;
 mod state;
 mod table;
+mod trees;
 mod turn;
+mod walks;
 
 pub use state::PoolReducer;

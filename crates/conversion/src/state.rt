@@ -2,6 +2,8 @@
 ghost use Rattle.std.specs.Prelude.{◌≡◌, IfOk};
 
 use crate::table::Table;
+use crate::trees::Trees;
+use crate::walks::Walks;
 use dk_model::NoMemory;
 use shared_term::{Pool, TermId};
 use std::alloc::Global;
@@ -44,6 +46,9 @@ pub struct PoolReducer {
     pub(crate) normals: Table<Value>,
     /// The answers of comparisons, each by its two terms.
     pub(crate) answers: Table<Answer>,
+    /// The trees of symbols whose rules were gone through often. A call from outside takes them out while it runs.
+    pub(crate) trees: Trees,
+    pub(crate) walks: Walks,
     /// How many comparisons and normal forms that rules ask for are inside each other.
     pub(crate) nested: u32,
 }
@@ -70,7 +75,6 @@ impl PoolReducer {
     ghost use Rattle.conversion.specs.Reducers.{Serves};
 
     /// An empty pool. It serves whichever version is used first.
-    #[tactic(auto, using(crate::proofs::Serving::loaded_blank, crate::proofs::Serving::heads_blank, crate::proofs::Serving::values_blank, crate::proofs::Serving::normals_blank, crate::proofs::Serving::answers_blank))]
     pub fn new(alloc: Global) -> Result<PoolReducer, NoMemory>
         ensures empty { IfOk result (λ r. r.pool ≡ []) }
         ensures serves { IfOk result (λ r. (S : PlainSignature) → Serves S r) }
@@ -92,6 +96,7 @@ impl PoolReducer {
                 units: 0,
             },
         )?;
+        let walks = Walks::new(alloc)?;
         Ok(PoolReducer {
             alloc,
             pool,
@@ -100,13 +105,14 @@ impl PoolReducer {
             values,
             normals,
             answers,
+            trees: Trees::new(alloc),
+            walks,
             nested: 0,
         })
     }
 
     /// Forgets every term and all that was worked out, so that another version may be used. The memory is kept, but for
     /// that of a very large pool.
-    #[tactic(auto, using(crate::proofs::Serving::loaded_blank, crate::proofs::Serving::heads_blank, crate::proofs::Serving::values_blank, crate::proofs::Serving::normals_blank, crate::proofs::Serving::answers_blank))]
     pub fn clear(&mut self)
         ensures empty { self.new.pool ≡ [] }
         ensures serves { (S : PlainSignature) → Serves S self.new }
@@ -122,6 +128,8 @@ impl PoolReducer {
         self.values.clear();
         self.normals.clear();
         self.answers.clear();
+        self.trees = Trees::new(self.alloc);
+        self.walks.clear();
     }
 }
 

@@ -28,6 +28,14 @@ use Rattle.signature_log.specs.contracts.rule_list.Listing as Listing
 use Rattle.signature_log.specs.contracts.rule_list.RuleList as RuleList
 use Rattle.signature_log.specs.contracts.version.Version as Version
 use Rattle.command_check.specs.contracts.stored.StoredCommand as StoredCommand
+use Rattle.rule_match.specs.contracts.cell.KeptCell as KeptCell
+use Rattle.rule_match.specs.contracts.cell.KeptRow as KeptRow
+use Rattle.rule_match.specs.contracts.branch.Branch as TreeBranch
+use Rattle.rule_match.specs.contracts.branch.Node as TreeNode
+use Rattle.rule_match.specs.contracts.side.Side as Side
+use Rattle.rule_match.specs.contracts.tree.Tree as Tree
+use Rattle.conversion.specs.contracts.trees.SymbolTree as SymbolTree
+use Rattle.conversion.specs.contracts.trees.Trees as Trees
 use Rattle.file_check.specs.contracts.job.Job as Job
 
 -- blocks of what may go to any thread, and be shared
@@ -171,6 +179,33 @@ pat_send = let a = stored_send in search (sendable, crosses, PatKnot.crosses) de
 
 pat_sync : IsSync (Pat.the_row Stored.the_row)
 pat_sync = let a = stored_sync in search (sendable, crosses, PatKnot.crosses) depth 40 fits 20000
+
+cell_send : IsSend KeptCell.the_field.row
+cell_send = let a = pat_send in let b = stored_send in search (sendable, crosses, PatKnot.crosses) depth 40 fits 20000
+
+kept_row_send : IsSend KeptRow.the_row
+kept_row_send = let a = cell_send in search (sendable, crosses) depth 40 fits 20000
+
+tree_branch_send : IsSend TreeBranch.the_row
+tree_branch_send = search (sendable, crosses) depth 40 fits 20000
+
+tree_node_send : IsSend TreeNode.the_row
+tree_node_send = let a = kept_row_send in let b = tree_branch_send in search (sendable, crosses) depth 40 fits 20000
+
+side_send : IsSend Side.the_row
+side_send = let a = cell_send in search (sendable, crosses) depth 40 fits 20000
+
+tree_send : IsSend Tree.the_field.row
+tree_send = let a = side_send in let b = tree_node_send in search (sendable, crosses) depth 40 fits 20000
+
+symbol_tree_send : IsSend SymbolTree.the_row
+symbol_tree_send = let a = tree_send in search (sendable, crosses) depth 40 fits 20000
+
+pub trees_send : IsSend Trees.the_field.row
+trees_send = let a = symbol_tree_send in search (sendable, crosses) depth 40 fits 20000
+
+pub trees_row_send : IsSend Trees.the_row
+trees_row_send = let a = symbol_tree_send in search (sendable, crosses) depth 40 fits 20000
 
 stored_rule_send : IsSend (Rule.the_row Stored.the_row)
 stored_rule_send = let a = stored_send in let b = pat_send in search (sendable, crosses) depth 40 fits 20000

@@ -1,4 +1,5 @@
 mod Refining
+mod Grouping
 mod Compiling
 mod Siding
 pub mod Walking

@@ -7,25 +7,27 @@ use Rattle.std.proofs.lemmas.Bool.Decides.{nat_tests}
 use Rattle.dk_model.specs.Signatures.{PlainRule}
 use Rattle.dk_model.specs.Matrix.{blank, cell, first_cells, rows_for, width}
 use Rattle.dk_model.specs.Matrix.{Row as PlainRow}
-use Rattle.dk_model.specs.declared.signature.Rule.{Rule}
-use Rattle.dk_model.specs.declared.signature.Pat.{Pat}
-use Rattle.shared_term.specs.declared.stored.Stored.{Stored}
 use Rattle.rule_match.specs.declared.branch.Node.{Node}
 use Rattle.rule_match.specs.declared.cell.Row.{Row}
 use Rattle.rule_match.specs.declared.side.Side.{Side}
-use Rattle.rule_match.specs.Rows.{kept_cell, plain_cell, pattern_cell, row, rule_at}
-use Rattle.rule_match.specs.Sides.{plain_rule_of, IsSide, AreSides, widest}
+use Rattle.rule_match.specs.declared.walk.LeftSide.{LeftSide}
+use Rattle.rule_match.specs.Rows.{kept_cell, plain_cell, row, rule_at}
+use Rattle.rule_match.specs.Sides.{IsSide, AreSides, AreLeftSides, IsCopy, AreCopies, widest}
 use Rattle.rule_match.specs.Branches.{AddsRows}
-use Rattle.rule_match.proofs.Refining.{each_cell}
 
-pub side_made : (r : Rule Stored) (s : Side) (ps : List (Pat Stored)) → ps ≡ r.pats → map kept_cell s.patterns.items ≡ map pattern_cell ps → s.vars ≡ r.vars → IsSide (plain_rule_of r) s
-side_made r s ps e q v = record { patterns = q ∙ ap (map pattern_cell) e ∙ flip (each_cell r.pats); vars = v }
+pub copy_pushed : (ls : List LeftSide) (ss : List Side) (l : LeftSide) (s : Side) → AreCopies ls ss → IsCopy l s → AreCopies (ls ++ (l ∷ [])) (ss ++ (s ∷ []))
+copy_pushed [] [] l s h k = (k, tt)
+copy_pushed [] (x ∷ ss) l s h k = absurd h
+copy_pushed (x ∷ ls) [] l s h k = absurd h
+copy_pushed (x ∷ ls) (y ∷ ss) l s h k = (h.0, copy_pushed ls ss l s h.1 k)
 
-pub side_pushed : (rs : List PlainRule) (ss : List Side) (r : PlainRule) (s : Side) → AreSides rs ss → IsSide r s → AreSides (rs ++ (r ∷ [])) (ss ++ (s ∷ []))
-side_pushed [] [] r s h k = (k, tt)
-side_pushed [] (x ∷ ss) r s h k = absurd h
-side_pushed (x ∷ rs) [] r s h k = absurd h
-side_pushed (x ∷ rs) (y ∷ ss) r s h k = (h.0, side_pushed rs ss r s h.1 k)
+pub sides_copied : (rs : List PlainRule) (ls : List LeftSide) (ss : List Side) → AreCopies ls ss → AreLeftSides rs ls → AreSides rs ss
+sides_copied [] [] [] h k = tt
+sides_copied [] [] (s ∷ ss) h k = absurd h
+sides_copied [] (l ∷ ls) ss h k = absurd k
+sides_copied (r ∷ rs) [] ss h k = absurd k
+sides_copied (r ∷ rs) (l ∷ ls) [] h k = absurd h
+sides_copied (r ∷ rs) (l ∷ ls) (s ∷ ss) h k = (record { patterns = h.0.0 ∙ k.0.patterns; vars = h.0.1 ∙ k.0.vars }, sides_copied rs ls ss h.1 k.1)
 
 pub side_count : (r : PlainRule) (s : Side) → IsSide r s → length s.patterns.items ≡ length r.pats
 side_count r s h = flip (length-map s.patterns.items kept_cell) ∙ ap length h.patterns ∙ length-map r.pats cell

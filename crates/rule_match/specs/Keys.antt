@@ -1,5 +1,5 @@
 -- The heads that patterns tell apart, and the rows that are kept where a column's value has such a head (docs/evaluation.md).
-use Rattle.std.specs.Prelude.{ℕ, ◌+◌, Bool, true, false, ◌&&◌, List, [], ◌∷◌, ◌++◌, take, drop, replicate, eqb, length, map, if◌then◌else◌}
+use Rattle.std.specs.Prelude.{ℕ, ◌+◌, Bool, true, false, ◌&&◌, List, [], ◌∷◌, ◌++◌, take, drop, replicate, eqb, nat_lt, length, map, if◌then◌else◌}
 use Rattle.dk_model.specs.Trees.{Tree, symbol, variable, bare}
 use Rattle.dk_model.specs.Signatures.{symbol_pattern, variable_pattern, abstraction_pattern, pattern_list}
 use Rattle.dk_model.specs.Spines.{head, arguments}
@@ -16,6 +16,29 @@ key_at t n = Other n
 abbrev pub key_of : Tree → Key
 key_of (bare b) = Abstraction
 key_of t = key_at (head t) (length (arguments t))
+
+-- the order of heads: by their form, then by their number, then by how many arguments they have
+abbrev pub form : Key → ℕ
+form (Symbol k n) = 0
+form (Variable k n) = 1
+form Abstraction = 2
+form (Other n) = 3
+
+abbrev pub number_of : Key → ℕ
+number_of (Symbol k n) = k
+number_of (Variable k n) = k
+number_of Abstraction = 0
+number_of (Other n) = 0
+
+abbrev pub count_of : Key → ℕ
+count_of (Symbol k n) = n
+count_of (Variable k n) = n
+count_of Abstraction = 0
+count_of (Other n) = n
+
+abbrev pub comes_before : Key → Key → Bool
+comes_before a b =
+    if eqb (form a) (form b) then (if eqb (number_of a) (number_of b) then nat_lt (count_of a) (count_of b) else nat_lt (number_of a) (number_of b)) else nat_lt (form a) (form b)
 
 -- how many columns a value with this head opens
 abbrev pub parts : Key → ℕ

@@ -1,6 +1,7 @@
 pub mod Keys
 pub mod Rows
 pub mod Branches
+pub mod Groups
 pub mod Sides
 pub mod Trees
 pub mod Columns

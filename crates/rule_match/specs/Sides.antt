@@ -1,17 +1,10 @@
 -- The left sides of a symbol's rules, as the code holds them.
 use Rattle.std.specs.Prelude.{ℕ, ◌≡◌, List, [], ◌∷◌, map, length, max}
-use Rattle.dk_model.specs.Signatures.{PlainRule, rule_by}
+use Rattle.dk_model.specs.Signatures.{PlainRule}
 use Rattle.dk_model.specs.Matrix.{cell}
-use Rattle.dk_model.specs.declared.signature.Rule.{Rule}
-use Rattle.shared_term.specs.declared.stored.Stored.{Stored}
-use Rattle.shared_term.specs.Storage.{stored_term}
 use Rattle.rule_match.specs.declared.side.Side.{Side}
 use Rattle.rule_match.specs.declared.walk.LeftSide.{LeftSide}
 use Rattle.rule_match.specs.Rows.{kept_cell, pattern_cell}
-
--- a rule over stored terms
-abbrev pub plain_rule_of : Rule Stored → PlainRule
-plain_rule_of = rule_by stored_term
 
 -- the left side of this rule
 pub record IsSide (r : PlainRule) (s : Side) : Type 0 where
@@ -41,3 +34,14 @@ AreLeftSides [] [] = Unit {0}
 AreLeftSides [] (s ∷ ss) = ⊥
 AreLeftSides (r ∷ rs) [] = ⊥
 AreLeftSides (r ∷ rs) (s ∷ ss) = IsLeftSide r s × AreLeftSides rs ss
+
+-- a copy of a left side
+abbrev pub IsCopy : LeftSide → Side → Type 0
+IsCopy l s = (map kept_cell s.patterns.items ≡ map pattern_cell l.patterns.now) × (s.vars ≡ l.vars)
+
+-- those of these left sides, in order
+abbrev pub AreCopies : List LeftSide → List Side → Type 0
+AreCopies [] [] = Unit {0}
+AreCopies [] (s ∷ ss) = ⊥
+AreCopies (l ∷ ls) [] = ⊥
+AreCopies (l ∷ ls) (s ∷ ss) = IsCopy l s × AreCopies ls ss

@@ -1,8 +1,9 @@
 //! The head of a value, as far as patterns tell heads apart.
 ghost use Rattle.std.specs.Prelude.{◌≡◌, IsTrue};
+ghost use Rattle.rule_match.specs.Keys.{form, number_of, count_of, comes_before};
 
 /// What a test of a value's head finds, with the number of the value's arguments.
-#[derive(Clone, Copy)]
+#[derive(Clone, Copy, PartialEq, Eq, PartialOrd, Ord)]
 pub(crate) enum Key {
     Symbol(u32, usize),
     Variable(u64, usize),
@@ -25,7 +26,9 @@ pub(crate) fn same(a: Key, b: Key) -> bool
 }
 
 /// A number for each form of a head.
-fn form(key: Key) -> u8 {
+fn form(key: Key) -> u8
+    ensures { result ≡ form key }
+{
     match key {
         Key::Symbol(_, _) => 0,
         Key::Variable(_, _) => 1,
@@ -35,7 +38,10 @@ fn form(key: Key) -> u8 {
 }
 
 /// The head's number and the number of its arguments.
-fn numbers(key: Key) -> (u64, usize) {
+fn numbers(key: Key) -> (u64, usize)
+    ensures number { result.0 ≡ number_of key }
+    ensures count { result.1 ≡ count_of key }
+{
     match key {
         Key::Symbol(number, count) => (u64::from(number), count),
         Key::Variable(number, count) => (number, count),
@@ -45,7 +51,9 @@ fn numbers(key: Key) -> (u64, usize) {
 }
 
 /// Whether the one stands before the other in a list of branches.
-pub(crate) fn is_before(a: Key, b: Key) -> bool {
+pub(crate) fn is_before(a: Key, b: Key) -> bool
+    ensures { result ≡ comes_before a b }
+{
     let (first, m) = numbers(a);
     let (second, n) = numbers(b);
     if form(a) != form(b) {

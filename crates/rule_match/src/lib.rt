@@ -6,6 +6,7 @@
 
 mod branch;
 mod cell;
+mod group;
 mod key;
 mod left;
 mod matcher;

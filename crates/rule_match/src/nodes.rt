@@ -4,11 +4,11 @@ ghost use Rattle.dk_model.specs.Signatures.{PlainRule};
 ghost use Rattle.rule_match.specs.Rows.{row as row_of};
 ghost use Rattle.rule_match.specs.Branches.{AreTests, AddsRows};
 
-use crate::branch::{Node, found, put_branch};
-use crate::cell::{Cell, Row, kept_rows};
-use crate::key::Key;
-use crate::refine::{cell_of, refined_rows, rigid_at, untried};
-use dk_model::{NoMemory, Pat};
+use crate::branch::{Node, put_branch};
+use crate::cell::{Row, kept_rows};
+use crate::group::grouped;
+use crate::refine::{rigid_at, untried};
+use dk_model::NoMemory;
 use std::alloc::Global;
 
 /// How many rows come before the first one that asks for a head, and the column whose head that one asks for.
@@ -19,23 +19,6 @@ fn test_of(rows: &[Row]) -> (usize, usize) {
         }
     }
     (rows.len(), 0)
-}
-
-/// The head that a row asks for in a column.
-fn key_at(row: &Row, column: usize) -> Option<Key> {
-    match cell_of(row.cells.as_slice(), column) {
-        Cell::Blank => None,
-        Cell::Pattern(pattern) => match pattern {
-            Pat::Sym(symbol, patterns) => Some(Key::Symbol(*symbol, patterns.len())),
-            Pat::Var(variable, patterns) => {
-                Some(Key::Variable(u64::from(*variable), patterns.len()))
-            }
-            Pat::Abs(_) => Some(Key::Abstraction),
-            Pat::Rvar(_, _) => None,
-            Pat::Any => None,
-            Pat::Guard(_) => None,
-        },
-    }
 }
 
 /// Puts a node for these rows behind those that it goes to, and answers its place. None where the budget of nodes
@@ -56,16 +39,12 @@ pub(crate) fn compiled(
     }
     *budget -= 1;
     let (tried, column) = test_of(rows);
+    let groups = grouped(alloc, column, untried(rows, tried))?;
     let mut branches = Vec::new(alloc);
-    for at in tried..rows.len() {
-        if let Some(key) = key_at(&rows[at], column) {
-            if found(branches.as_slice(), key).is_none() {
-                let kept = refined_rows(alloc, key, column, untried(rows, tried))?;
-                match compiled(alloc, nodes, kept.as_slice(), budget)? {
-                    None => return Ok(None),
-                    Some(node) => put_branch(&mut branches, key, node)?,
-                }
-            }
+    for group in &groups {
+        match compiled(alloc, nodes, group.rows.as_slice(), budget)? {
+            None => return Ok(None),
+            Some(node) => put_branch(&mut branches, group.key, node)?,
         }
     }
     let place = nodes.len();

@@ -3,11 +3,12 @@ ghost use Rattle.std.specs.Prelude.{◌≡◌, ◌-◌, ◌++◌, IfOk, List, le
 ghost use Rattle.dk_model.specs.Signatures.{PlainRule};
 ghost use Rattle.dk_model.specs.Matrix.{blank, width, rows_for};
 ghost use Rattle.rule_match.specs.Rows.{plain_cell, kept_cell as plain_kept, pattern_cell, row as row_of};
-ghost use Rattle.rule_match.specs.Sides.{plain_rule_of, IsSide, AreSides, widest};
+ghost use Rattle.rule_match.specs.Sides.{AreSides, AreLeftSides, IsCopy, widest};
 
 use crate::cell::{KeptCell, Row, kept_pattern, seen_cells};
 use crate::refine::push_blanks;
-use dk_model::{NoMemory, Pat, Rule};
+use crate::walk::LeftSide;
+use dk_model::{NoMemory, Pat};
 use shared_term::Stored;
 use std::alloc::Global;
 
@@ -30,29 +31,27 @@ fn kept_patterns(alloc: Global, patterns: &[Pat<Stored>]) -> Result<Vec<KeptCell
     Ok(kept)
 }
 
-/// A copy of the rule's left side.
-#[tactic(auto, using(crate::proofs::Siding::side_made))]
-fn side_of(alloc: Global, rule: &Rule<Stored>) -> Result<Side, NoMemory>
-    ensures { IfOk result (IsSide (plain_rule_of rule.now)) }
+/// A copy of a left side.
+fn side_of(alloc: Global, side: &LeftSide) -> Result<Side, NoMemory>
+    ensures { IfOk result (IsCopy side.now) }
 {
-    let patterns = kept_patterns(alloc, rule.pats.as_slice())?;
+    let patterns = kept_patterns(alloc, side.patterns)?;
     Ok(Side {
         patterns,
-        vars: rule.vars,
+        vars: side.vars,
     })
 }
 
-/// Copies of the rules' left sides.
-#[tactic(auto, using(crate::proofs::Siding::side_pushed))]
-pub(crate) fn sides_of(alloc: Global, rules: &[&Rule<Stored>]) -> Result<Vec<Side>, NoMemory>
-    ensures { IfOk result
-        (λ sides. AreSides (map (λ r. plain_rule_of r.now) rules.now) sides.items) }
+/// Copies of left sides.
+pub(crate) fn sides_of(alloc: Global, sides: &[LeftSide]) -> Result<Vec<Side>, NoMemory>
+    ensures { IfOk result (λ copies. (rules : List PlainRule) → AreLeftSides rules sides.now
+        → AreSides rules copies.items) }
 {
-    let mut sides = Vec::new(alloc);
-    for rule in rules {
-        sides.push(side_of(alloc, rule)?)?;
+    let mut copies = Vec::new(alloc);
+    for side in sides {
+        copies.push(side_of(alloc, side)?)?;
     }
-    Ok(sides)
+    Ok(copies)
 }
 
 /// The greatest number of patterns.

@@ -4,7 +4,7 @@ ghost use Rattle.shared_term.specs.Pools.{Extends};
 ghost use Rattle.rule_match.specs.Columns.{AreWithin};
 ghost use Rattle.rule_match.specs.Matching.{IsMatcher, Awaits};
 
-use crate::{Answer, Ask, Matcher, Tree, compile};
+use crate::{Answer, Ask, LeftSide, Matcher, Tree, compile};
 use dk_model::{Listed, NoMemory, NodeOf, Pat, Rule, Term};
 use shared_term::{Pool, Stored, TermId};
 use std::alloc::Global;
@@ -62,11 +62,14 @@ fn same_rules(alloc: Global) -> Result<Listed<Rule<Stored>>, NoMemory> {
 }
 
 fn tree_of(alloc: Global, rules: &[Rule<Stored>]) -> Result<Tree, NoMemory> {
-    let mut listed = Vec::new(alloc);
+    let mut sides = Vec::new(alloc);
     for rule in rules {
-        listed.push(rule)?;
+        sides.push(LeftSide {
+            patterns: rule.pats.as_slice(),
+            vars: rule.vars,
+        })?;
     }
-    compile(alloc, listed.as_slice())
+    compile(alloc, sides.as_slice())
 }
 
 /// What a selection is told for what it asked.

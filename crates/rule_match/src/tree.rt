@@ -1,16 +1,16 @@
 //! The tree of a symbol's rules.
-ghost use Rattle.std.specs.Prelude.{◌≡◌, ◌≤◌, IfOk, IfSome, List, map};
+ghost use Rattle.std.specs.Prelude.{◌≡◌, ◌≤◌, IfOk, IfSome, List};
 ghost use Rattle.dk_model.specs.Signatures.{PlainRule};
 ghost use Rattle.dk_model.specs.Matrix.{rows_for};
-ghost use Rattle.rule_match.specs.Sides.{plain_rule_of, AreSides};
+ghost use Rattle.rule_match.specs.Sides.{AreSides, AreLeftSides};
 ghost use Rattle.rule_match.specs.Branches.{AreTests, AddsRows};
 ghost use Rattle.rule_match.specs.Trees.{IsTree};
 
 use crate::branch::Node;
 use crate::nodes::compiled;
 use crate::side::{Side, rows_for, sides_of, widest};
-use dk_model::{NoMemory, Rule};
-use shared_term::Stored;
+use crate::walk::LeftSide;
+use dk_model::NoMemory;
 use std::alloc::Global;
 
 /// How many nodes a tree has at most.
@@ -45,11 +45,12 @@ fn rooted(
     compiled(alloc, nodes, rows.as_slice(), &mut budget)
 }
 
-/// The rules of one symbol as a tree of tests; past the limit of nodes as rows.
-pub fn compile(alloc: Global, rules: &[&Rule<Stored>]) -> Result<Tree, NoMemory>
-    ensures { IfOk result (IsTree (map (λ r. plain_rule_of r.now) rules.now)) }
+/// The rules of one symbol, by their left sides, as a tree of tests; past the limit of nodes as rows.
+pub fn compile(alloc: Global, sides: &[LeftSide]) -> Result<Tree, NoMemory>
+    ensures { IfOk result (λ tree. (rules : List PlainRule) → AreLeftSides rules sides.now
+        → IsTree rules tree) }
 {
-    let sides = sides_of(alloc, rules)?;
+    let sides = sides_of(alloc, sides)?;
     let widest = widest(sides.as_slice());
     let mut nodes = Vec::new(alloc);
     let root = rooted(alloc, &mut nodes, sides.as_slice(), widest)?;

@@ -2,6 +2,8 @@
 #![tactic(auto)]
 
 #[cfg(test)]
+mod many_rules;
+#[cfg(test)]
 mod pool_forms;
 #[cfg(test)]
 mod pools;

@@ -56,11 +56,11 @@ pub fn numeral(alloc: Global, count: usize) -> Result<Term, NoMemory> {
     Ok(term)
 }
 
-fn rule_variable(alloc: Global, number: u32) -> Pat<Stored> {
+pub fn rule_variable(alloc: Global, number: u32) -> Pat<Stored> {
     Pat::Rvar(number, Listed::new(alloc))
 }
 
-fn symbol_alone(alloc: Global, symbol: u32) -> Pat<Stored> {
+pub fn symbol_alone(alloc: Global, symbol: u32) -> Pat<Stored> {
     Pat::Sym(symbol, Listed::new(alloc))
 }
 
@@ -69,7 +69,7 @@ fn successor(alloc: Global, number: u32) -> Result<Pat<Stored>, NoMemory> {
     Ok(Pat::Sym(S, inner))
 }
 
-fn one(pattern: Pat<Stored>, alloc: Global) -> Result<Listed<Pat<Stored>>, NoMemory> {
+pub fn one(pattern: Pat<Stored>, alloc: Global) -> Result<Listed<Pat<Stored>>, NoMemory> {
     let mut patterns = Listed::new(alloc);
     patterns.push(pattern)?;
     Ok(patterns)
@@ -85,7 +85,7 @@ fn two(
     Ok(patterns)
 }
 
-fn rule(
+pub fn rule(
     alloc: Global,
     head: u32,
     vars: u32,

@@ -8,8 +8,8 @@ use Rattle.rule_match.proofs.nodes.+compiled.Given as goal
 abbrev pub decreases-compiled : goal.decreases-compiled
 decreases-compiled l = l.budget.now
 
-abbrev pub invariant-loop-at : goal.invariant-loop-at
-invariant-loop-at l = record {
+abbrev pub invariant-loop-group : goal.invariant-loop-group
+invariant-loop-group l = record {
   spent : l.budget < l.fn.budget;
   branching : (rules : List PlainRule) → AreTests rules l.fn.nodes.items → Branching rules l.fn.nodes.items l.nodes.items l.column (drop l.tried (map (row rules) l.rows)) l.branches.items;
 }

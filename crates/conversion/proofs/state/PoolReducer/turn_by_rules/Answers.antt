@@ -30,12 +30,12 @@ returns-in_ok-body-in-Some-Body-clause-gives c = λ n.
       l.within,
     )
 
-pub returns-in_ok-selection_before-in-Some-Rule-clause-gives : goal.returns-in_ok-selection_before-in-Some-Rule-clause-gives
-returns-in_ok-selection_before-in-Some-Rule-clause-gives c = λ n. (
-  symbol_selects_from (entries_of c.args.version.now) c.args.self.now.pool c.args.stack.now c.args.symbol (row_rules c.args.symbol c.rules_of-rules.result) c.in_ok-selection_before-in-Some-Rule.field-0
-      c.rules_of-rules.ensures c.in_ok-selection_before-in-Some-Rule.ensures.starts n,
-  selection_within (entries_of c.args.version.now) c.args.self.now.pool c.args.stack.now c.args.symbol (row_rules c.args.symbol c.rules_of-rules.result) c.in_ok-selection_before-in-Some-Rule.field-0
-      c.rules_of-rules.ensures c.in_ok-selection_before-in-Some-Rule.ensures.starts c.requires.stack c.in_ok-selection_before-in-Some-Rule.ensures.within,
+pub returns-in_ok-selection-in-Some-Rule-clause-gives : goal.returns-in_ok-selection-in-Some-Rule-clause-gives
+returns-in_ok-selection-in-Some-Rule-clause-gives c = λ n. (
+  symbol_selects_from (entries_of c.args.version.now) c.args.self.now.pool c.args.stack.now c.args.symbol (row_rules c.args.symbol c.rules_of-rules.result) c.in_ok-selection-in-Some-Rule.selection
+      c.rules_of-rules.ensures c.in_ok-selection-in-Some-Rule.ensures.starts n,
+  selection_within (entries_of c.args.version.now) c.args.self.now.pool c.args.stack.now c.args.symbol (row_rules c.args.symbol c.rules_of-rules.result) c.in_ok-selection-in-Some-Rule.selection
+      c.rules_of-rules.ensures c.in_ok-selection-in-Some-Rule.ensures.starts c.requires.stack c.in_ok-selection-in-Some-Rule.ensures.within,
 )
 
 pub returns-in-None-clause-serves : goal.returns-in-None-clause-serves
@@ -49,6 +49,7 @@ returns-in-None-clause-serves c =
       values = s.values;
       normals = s.normals;
       answers = s.answers;
+      trees = s.trees;
     }
 
 pub returns-in_ok-body-in-Some-Body-clause-serves : goal.returns-in_ok-body-in-Some-Body-clause-serves
@@ -67,4 +68,5 @@ returns-in_ok-body-in-Some-Body-clause-serves c =
       values = s.values;
       normals = s.normals;
       answers = s.answers;
+      trees = s.trees;
     }
