@@ -31,11 +31,11 @@ fn ring(alloc: Global, count: u32) -> Result<Version, NoMemory> {
     with(alloc, &version, Entry::Rules(next_rules(alloc, count)?))
 }
 
-/// `next` over `c0`, 200 times.
-fn steps(alloc: Global, count: u32) -> Result<Term, NoMemory> {
+/// `next` over `c0`, so many times.
+fn steps(alloc: Global, next: u32, times: u32) -> Result<Term, NoMemory> {
     let mut term = Term::Sym(0);
-    for _ in 0..200 {
-        term = call(alloc, count, term)?;
+    for _ in 0..times {
+        term = call(alloc, next, term)?;
     }
     Ok(term)
 }
@@ -71,20 +71,21 @@ fn agree(
     Ok(plain == expected && shared == expected && left == 0 && left_shared == 0)
 }
 
-/// The same for so many rules, with the units and with one less.
-fn row_agrees(alloc: Global, count: u32, due: u32) -> Result<bool, NoMemory> {
+/// The same for so many rules and steps, with the units and with one less.
+fn row_agrees(alloc: Global, count: u32, times: u32, due: u32) -> Result<bool, NoMemory> {
     let version = ring(alloc, count)?;
-    let term = steps(alloc, count)?;
-    let short = agree(alloc, &version, &term, None, 400)?;
-    Ok(short && agree(alloc, &version, &term, Some(due), 401)?)
+    let term = steps(alloc, count, times)?;
+    let units = u64::from(times).saturating_mul(2);
+    let short = agree(alloc, &version, &term, None, units)?;
+    Ok(short && agree(alloc, &version, &term, Some(due), units.saturating_add(1))?)
 }
 
-/// Each `next` takes a unit for its turn and one for the constant that is left, and `c0` takes one. A tree for 5,000
+/// Each `next` takes a unit for its turn and one for the constant that is left, and `c0` takes one. A tree for 4,200
 /// constants would have more nodes than a tree may have.
 #[test]
 fn many_rules_take_the_same_units(rt: HostRuntime) -> Result<(), Fail> {
-    for (count, due) in [(7, 4), (100, 0), (190, 10), (5_000, 200)] {
-        let as_told = row_agrees(rt.alloc(), count, due);
+    for (count, times, due) in [(7, 200, 4), (100, 200, 0), (190, 200, 10), (4_200, 40, 40)] {
+        let as_told = row_agrees(rt.alloc(), count, times, due);
         assert!(rt; as_told == Ok(true), "at {count}");
     }
     Ok(())
