@@ -1,11 +1,12 @@
 -- A name or a sign with its token at once.
-use Rattle.std.proofs.Common.{◌≡◌, ◌<◌, ◌≤◌, ℕ, suc, Bool, true, false, List, [], ◌∷◌, ◌++◌, length, ◌+◌, ◌-◌, refl, sym, ap, subst, ◌∙◌, arith, take, drop, ◌==◌}
+use Rattle.std.proofs.Common.{◌≡◌, ◌<◌, ◌≤◌, ℕ, suc, Bool, true, false, List, [], ◌∷◌, ◌++◌, length, ◌+◌, ◌-◌, refl, sym, ap, subst, ◌∙◌, arith, take, drop, ◌==◌, length-drop}
 use borrow.Author.Tests.{eqb-true}
-use Rattle.std.proofs.lemmas.List.{append-nil}
+use Rattle.std.proofs.lemmas.List.{append-nil, append_assoc}
 use Rattle.std.specs.Prelude.{Option, Some, None, slice_get, unwrap_or}
 use Rattle.dk_lexer.specs.declared.class.Class.{Class}
 use Rattle.dk_lexer.specs.declared.class.Class.TheVariants as class
 use Rattle.dk_lexer.specs.declared.lexer.Lexer.{Lexer}
+use Rattle.dk_lexer.specs.declared.lexer.spelt.NameEnd.TheVariants as end
 use Rattle.dk_lexer.specs.declared.part.Part.{Part}
 use Rattle.dk_lexer.specs.declared.part.Part.TheVariants as part
 use Rattle.dk_lexer.specs.declared.place.Place.{Place}
@@ -18,12 +19,12 @@ use Rattle.dk_lexer.specs.Classes.{class_of}
 use Rattle.dk_lexer.specs.Fronts.{Passes, StandInName, with_part}
 use Rattle.dk_lexer.specs.Given.{given}
 use Rattle.dk_lexer.specs.Parts.{begins_name, in_text}
-use Rattle.dk_lexer.specs.Spelling.{kind_of}
-use Rattle.dk_lexer.specs.Steps.{Step, begin, begin_by, completed, completes, ended, goes_on, one, own, part_line, part_step, past, run_step, settles, sign_at, step, taken}
-use Rattle.dk_lexer.specs.Takes.{Exhausts, Leads, Takes, class_at, ends_name, front_sign, is_newline_class}
+use Rattle.dk_lexer.specs.Spelling.{is_wildcard, kind_of}
+use Rattle.dk_lexer.specs.Steps.{Step, begin, begin_by, completed, completes, dot_ends, dot_step, ended, goes_on, one, own, part_line, part_step, past, run_step, settles, sign_at, step, taken}
+use Rattle.dk_lexer.specs.Takes.{Exhausts, Leads, Takes, class_at, dot_end, front_sign, is_newline_class, name_end}
 use Rattle.dk_lexer.specs.Tokens.{begin_of, behind, bound, command_after, token_at}
 use Rattle.dk_lexer.proofs.FrontNames.{begins_taken, past_within}
-use Rattle.dk_lexer.proofs.Takes.{exhausts_byte, leads_both, leads_early, leads_passed, leads_stepped, leads_then}
+use Rattle.dk_lexer.proofs.Takes.{exhausts_byte, leads_both, leads_early, leads_passed, leads_stepped, leads_then, takes_both}
 
 -- ---- a token ends before the next byte
 
@@ -35,24 +36,34 @@ settled l p k text ts b rest is =
     leads_early (with_part l p) (ended l k) ts (token_at l.first k text ∷ []) b rest (ap (λ (s : Step). given s.fed) is) (ap (λ (s : Step). s.lexer) is)
 
 -- a name ends
-name_ends : (c : Class) (l : Lexer) (text : List ℕ) (b : ℕ) → ends_name c ≡ true → run_step l text c b ≡ settles l (kind_of text) text c b
-name_ends class.Letter l text b e = cc
-name_ends class.Digit l text b e = cc
-name_ends class.Underscore l text b e = cc
-name_ends class.Quote l text b e = cc
-name_ends class.Dot l text b e = cc
-name_ends c l text b e = refl
+no_byte_end : (a : Option Class) → Some end.Byte ≡ dot_end a → ⊥
+no_byte_end None e = cc
+no_byte_end (Some class.Letter) e = cc
+no_byte_end (Some class.Digit) e = cc
+no_byte_end (Some class.Underscore) e = cc
+no_byte_end (Some class.OpenBrace) e = cc
+no_byte_end (Some c) e = cc
 
-name_at_end : (l : Lexer) (text rest : List ℕ) (ts : List Token) (c : Class) → Some c ≡ class_at rest 0 → ends_name c ≡ true
+name_ends : (c : Class) (a : Option Class) (l : Lexer) (text : List ℕ) (b : ℕ) → Some end.Byte ≡ name_end (Some c) a → run_step l text c b ≡ settles l (kind_of text) text c b
+name_ends class.Letter a l text b e = cc
+name_ends class.Digit a l text b e = cc
+name_ends class.Underscore a l text b e = cc
+name_ends class.Quote a l text b e = cc
+name_ends class.Dot a l text b e = absurd (no_byte_end a e)
+name_ends c a l text b e = refl
+
+name_at_end : (l : Lexer) (text rest : List ℕ) (ts : List Token) (a : Option Class) → Some end.Byte ≡ name_end (class_at rest 0) a
     → Leads (with_part l (part.Run text)) ts [] (ended l (kind_of text)) (ts ++ token_at l.first (kind_of text) text ∷ []) rest
-name_at_end l text [] ts c is ends = cc
-name_at_end l text (b ∷ rest) ts c is ends =
-    let same : c ≡ class_of b = cc in
-    settled l (part.Run text) (kind_of text) text ts b rest (name_ends (class_of b) (with_part l part.Nothing) text b (ap ends_name (sym same) ∙ ends))
+name_at_end l text [] ts a is = cc
+name_at_end l text (b ∷ rest) ts a is = settled l (part.Run text) (kind_of text) text ts b rest (name_ends (class_of b) a (with_part l part.Nothing) text b is)
 
 -- the lexer behind a name of so many bytes whose token was given
 abbrev pub named : Lexer → TokenKind → ℕ → ℕ → Lexer
 named l k begin count = record l { first = l.here; here = record { offset = l.here.offset + count; line = l.here.line }; command = command_after k begin }
+
+-- the lexer behind a name of so many bytes and a dot, whose tokens were given
+abbrev pub dotted : Lexer → ℕ → Lexer
+dotted l count = record l { first = l.here; here = record { offset = (l.here.offset + count) + 1; line = l.here.line }; command = None }
 
 begin_unwrapped : (o : Option ℕ) (n : ℕ) → unwrap_or o n ≡ begin_of o n
 begin_unwrapped None n = refl
@@ -60,35 +71,6 @@ begin_unwrapped (Some b) n = refl
 
 abbrev begun_at : Lexer → List ℕ → ℕ → Lexer
 begun_at l text count = record l { part = part.Run text; first = l.here; here = record { offset = l.here.offset + count; line = l.here.line } }
-
--- as the call finds it
-module _ (l : Lexer) (ts : List Token) (b : ℕ) (text more items bytes : List ℕ) (begin r most count : ℕ)
-    (nothing : l.part ≡ part.Nothing) (first_is : Some b ≡ slice_get bytes 0) (name : begins_name (class_of b) ≡ true)
-    (begin_is : begin ≡ unwrap_or l.command l.here.offset) (r_is : r ≡ (bound l.limits (Some begin)).last - l.here.offset) (most_r : most ≤ r) (most_name : most ≤ l.limits.name_bytes)
-    (items_is : items ≡ take most bytes) (le : count ≤ length items) (stand : StandInName (take count items)) (some : 0 < count) (more_is : more ≡ take count bytes) (text_is : text ≡ more) where
-  name_passed : Passes l (take count bytes) (begun_at l text count)
-  name_passed = begins_taken l (begun_at l text count) (class_of b) b text more items bytes begin r most count nothing first_is refl name begin_is r_is most_r most_name items_is le stand some more_is text_is refl
-
-  -- it goes on, or what ends it isn't there
-  pub name_goes : Takes l ts bytes count (begun_at l text count) ts
-  name_goes = leads_passed l (begun_at l text count) ts (take count bytes) (drop count bytes) name_passed
-
-  -- it ends
-  pub name_ended : (next : Class) (rest : List ℕ) (k : TokenKind) → rest ≡ drop count bytes → Some next ≡ class_at rest 0 → ends_name next ≡ true → k ≡ kind_of text
-      → Takes l ts bytes count (named l k begin count) (ts ++ token_at l.here k text ∷ [])
-  name_ended next rest k rest_is next_is ends k_is =
-      subst (λ (x : TokenKind). Takes l ts bytes count (named l x begin count) (ts ++ token_at l.here x text ∷ [])) (sym k_is)
-      (subst (λ (x : Lexer). Takes l ts bytes count x (ts ++ token_at l.here (kind_of text) text ∷ [])) same
-      (leads_then name_goes
-      (subst (λ (bs : List ℕ). Leads (begun_at l text count) ts [] (ended (begun_at l text count) (kind_of text)) (ts ++ token_at l.here (kind_of text) text ∷ []) bs) rest_is
-      (name_at_end (begun_at l text count) text rest ts next next_is ends))))
-    where
-      own_is : own (begun_at l text count) ≡ begin
-      own_is = sym (begin_is ∙ begin_unwrapped l.command l.here.offset)
-
-      same : ended (begun_at l text count) (kind_of text) ≡ named l (kind_of text) begin count
-      same = ap (λ n. let x : Lexer = record (begun_at l text count) { part = part.Nothing; command = command_after (kind_of text) n } in x) own_is
-          ∙ ap (λ (p : Part). let x : Lexer = record (named l (kind_of text) begin count) { part = p } in x) (sym nothing)
 
 -- ---- signs
 
@@ -252,6 +234,141 @@ sign_taken l ts us c n (b ∷ bs) s count begin r nothing c_is n_is is begin_is 
           (subst (λ (q : Part). Takes (with_part l q) ts (b ∷ bs) count (named (with_part l q) (kind.Sign s) (begin_of l.command l.here.offset) count) (ts ++ sign_at l.here s ∷ [])) (sym nothing) found.0)),
       found.1,
     )
+
+-- ---- a name and the dot directly behind it
+
+-- where nothing is begun, the next byte alone says where a token begins
+first_free : (l m : Lexer) (ts : List Token) (b : ℕ) (rest : List ℕ) → record (with_part l part.Nothing) { first = m.first } ≡ with_part m part.Nothing → Leads (with_part l part.Nothing) ts [] (with_part m part.Nothing) ts (b ∷ rest)
+unfolding step
+first_free l m ts b rest same =
+    let steps : step (with_part l part.Nothing) b ≡ step (with_part m part.Nothing) b = ap (λ (x : Lexer). one (begin x (class_of b) b)) same in
+    subst (λ (us : List Token). Leads (with_part l part.Nothing) ts [] (with_part m part.Nothing) us (b ∷ rest)) (append-nil ts)
+    (leads_early (with_part l part.Nothing) (with_part m part.Nothing) ts [] b rest (ap (λ (s : Step). given s.fed) steps) (ap (λ (s : Step). s.lexer) steps))
+
+wildcard_kind : (text : List ℕ) → is_wildcard text ≡ true → kind_of text ≡ kind.Wildcard
+unfolding kind_of
+wildcard_kind text wild = rw wild refl
+
+wildcard_dot : (c : Class) (l : Lexer) (text : List ℕ) (b : ℕ) → c ≡ class.Dot → is_wildcard text ≡ true → run_step l text c b ≡ settles l kind.Wildcard text c b
+wildcard_dot c l text b dot wild =
+    let k = wildcard_kind text wild in
+    rw (dot, k, wild) refl
+
+plain_dot : (c : Class) (l : Lexer) (text : List ℕ) (b : ℕ) → c ≡ class.Dot → is_wildcard text ≡ false → run_step l text c b ≡ one (goes_on l (part.RunDot text l.here) b)
+plain_dot c l text b dot wild = rw (dot, wild) refl
+
+-- behind the dot no second part begins
+dot_is_sign : (c : Class) (l : Lexer) (text : List ℕ) (dot : Place) (b : ℕ) → Some end.Dot ≡ dot_end (Some c) → dot_step l text dot c b ≡ dot_ends l text dot c b
+dot_is_sign class.Letter l text dot b e = cc
+dot_is_sign class.Digit l text dot b e = cc
+dot_is_sign class.Underscore l text dot b e = cc
+dot_is_sign class.OpenBrace l text dot b e = cc
+dot_is_sign c l text dot b e = refl
+
+-- the lexer behind the dot
+abbrev behind_dot : Lexer → Lexer
+behind_dot l = record (onward l 1) { part = part.Nothing; command = None }
+
+-- the tokens with those of the name and the dot
+abbrev with_dot : Lexer → List ℕ → List Token → List Token
+with_dot l text ts = ts ++ token_at l.first (kind_of text) text ∷ sign_at l.here sign.Dot ∷ []
+
+dot_by : (wild : Bool) (l : Lexer) (text : List ℕ) (ts : List Token) (b d : ℕ) (ds : List ℕ) → is_wildcard text ≡ wild → class_of b ≡ class.Dot → Some end.Dot ≡ dot_end (Some (class_of d))
+    → l.here.offset + 1 ≤ (bound l.limits (Some (own l))).last → Leads (with_part l (part.Run text)) ts (b ∷ []) (behind_dot l) (with_dot l text ts) (d ∷ ds)
+unfolding step
+dot_by true l text ts b d ds wild dot ends fits =
+    let m : Lexer = ended l kind.Wildcard in
+    let t : Token = token_at l.first kind.Wildcard text in
+    let us : List Token = ts ++ t ∷ [] in
+    let vs : List Token = us ++ sign_at l.here sign.Dot ∷ [] in
+    let name : Leads (with_part l (part.Run text)) ts [] m us (b ∷ d ∷ ds) =
+    settled l (part.Run text) kind.Wildcard text ts b (d ∷ ds) (wildcard_dot (class_of b) (with_part l part.Nothing) text b dot wild) in
+    let signs : Leads m us (b ∷ []) (signed m sign.Dot 1) vs (d ∷ ds) = (single_signed m us sign.Dot class.Dot b (d ∷ ds) (sym dot) refl (λ x. refl) fits).0 in
+    let both : Leads (with_part l (part.Run text)) ts (b ∷ []) (signed m sign.Dot 1) vs (d ∷ ds) = leads_both [] (b ∷ []) (d ∷ ds) name signs in
+    let all : Leads (with_part l (part.Run text)) ts (b ∷ []) (behind_dot l) vs (d ∷ ds) = leads_then both (first_free (signed m sign.Dot 1) (behind_dot l) vs d ds refl) in
+    subst (λ (ws : List Token). Leads (with_part l (part.Run text)) ts (b ∷ []) (behind_dot l) ws (d ∷ ds))
+    (append_assoc ts (t ∷ []) (sign_at l.here sign.Dot ∷ []) ∙ ap (λ (k : TokenKind). ts ++ token_at l.first k text ∷ sign_at l.here sign.Dot ∷ []) (sym (wildcard_kind text wild))) all
+dot_by false l text ts b d ds wild dot ends fits =
+    let within : past l (Some (own l)) ≡ None = past_within l.here.offset (bound l.limits (Some (own l))) (omega arith) in
+    let mid : Lexer = record (onward l 1) { part = part.RunDot text l.here } in
+    let run : Leads (with_part l (part.Run text)) ts (b ∷ []) mid ts (d ∷ ds) =
+    subst (λ (us : List Token). Leads (with_part l (part.Run text)) ts (b ∷ []) mid us (d ∷ ds)) (append-nil ts)
+    (leads_stepped (with_part l (part.Run text)) mid ts (record { first = None; second = None; third = None; fourth = None; fault = None }) b (d ∷ ds)
+    (plain_dot (class_of b) (with_part l part.Nothing) text b dot wild ∙ goes_within (with_part l part.Nothing) (part.RunDot text l.here) b within (ap is_newline_class dot))) in
+    let is : dot_step (with_part mid part.Nothing) text l.here (class_of d) d ≡ dot_ends (with_part mid part.Nothing) text l.here (class_of d) d = dot_is_sign (class_of d) (with_part mid part.Nothing) text l.here d ends in
+    leads_then run (leads_early mid (behind_dot l) ts (token_at l.first (kind_of text) text ∷ sign_at l.here sign.Dot ∷ []) d ds (ap (λ (s : Step). given s.fed) is) (ap (λ (s : Step). s.lexer) is))
+
+ends_in_dot : (c : Class) (a : Option Class) → Some end.Dot ≡ name_end (Some c) a → (c ≡ class.Dot) × (Some end.Dot ≡ dot_end a)
+ends_in_dot class.Dot a e = (refl, e)
+ends_in_dot class.Letter a e = cc
+ends_in_dot class.Digit a e = cc
+ends_in_dot class.Underscore a e = cc
+ends_in_dot class.Quote a e = cc
+ends_in_dot c a e = cc
+
+dot_at_end : (l : Lexer) (text rest : List ℕ) (ts : List Token) → Some end.Dot ≡ name_end (class_at rest 0) (class_at rest 1) → l.here.offset + 1 ≤ (bound l.limits (Some (own l))).last
+    → Takes (with_part l (part.Run text)) ts rest 1 (behind_dot l) (with_dot l text ts) × (1 ≤ length rest)
+dot_at_end l text [] ts is fits = cc
+dot_at_end l text (b ∷ []) ts is fits = let p = ends_in_dot (class_of b) None is in let h : Some end.Dot ≡ dot_end None = p.1 in cc
+dot_at_end l text (b ∷ d ∷ ds) ts is fits =
+    let p = ends_in_dot (class_of b) (Some (class_of d)) is in
+    (dot_by (is_wildcard text) l text ts b d ds refl p.0 p.1 fits, omega arith)
+
+-- ---- a name, as the call finds it
+module _ (l : Lexer) (ts : List Token) (b : ℕ) (text more items bytes : List ℕ) (begin r most count : ℕ)
+    (nothing : l.part ≡ part.Nothing) (first_is : Some b ≡ slice_get bytes 0) (name : begins_name (class_of b) ≡ true)
+    (begin_is : begin ≡ unwrap_or l.command l.here.offset) (r_is : r ≡ (bound l.limits (Some begin)).last - l.here.offset) (most_r : most ≤ r) (most_name : most ≤ l.limits.name_bytes)
+    (items_is : items ≡ take most bytes) (le : count ≤ length items) (stand : StandInName (take count items)) (some : 0 < count) (more_is : more ≡ take count bytes) (text_is : text ≡ more) where
+  name_passed : Passes l (take count bytes) (begun_at l text count)
+  name_passed = begins_taken l (begun_at l text count) (class_of b) b text more items bytes begin r most count nothing first_is refl name begin_is r_is most_r most_name items_is le stand some more_is text_is refl
+
+  -- it goes on, or what ends it isn't there
+  pub name_goes : Takes l ts bytes count (begun_at l text count) ts
+  name_goes = leads_passed l (begun_at l text count) ts (take count bytes) (drop count bytes) name_passed
+
+  own_is : own (begun_at l text count) ≡ begin
+  own_is = sym (begin_is ∙ begin_unwrapped l.command l.here.offset)
+
+  -- it ends
+  pub name_ended : (rest : List ℕ) (k : TokenKind) (t : Token) (us : List Token) → rest ≡ drop count bytes → Some end.Byte ≡ name_end (class_at rest 0) (class_at rest 1) → k ≡ kind_of text → t ≡ token_at l.here k text
+      → us ≡ ts ++ t ∷ [] → Takes l ts bytes count (named l k begin count) us
+  name_ended rest k t us rest_is ends k_is t_is us_is =
+      subst (λ (vs : List Token). Takes l ts bytes count (named l k begin count) vs) (sym (us_is ∙ ap (λ (x : Token). ts ++ x ∷ []) t_is))
+      (subst (λ (x : TokenKind). Takes l ts bytes count (named l x begin count) (ts ++ token_at l.here x text ∷ [])) (sym k_is)
+      (subst (λ (x : Lexer). Takes l ts bytes count x (ts ++ token_at l.here (kind_of text) text ∷ [])) same
+      (leads_then name_goes
+      (subst (λ (bs : List ℕ). Leads (begun_at l text count) ts [] (ended (begun_at l text count) (kind_of text)) (ts ++ token_at l.here (kind_of text) text ∷ []) bs) rest_is
+      (name_at_end (begun_at l text count) text rest ts (class_at rest 1) ends)))))
+    where
+      same : ended (begun_at l text count) (kind_of text) ≡ named l (kind_of text) begin count
+      same = ap (λ n. let x : Lexer = record (begun_at l text count) { part = part.Nothing; command = command_after (kind_of text) n } in x) own_is
+          ∙ ap (λ (p : Part). let x : Lexer = record (named l (kind_of text) begin count) { part = p } in x) (sym nothing)
+
+  -- it ends at a dot, which is taken with it
+  pub name_dotted : (rest : List ℕ) (k : TokenKind) (t u : Token) (us : List Token) → rest ≡ drop count bytes → Some end.Dot ≡ name_end (class_at rest 0) (class_at rest 1) → count < r → k ≡ kind_of text
+      → t ≡ token_at l.here k text → u ≡ sign_at (begun_at l text count).here sign.Dot → us ≡ ts ++ t ∷ u ∷ [] → Takes l ts bytes (count + 1) (dotted l count) us × (count + 1 ≤ length bytes)
+  name_dotted rest k t u us rest_is ends fits k_is t_is u_is us_is = (
+    subst (λ (vs : List Token). Takes l ts bytes (count + 1) (dotted l count) vs) (sym tokens_are)
+        (subst (λ (x : Lexer). Takes l ts bytes (count + 1) x (with_dot mid text ts)) same
+        (takes_both l mid (behind_dot mid) ts ts (with_dot mid text ts) bytes count 1 name_goes
+        (subst (λ (bs : List ℕ). Takes mid ts bs 1 (behind_dot mid) (with_dot mid text ts)) rest_is dot.0))),
+    (let some : 1 ≤ length rest = dot.1 in let len : length rest ≡ length bytes - count = ap length rest_is ∙ length-drop count bytes in omega arith),
+  )
+    where
+      mid : Lexer
+      mid = begun_at l text count
+
+      within : mid.here.offset + 1 ≤ (bound l.limits (Some (own mid))).last
+      within = let h : (bound l.limits (Some (own mid))).last ≡ (bound l.limits (Some begin)).last = ap (λ n. (bound l.limits (Some n)).last) own_is in omega arith
+
+      dot : Takes mid ts rest 1 (behind_dot mid) (with_dot mid text ts) × (1 ≤ length rest)
+      dot = dot_at_end mid text rest ts ends within
+
+      same : behind_dot mid ≡ dotted l count
+      same = ap (λ (p : Part). let x : Lexer = record (dotted l count) { part = p } in x) (sym nothing)
+
+      tokens_are : us ≡ with_dot mid text ts
+      tokens_are = us_is ∙ ap (λ (x : Token). ts ++ x ∷ u ∷ []) (t_is ∙ ap (λ (x : TokenKind). token_at l.here x text) k_is) ∙ ap (λ (x : Token). ts ++ token_at l.here (kind_of text) text ∷ x ∷ []) u_is
 
 -- memory ended at the name that begins here
 pub name_short : (l : Lexer) (ts : List Token) (b : ℕ) (bytes : List ℕ) (line : ℕ) → l.part ≡ part.Nothing → Some b ≡ slice_get bytes 0 → begins_name (class_of b) ≡ true → line ≡ l.here.line → Exhausts l ts bytes ts line

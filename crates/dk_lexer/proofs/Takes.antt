@@ -186,6 +186,21 @@ stops_next ts mid rest us t u line is s =
 pub stops_token : (ts us : List Token) (t : Token) (line : ℕ) → us ≡ ts → line ≡ t.line → StopsAt (ts ++ t ∷ []) us line
 stops_token ts us t line us_is line_is = record { token = t; later = []; tokens_are = ap (λ vs. vs ++ t ∷ []) (sym us_is); line_is = line_is }
 
+-- one token behind the other
+pub handed_both : (ts us vs : List Token) (t u : Token) → us ≡ ts ++ t ∷ [] → vs ≡ us ++ u ∷ [] → vs ≡ ts ++ t ∷ u ∷ []
+handed_both ts us vs t u us_is vs_is = vs_is ∙ ap (λ ws. ws ++ u ∷ []) us_is ∙ append_assoc ts (t ∷ []) (u ∷ [])
+
+pub stops_former : (ts us : List Token) (t u : Token) (line : ℕ) → us ≡ ts → line ≡ t.line → StopsAt (ts ++ t ∷ u ∷ []) us line
+stops_former ts us t u line us_is line_is = record { token = t; later = u ∷ []; tokens_are = ap (λ vs. vs ++ t ∷ u ∷ []) (sym us_is); line_is = line_is }
+
+pub stops_latter : (ts us vs : List Token) (t u : Token) (line : ℕ) → us ≡ ts ++ t ∷ [] → vs ≡ us → line ≡ u.line → StopsAt (ts ++ t ∷ u ∷ []) vs line
+stops_latter ts us vs t u line us_is vs_is line_is = record {
+  token = u;
+  later = [];
+  tokens_are = sym (append_assoc ts (t ∷ []) (u ∷ [])) ∙ ap (λ ws. ws ++ u ∷ []) (sym (vs_is ∙ us_is));
+  line_is = line_is;
+}
+
 -- ---- as the calls find it: the next of some bytes
 
 is_true : (t : Bool) → IsTrue t → t ≡ true

@@ -6,6 +6,8 @@ use Rattle.dk_lexer.specs.declared.token.Token.{Token}
 use Rattle.dk_lexer.specs.declared.token.Sign.{Sign}
 use Rattle.dk_lexer.specs.declared.token.Sign.TheVariants as sign
 use Rattle.dk_lexer.specs.declared.lexer.Lexer.{Lexer}
+use Rattle.dk_lexer.specs.declared.lexer.spelt.NameEnd.{NameEnd}
+use Rattle.dk_lexer.specs.declared.lexer.spelt.NameEnd.TheVariants as end
 use Rattle.dk_lexer.specs.Classes.{class_of}
 use Rattle.dk_lexer.specs.Given.{first_line}
 use Rattle.dk_lexer.specs.Pieces.{piece_tokens}
@@ -49,14 +51,25 @@ pub record StopsAt (all us : List Token) (line : ℕ) : Type 0 where
 abbrev pub class_at : List ℕ → ℕ → Option Class
 class_at bytes at = option_map class_of (slice_get bytes at)
 
--- the byte ends a name, and nothing else settles what the name is
-abbrev pub ends_name : Class → Bool
-ends_name class.Letter = false
-ends_name class.Digit = false
-ends_name class.Underscore = false
-ends_name class.Quote = false
-ends_name class.Dot = false
-ends_name _ = true
+-- what a dot directly behind a name does, by the class of the byte behind it: it is the sign where no second part may
+-- begin there
+abbrev pub dot_end : Option Class → Option NameEnd
+dot_end None = None
+dot_end (Some class.Letter) = None
+dot_end (Some class.Digit) = None
+dot_end (Some class.Underscore) = None
+dot_end (Some class.OpenBrace) = None
+dot_end (Some after) = Some end.Dot
+
+-- what ends a name, by the classes of the two bytes behind its own, where these settle that
+abbrev pub name_end : Option Class → Option Class → Option NameEnd
+name_end None after = None
+name_end (Some class.Letter) after = None
+name_end (Some class.Digit) after = None
+name_end (Some class.Underscore) after = None
+name_end (Some class.Quote) after = None
+name_end (Some class.Dot) after = dot_end after
+name_end (Some next) after = Some end.Byte
 
 abbrev pub is_newline_class : Class → Bool
 is_newline_class class.Newline = true

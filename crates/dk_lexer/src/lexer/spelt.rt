@@ -1,8 +1,10 @@
-//! A name or a sign at once, with its token where the bytes behind it in the piece settle it.
+//! A name or a sign at once, with its token where the bytes behind it in the piece settle it; a name also with the dot
+//! behind it.
 ghost use Rattle.std.specs.Prelude.{◌≡◌, ◌≤◌, ◌<◌, ◌+◌, ◌++◌, ◌∷◌, [], true, IfErr, IfOk, OnErr, OnOk, Some, length, slice_get};
 ghost use Rattle.dk_lexer.specs.Classes.{class_of};
 ghost use Rattle.dk_lexer.specs.Parts.{begins_name};
-ghost use Rattle.dk_lexer.specs.Takes.{Exhausts, Takes, class_at, ends_name, front_sign};
+ghost use Rattle.dk_lexer.specs.Steps.{sign_at};
+ghost use Rattle.dk_lexer.specs.Takes.{Exhausts, StopsAt, Takes, class_at, front_sign, name_end};
 
 use super::Lexer;
 use super::front::{at_most, name_length};
@@ -24,14 +26,27 @@ fn class_at(bytes: &[u8], at: usize) -> Option<Class>
     }
 }
 
-// A byte of this class ends a name, and nothing else settles what the name is.
-fn ends_name(class: Class) -> bool
-    ensures { result ≡ ends_name class }
+// What ends a name.
+#[derive(Clone, Copy)]
+enum NameEnd {
+    // A byte of another kind than those of names, and no dot.
+    Byte,
+    // A dot that is the sign, since no second part begins behind it.
+    Dot,
+}
+
+// What ends a name, where the bytes behind its own settle that.
+fn name_end(rest: &[u8]) -> Option<NameEnd>
+    ensures { result ≡ name_end (class_at rest.now 0) (class_at rest.now 1) }
 {
-    !matches!(
-        class,
-        Class::Letter | Class::Digit | Class::Underscore | Class::Quote | Class::Dot
-    )
+    match class_at(rest, 0)? {
+        Class::Letter | Class::Digit | Class::Underscore | Class::Quote => None,
+        Class::Dot => match class_at(rest, 1)? {
+            Class::Letter | Class::Digit | Class::Underscore | Class::OpenBrace => None,
+            _ => Some(NameEnd::Dot),
+        },
+        _ => Some(NameEnd::Byte),
+    }
 }
 
 // The sign that stands at a byte of this class, and how many bytes it has, where the class of the next byte settles it.
@@ -105,26 +120,29 @@ impl Lexer {
             offset: here.offset + count as u32,
             line: here.line,
         };
-        let Some(next) = class_at(rest, 0) else {
-            self.part = Part::Run(text);
-            return Ok(count);
-        };
-        if ends_name(next) {
-            let kind = kind_of(name);
-            self.command = command_after(kind, begin);
-            hand(
-                waiting,
-                Token {
-                    kind,
-                    spelling: text,
-                    offset: here.offset,
-                    line: here.line,
-                },
-            )?;
-            return Ok(count);
+        match name_end(rest) {
+            Some(NameEnd::Byte) => {
+                let kind = kind_of(name);
+                self.command = command_after(kind, begin);
+                hand(waiting, self.token(kind, text))?;
+                Ok(count)
+            }
+            Some(NameEnd::Dot) if (count as u64) < room => {
+                let dot = self.here;
+                self.here = Place {
+                    offset: dot.offset + 1,
+                    line: dot.line,
+                };
+                self.command = None;
+                hand(waiting, self.token(kind_of(name), text))?;
+                hand(waiting, self.sign_token(alloc, dot, Sign::Dot))?;
+                Ok(count + 1)
+            }
+            _ => {
+                self.part = Part::Run(text);
+                Ok(count)
+            }
         }
-        self.part = Part::Run(text);
-        Ok(count)
     }
 
     // A sign that the next two bytes settle.
