@@ -1,12 +1,14 @@
-//! A symbol with many rules, used so often that they get a tree: the answers and the units of plain trees.
+//! A symbol with many rules, used so often that they get a tree: shared terms and plain trees give the same answers with the
+//! same units.
+use crate::pool_forms::takes as shared_takes;
 use crate::samples::{call, one, rule, rule_variable, symbol, symbol_alone, with};
+use crate::tree_forms::takes as plain_takes;
 use conversion::PoolReducer;
-use dk_model::{Entry, Listed, NoMemory, Rule, Stop, Term};
+use dk_model::{Entry, Listed, NoMemory, Rule, Term};
 use shared_term::Stored;
-use signature_log::{Reducer, Version};
+use signature_log::Version;
 use std::alloc::Global;
 use std::test::Fail;
-use tree_evaluation::Trees;
 
 /// `next c0 --> c1. next c1 --> c2.` and so on, `count` rules, where `next` is the symbol behind the constants. The last
 /// one is `[x] next x --> c0.`
@@ -40,52 +42,44 @@ fn steps(alloc: Global, next: u32, times: u32) -> Result<Term, NoMemory> {
     Ok(term)
 }
 
-/// Whether shared terms give this constant with so many units or end, and leave none, and plain trees do too.
-fn agree(
-    alloc: Global,
-    version: &Version,
-    term: &Term,
-    due: Option<u32>,
-    units: u64,
-) -> Result<bool, NoMemory> {
-    let mut left = units;
-    let plain = match Trees::new(alloc).whnf(version, term, &mut left) {
-        Ok(found) => Ok(due.is_some_and(|symbol| found.equal(&Term::Sym(symbol)))),
-        Err(stop) => Err(stop),
-    };
-    let mut terms = PoolReducer::new(alloc)?;
-    let whole = terms.load(term)?;
-    let mut left_shared = units;
-    let shared = match terms.whnf(version, &whole, &mut left_shared) {
-        Ok(found) => match due {
-            Some(symbol) => Ok(found == terms.load(&Term::Sym(symbol))?),
-            None => Ok(false),
-        },
-        Err(stop) => Err(stop),
-    };
-    let expected = if due.is_some() {
-        Ok(true)
-    } else {
-        Err(Stop::Ended)
-    };
-    Ok(plain == expected && shared == expected && left == 0 && left_shared == 0)
-}
-
-/// The same for so many rules and steps, with the units and with one less.
-fn row_agrees(alloc: Global, count: u32, times: u32, due: u32) -> Result<bool, NoMemory> {
+/// Whether shared terms give so many steps over so many rules this constant, with the units that they take and no fewer.
+fn shared_row(alloc: Global, count: u32, times: u32, due: u32) -> Result<bool, NoMemory> {
     let version = ring(alloc, count)?;
     let term = steps(alloc, count, times)?;
+    let value = Term::Sym(due);
     let units = u64::from(times).saturating_mul(2);
-    let short = agree(alloc, &version, &term, None, units)?;
-    Ok(short && agree(alloc, &version, &term, Some(due), units.saturating_add(1))?)
+    let mut terms = PoolReducer::new(alloc)?;
+    let short = shared_takes(&mut terms, &version, &term, None, units)?;
+    let whole = units.saturating_add(1);
+    Ok(short && shared_takes(&mut terms, &version, &term, Some(&value), whole)?)
 }
 
-/// Each `next` takes a unit for its turn and one for the constant that is left, and `c0` takes one. A tree for 4,200
-/// constants would have more nodes than a tree may have.
+/// The same of plain trees.
+fn plain_row(alloc: Global, count: u32, times: u32, due: u32) -> Result<bool, NoMemory> {
+    let version = ring(alloc, count)?;
+    let term = steps(alloc, count, times)?;
+    let value = Term::Sym(due);
+    let units = u64::from(times).saturating_mul(2);
+    let short = plain_takes(alloc, &version, &term, None, units);
+    let whole = units.saturating_add(1);
+    Ok(short && plain_takes(alloc, &version, &term, Some(&value), whole))
+}
+
+/// Each `next` takes a unit for its turn and one for the constant that is left, and `c0` takes one. Seven rules get no tree,
+/// and 4,100 have more nodes than a tree may have.
 #[test]
 fn many_rules_take_the_same_units(rt: HostRuntime) -> Result<(), Fail> {
-    for (count, times, due) in [(7, 200, 4), (100, 200, 0), (190, 200, 10), (4_200, 40, 40)] {
-        let as_told = row_agrees(rt.alloc(), count, times, due);
+    for (count, times, due) in [(7, 40, 5), (36, 80, 8), (190, 40, 40), (4_100, 34, 34)] {
+        let as_told = shared_row(rt.alloc(), count, times, due);
+        assert!(rt; as_told == Ok(true), "at {count}");
+    }
+    Ok(())
+}
+
+#[test]
+fn plain_trees_take_them_too(rt: HostRuntime) -> Result<(), Fail> {
+    for (count, times, due) in [(7, 40, 5), (36, 80, 8), (190, 40, 40)] {
+        let as_told = plain_row(rt.alloc(), count, times, due);
         assert!(rt; as_told == Ok(true), "at {count}");
     }
     Ok(())

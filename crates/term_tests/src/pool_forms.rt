@@ -9,7 +9,7 @@ use std::test::Fail;
 
 /// Whether a cleared reducer gives a term this weak head form with so many units or ends, worked out and then
 /// remembered, and leaves none.
-fn takes(
+pub fn takes(
     terms: &mut PoolReducer,
     version: &Version,
     term: &Term,

@@ -19,7 +19,13 @@ fn is_form(found: &Result<Term, Stop>, due: Option<&Term>) -> bool {
 }
 
 /// Whether a term has a weak head form with so many units or ends, and leaves none.
-fn takes(alloc: Global, version: &Version, term: &Term, due: Option<&Term>, units: u64) -> bool {
+pub fn takes(
+    alloc: Global,
+    version: &Version,
+    term: &Term,
+    due: Option<&Term>,
+    units: u64,
+) -> bool {
     let mut left = units;
     let found = Trees::new(alloc).whnf(version, term, &mut left);
     is_form(&found, due) && left == 0
