@@ -86,7 +86,8 @@ fn front_sign(class: Class, next: Option<Class>) -> Option<(Sign, usize)>
 }
 
 impl Lexer {
-    // A name that begins with this byte, as far as its bytes are there, with its token where the byte behind it ends it.
+    // A name that begins with this byte, as far as its bytes are there, with its token where the bytes behind it settle
+    // it. A dot that ends it goes with it, unless a bound falls on the dot.
     pub(super) fn name(
         &mut self,
         alloc: Global,
