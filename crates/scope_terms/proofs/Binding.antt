@@ -1,9 +1,9 @@
 -- Looking for a binder.
-use Rattle.std.proofs.Common.{◌≡◌, ◌∙◌, ap, sym, subst, refl, ℕ, zero, suc, ◌+◌, ◌≤◌, Bool, true, false, cond, List, [], ◌∷◌, ◌++◌, length, replicate, arith}
+use Rattle.std.proofs.Common.{◌≡◌, ◌∙◌, ap, sym, subst, refl, ◌≢◌, ℕ, zero, suc, ◌+◌, ◌≤◌, Bool, true, false, cond, List, [], ◌∷◌, ◌++◌, length, replicate, arith}
 use Rattle.std.specs.Prelude.{Option, Some, None, IsTrue, ◌↔◌}
 use Rattle.std.specs.Cmp.Lexicographic.{bytes_decides}
 use Rattle.scope_terms.specs.Scopes.{Binder, Spelling, binds, number_from, same_spelling}
-use Rattle.scope_terms.specs.Binding.{AreTold, MayBe, Widens, first_byte}
+use Rattle.scope_terms.specs.Binding.{AreTold, LeadsTo, MayBe, Widens, class_of, first_byte}
 use Rattle.scope_terms.specs.declared.binders.Spans.{Spans}
 
 -- binders that bind nothing that can be named
@@ -45,3 +45,21 @@ number_absent x s n (Some y ∷ bs) found told is lacks = by (same_spelling x y)
     by : (b : Bool) → same_spelling x y ≡ b → number_from (n + 1) (binds x) bs ≡ None → number_from n (binds x) (Some y ∷ bs) ≡ None
     by true e rest = let yes : false ≡ true = sym lacks ∙ here e in cc
     by false e rest = ap (λ b. cond b (Some n) (number_from (n + 1) (binds x) bs)) e ∙ rest
+
+-- a name of another class
+pub number_passed : (x y : Spelling) (n : ℕ) (bs : List Binder) → class_of y ≢ class_of x → number_from n (binds x) (Some y ∷ bs) ≡ number_from (n + 1) (binds x) bs
+number_passed x y n bs unlike = by (same_spelling x y) refl
+  where
+    by : (b : Bool) → same_spelling x y ≡ b → number_from n (binds x) (Some y ∷ bs) ≡ number_from (n + 1) (binds x) bs
+    by true e = absurd (unlike (ap class_of (sym ((bytes_decides x y).0 e))))
+    by false e = ap (λ b. cond b (Some n) (number_from (n + 1) (binds x) bs)) e
+
+-- ---- links
+
+pub leads_unnamed : (class passed k : ℕ) (bs last : List Binder) → LeadsTo class bs passed (replicate k None ++ last) → LeadsTo class bs (passed + k) last
+leads_unnamed class passed k bs last leads x n is =
+    leads x n is ∙ number_unnamed x (n + passed) k last ∙ ap (λ m. number_from m (binds x) last) (omega arith)
+
+pub leads_named : (class passed : ℕ) (y : Spelling) (bs last : List Binder) → class_of y ≢ class → LeadsTo class bs passed (Some y ∷ last) → LeadsTo class bs (passed + 1) last
+leads_named class passed y bs last unlike leads x n is =
+    leads x n is ∙ number_passed x y (n + passed) last (λ same. unlike (same ∙ is)) ∙ ap (λ m. number_from m (binds x) last) (omega arith)

@@ -1,6 +1,6 @@
 -- For proofs: the binders above a place, and by what names are told from theirs.
-use Rattle.std.specs.Prelude.{ℕ, ◌+◌, ◌≤◌, Option, Some, None, List, [], ◌∷◌, ◌++◌, length, replicate}
-use Rattle.scope_terms.specs.Scopes.{Binder, Spelling}
+use Rattle.std.specs.Prelude.{ℕ, ◌+◌, ◌*◌, ◌%◌, ◌≡◌, ◌≤◌, Option, Some, None, List, [], ◌∷◌, ◌++◌, length, replicate, fold}
+use Rattle.scope_terms.specs.Scopes.{Binder, Spelling, binds, number_from}
 use Rattle.scope_terms.specs.declared.binders.Span.{Span}
 use Rattle.scope_terms.specs.declared.binders.Spans.{Spans}
 use Rattle.scope_terms.specs.declared.binders.Binders.{Binders, Outermost, Named', Unnamed'}
@@ -8,7 +8,7 @@ use Rattle.scope_terms.specs.declared.binders.Binders.{Binders, Outermost, Named
 -- innermost first
 abbrev pub binders : Binders → List Binder
 binders Outermost = []
-binders (Named' x spans p outer) = Some x.now ∷ binders outer
+binders (Named' x spans c p outer passed q next) = Some x.now ∷ binders outer
 binders (Unnamed' n p outer) = replicate n None ++ binders outer
 
 abbrev pub first_byte : Spelling → ℕ
@@ -35,8 +35,22 @@ AreTold s [] = Unit {0}
 AreTold s (None ∷ bs) = AreTold s bs
 AreTold s (Some x ∷ bs) = MayBe x s × AreTold s bs
 
--- each name's spans are those of the names from there on
+-- one of sixteen classes; names of different classes differ
+abbrev pub class_of : Spelling → ℕ
+class_of x = fold (λ class byte. (class * 7 + byte % 16) % 16) 0 x
+
+-- a name of this class is found among the last of these binders, behind so many that are passed
+abbrev pub LeadsTo : ℕ → List Binder → ℕ → List Binder → Type 0
+LeadsTo class bs passed last = (x : Spelling) (n : ℕ) → class_of x ≡ class → number_from n (binds x) bs ≡ number_from (n + passed) (binds x) last
+
+-- what a binder tells of its name and of the binders outside of it
+pub record Tells (x : Spelling) (s : Spans) (class : ℕ) (outer : List Binder) (passed : ℕ) (next : List Binder) : Type 0 where
+  pub names : AreTold s (Some x ∷ outer)
+  pub own : class ≡ class_of x
+  pub link : LeadsTo class outer passed next
+
+-- each binder of a name tells so
 abbrev pub IsTold : Binders → Type 0
 IsTold Outermost = Unit {0}
-IsTold (Named' x s p outer) = AreTold s (Some x.now ∷ binders outer) × IsTold outer
+IsTold (Named' x s class p outer passed q next) = Tells x.now s class (binders outer) passed (binders next) × IsTold outer × IsTold next
 IsTold (Unnamed' n p outer) = IsTold outer

@@ -1,11 +1,13 @@
 //! The binders above a place of a command, and which of them a name means.
 //!
 //! A name is looked for from the innermost binder on. Where its length or its first byte is none of those of the binders it
-//! isn't looked for: most names are symbols, and a command may have a thousand binders.
+//! isn't looked for: most names are symbols. A command may have a thousand binders, so each name has one of sixteen classes,
+//! and each binder a link to the next one of its class: the first of the class is come to one by one, and from there on
+//! about one in sixteen is looked at.
 ghost use Rattle.std.specs.Prelude.{◌≡◌, ◌+◌, ◌∷◌, ◌↔◌, IsTrue, IfOk, None, Some};
 ghost use Rattle.std.specs.Option.{option_map};
 ghost use Rattle.scope_terms.specs.Scopes.{binds, number_from};
-ghost use Rattle.scope_terms.specs.Binding.{AreTold, IsIn, IsTold, MayBe, Widens, binders, first_byte};
+ghost use Rattle.scope_terms.specs.Binding.{AreTold, IsIn, IsTold, MayBe, Widens, binders, class_of, first_byte, LeadsTo};
 
 use dk_model::{Listed, NoMemory};
 
@@ -27,16 +29,34 @@ pub(crate) struct Spans {
 #[derive(Clone, Copy)]
 pub(crate) enum Binders<'a> {
     Outermost,
-    /// A name, with the spans of the names from here on.
-    Named(&'a Listed<u8>, Spans, &'a Binders<'a>),
+    Named {
+        name: &'a Listed<u8>,
+        /// Those of the names from here on.
+        spans: Spans,
+        class: u8,
+        outer: &'a Binders<'a>,
+        /// Where a name of this class that isn't this one is looked for next, and how many are passed between.
+        passed: u64,
+        next: &'a Binders<'a>,
+    },
     /// So many that bind nothing that can be named.
     Unnamed(u64, &'a Binders<'a>),
+}
+
+/// Binders behind some that were passed.
+#[derive(Clone, Copy)]
+struct Link<'a> {
+    passed: u64,
+    next: &'a Binders<'a>,
 }
 
 const NOTHING: Span = Span {
     least: usize::MAX,
     most: 0,
 };
+
+/// A link is looked for in at most so many steps: a binder of a class that none outside of it has would go through all.
+const MOST_STEPS: u32 = 64;
 
 fn is_in(n: usize, span: Span) -> bool
     ensures { IsTrue result ↔ IsIn n span }
@@ -63,6 +83,18 @@ fn first_byte(name: &[u8]) -> usize
     }
 }
 
+/// The class of a name, one of sixteen: names of different classes differ.
+#[tactic(auto, using(std::proofs::lemmas::List::Sums::fold_more))]
+fn class_of(name: &[u8]) -> u8
+    ensures { result ≡ class_of name.now }
+{
+    let mut class = 0;
+    for byte in name {
+        class = (class * 7 + *byte % 16) % 16;
+    }
+    class
+}
+
 /// The spans of the names among the binders.
 #[tactic(auto, using(crate::proofs::Binding::told_unnamed))]
 fn spans_of<'a>(bound: &'a Binders<'a>) -> Spans
@@ -74,25 +106,66 @@ fn spans_of<'a>(bound: &'a Binders<'a>) -> Spans
             lengths: NOTHING,
             firsts: NOTHING,
         },
-        Binders::Named(_, spans, _) => *spans,
+        Binders::Named { spans, .. } => *spans,
         Binders::Unnamed(_, outer) => spans_of(*outer),
     }
 }
 
+/// The nearest of these binders with a name of this class, or what is left after so many steps.
+fn nearest<'a>(class: u8, bound: &'a Binders<'a>) -> Result<Link<'a>, NoMemory>
+    requires { IsTold bound.now }
+    ensures leads { IfOk result
+        (λ l. LeadsTo class (binders bound.now) l.passed (binders l.next.now)) }
+    ensures told { IfOk result (λ l. IsTold l.next.now) }
+{
+    let mut passed: u64 = 0;
+    let mut next = bound;
+    for _step in 0..MOST_STEPS {
+        match next {
+            Binders::Outermost => break,
+            Binders::Unnamed(count, outer) => {
+                passed = further(passed, *count)?;
+                next = *outer;
+            }
+            Binders::Named {
+                class: other,
+                outer,
+                ..
+            } => {
+                if *other == class {
+                    break;
+                }
+                passed = further(passed, 1)?;
+                next = *outer;
+            }
+        }
+    }
+    Ok(Link { passed, next })
+}
+
 /// The binders with a name more, the innermost.
 #[tactic(auto, using(crate::proofs::Binding::told_named))]
-fn named<'a>(name: &'a Listed<u8>, bound: &'a Binders<'a>) -> Binders<'a>
-    requires { IsTold bound.now }
-    ensures is { binders result ≡ Some name.now ∷ binders bound.now }
-    ensures told { IsTold result }
+fn named<'a>(name: &'a Listed<u8>, outer: &'a Binders<'a>) -> Result<Binders<'a>, NoMemory>
+    requires { IsTold outer.now }
+    ensures is { IfOk result (λ b. binders b ≡ Some name.now ∷ binders outer.now) }
+    ensures told { IfOk result (λ b. IsTold b) }
 {
-    let outer = spans_of(bound);
+    let inside = spans_of(outer);
     let spelling = name.as_slice();
     let spans = Spans {
-        lengths: widened(outer.lengths, spelling.len()),
-        firsts: widened(outer.firsts, first_byte(spelling)),
+        lengths: widened(inside.lengths, spelling.len()),
+        firsts: widened(inside.firsts, first_byte(spelling)),
     };
-    Binders::Named(name, spans, bound)
+    let class = class_of(spelling);
+    let Link { passed, next } = nearest(class, outer)?;
+    Ok(Binders::Named {
+        name,
+        spans,
+        class,
+        outer,
+        passed,
+        next,
+    })
 }
 
 /// The binders with one more that binds nothing that can be named.
@@ -118,7 +191,7 @@ pub(crate) fn under<'a>(
     ensures told { IfOk result (λ b. IsTold b) }
 {
     match binder {
-        Some(name) => Ok(named(name, bound)),
+        Some(name) => named(name, bound),
         None => unnamed(bound),
     }
 }
@@ -140,9 +213,23 @@ fn may_be(name: &[u8], spans: &Spans) -> bool
 }
 
 /// The number of the innermost binder so spelt.
-#[tactic(auto, using(crate::proofs::Binding::number_unnamed, crate::proofs::Binding::number_absent))]
+#[tactic(auto, using(crate::proofs::Binding::number_absent))]
 pub(crate) fn variable<'a>(bound: &'a Binders<'a>, name: &[u8]) -> Result<Option<u64>, NoMemory>
     requires { IsTold bound.now }
+    ensures { IfOk result (λ found. found ≡ number_from 0 (binds name.now) (binders bound.now)) }
+{
+    if may_be(name, &spans_of(bound)) {
+        number_among(bound, name, class_of(name))
+    } else {
+        Ok(None)
+    }
+}
+
+/// The same for a name of this class.
+#[tactic(auto, using(crate::proofs::Binding::number_unnamed, crate::proofs::Binding::number_absent, crate::proofs::Binding::number_passed))]
+fn number_among<'a>(bound: &'a Binders<'a>, name: &[u8], class: u8) -> Result<Option<u64>, NoMemory>
+    requires told { IsTold bound.now }
+    requires class { class ≡ class_of name.now }
     ensures { IfOk result (λ found. found ≡ number_from 0 (binds name.now) (binders bound.now)) }
 {
     let mut at: u64 = 0;
@@ -154,15 +241,25 @@ pub(crate) fn variable<'a>(bound: &'a Binders<'a>, name: &[u8]) -> Result<Option
                 at = further(at, *count)?;
                 rest = *outer;
             }
-            Binders::Named(binder, spans, outer) => {
-                if may_be(name, spans) {
-                    if name == binder.as_slice() {
-                        return Ok(Some(at));
-                    }
+            Binders::Named {
+                name: binder,
+                spans,
+                class: other,
+                outer,
+                passed,
+                next,
+            } => {
+                if !may_be(name, spans) {
+                    return Ok(None);
+                }
+                if *other != class {
                     at = further(at, 1)?;
                     rest = *outer;
+                } else if name == binder.as_slice() {
+                    return Ok(Some(at));
                 } else {
-                    return Ok(None);
+                    at = further(further(at, 1)?, *passed)?;
+                    rest = *next;
                 }
             }
         }

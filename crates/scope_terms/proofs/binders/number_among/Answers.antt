@@ -3,7 +3,7 @@ use Rattle.std.specs.Prelude.{Some}
 use Rattle.scope_terms.specs.Scopes.{binds, number_from}
 use Rattle.scope_terms.specs.Binding.{binders}
 use Rattle.scope_terms.proofs.Binding.{number_absent, number_unnamed}
-use Rattle.scope_terms.proofs.binders.variable.Goals as goal
+use Rattle.scope_terms.proofs.binders.number_among.Goals as goal
 
 pub loop-rest-preserved-in-Unnamed : goal.loop-rest-preserved-in-Unnamed
 loop-rest-preserved-in-Unnamed c =
@@ -15,8 +15,8 @@ loop-rest-preserved-in-Unnamed c =
       told = rw c.in-Unnamed.is at c.loop-rest.invariant.told;
     }
 
-pub returns-else-may_be : goal.returns-else-may_be
-returns-else-may_be c =
+pub returns-then-not-may_be : goal.returns-then-not-may_be
+returns-then-not-may_be c =
     let told = rw c.in-Named.is at c.loop-rest.invariant.told in
     let same = rw c.in-Named.is at c.loop-rest.invariant.same in
-    sym (number_absent c.args.name.now c.in-Named.spans c.loop-rest.at (Some c.in-Named.binder.now ∷ binders c.in-Named.outer.now) c.may_be.result told.0 c.may_be.ensures c.if-may_be.false) ∙ same
+    sym (number_absent c.args.name.now c.in-Named.spans c.loop-rest.at (Some c.in-Named.binder.now ∷ binders c.in-Named.outer.now) c.may_be.result told.0.names c.may_be.ensures c.if-not-may_be.true) ∙ same

@@ -1,7 +1,7 @@
 use Rattle.std.proofs.Common.{◌≡◌}
 use Rattle.scope_terms.specs.Scopes.{binds, number_from}
 use Rattle.scope_terms.specs.Binding.{IsTold, binders}
-use Rattle.scope_terms.proofs.binders.variable.Given as goal
+use Rattle.scope_terms.proofs.binders.number_among.Given as goal
 
 abbrev pub invariant-loop-rest : goal.invariant-loop-rest
 invariant-loop-rest l = record {
