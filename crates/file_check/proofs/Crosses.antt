@@ -19,6 +19,7 @@ use Rattle.shared_term.specs.contracts.packed.Packed as Packed
 use Rattle.shared_term.specs.contracts.stored.Stored as Stored
 use Rattle.signature_log.specs.contracts.branch.Branch as Branch
 use Rattle.signature_log.specs.contracts.cells.Cells as Cells
+use Rattle.signature_log.specs.contracts.entries.Entries as Entries
 use Rattle.signature_log.specs.contracts.fork.Fork as Fork
 use Rattle.signature_log.specs.contracts.held.Held as Held
 use Rattle.signature_log.specs.contracts.leaf.Leaf as Leaf
@@ -276,11 +277,27 @@ table_send = fork_send (Fork.the_row (Fork.the_row blocks)) fork_2_send fork_2_s
 table_sync : IsSync (Fork.the_row (Fork.the_row (Fork.the_row blocks)))
 table_sync = fork_sync (Fork.the_row (Fork.the_row blocks)) fork_2_send fork_2_sync
 
+-- a group of entries
+abbrev group : RattleType
+group = one Held.the_row
+
+group_send : IsSend group
+group_send = one_send Held.the_row held_send held_sync
+
+group_sync : IsSync group
+group_sync = one_sync Held.the_row held_send held_sync
+
+entries_send : IsSend Entries.the_row
+entries_send = let a = three_send group group_send group_sync in let b = group_send in search sendable depth 20
+
+entries_sync : IsSync Entries.the_row
+entries_sync = let a = three_sync group group_send group_sync in let b = group_sync in search sendable depth 20
+
 pub version_send : IsSend Version.the_row
-version_send = let a = four_send Held.the_row held_send held_sync in let b = table_send in search sendable depth 20
+version_send = let a = entries_send in let b = table_send in search sendable depth 20
 
 pub version_sync : IsSync Version.the_row
-version_sync = let a = four_sync Held.the_row held_send held_sync in let b = table_sync in search sendable depth 20
+version_sync = let a = entries_sync in let b = table_sync in search sendable depth 20
 
 pub job_send : IsSend Job.the_row
 job_send = let a = version_send in let b = command_send in search (sendable, crosses, past_send) depth 20

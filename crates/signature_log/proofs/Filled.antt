@@ -9,12 +9,12 @@ use Rattle.std.proofs.Math.Nat.{lt_of_mul-lt-mul_right}
 use Rattle.signature_log.specs.Blocks.{AreFilled, IsBranch}
 
 -- the place in a list, or in what follows it
-slice_get_left : {X : Type 0} (xs ys : List X) (i : ℕ) → i < length xs → slice_get (xs ++ ys) i ≡ slice_get xs i
+pub slice_get_left : {X : Type 0} (xs ys : List X) (i : ℕ) → i < length xs → slice_get (xs ++ ys) i ≡ slice_get xs i
 slice_get_left [] ys i h = absurd (omega (arith, h))
 slice_get_left (x ∷ xs) ys zero h = refl
 slice_get_left (x ∷ xs) ys (suc i) h = slice_get_left xs ys i (omega (arith, h))
 
-slice_get_right : {X : Type 0} (xs ys : List X) (i j : ℕ) → i ≡ length xs + j → slice_get (xs ++ ys) i ≡ slice_get ys j
+pub slice_get_right : {X : Type 0} (xs ys : List X) (i j : ℕ) → i ≡ length xs + j → slice_get (xs ++ ys) i ≡ slice_get ys j
 slice_get_right [] ys i j e = let same : i ≡ j = omega (arith, e) in ap (slice_get ys) same
 slice_get_right (x ∷ xs) ys zero j e = absurd (omega (arith, e))
 slice_get_right (x ∷ xs) ys (suc i) j e = slice_get_right xs ys i j (omega (arith, e))

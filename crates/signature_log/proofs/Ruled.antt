@@ -1,5 +1,5 @@
 -- The rules that a table has for a symbol, and those that a signature declares, with one more entry.
-use Rattle.std.proofs.Common.{◌≡◌, ℕ, ◌+◌, ◌<◌, true, false, ◌==◌, if◌then◌else◌, List, [], ◌∷◌, ◌++◌, length, map, take, get_or, Option, inl, inr, refl, sym, ◌∙◌, ap, subst, append-nil, append_assoc}
+use Rattle.std.proofs.Common.{◌≡◌, ℕ, ◌+◌, ◌<◌, true, false, ◌==◌, if◌then◌else◌, List, [], ◌∷◌, ◌++◌, length, map, take, get_or, Option, inl, inr, refl, sym, ◌∙◌, ap, subst, append-nil, append_assoc, arith}
 use Rattle.std.proofs.lemmas.Bool.Decides.{eqb_tells}
 use Rattle.std.proofs.lemmas.List.{map-append, take_more}
 use Rattle.dk_model.specs.Signatures.{PlainRule, PlainEntry, symbol_entry, rules_entry, PlainSignature, entry_by}
@@ -37,8 +37,9 @@ of_head_append k (x ∷ xs) ys =
       | false ↦ of_head_append k xs ys
     ]
 
-pub adds_none : (old new : Table) → new ≡ old → AddsRules old new []
-adds_none old new e k = ap (λ t. listed_rules (table_at t k)) e ∙ sym (append-nil (listed_rules (table_at old k)))
+pub adds_none : (old new : Table) (rules : List PlainRule) → new ≡ old → length rules ≡ 0 → AddsRules old new rules
+adds_none old new [] same none k = ap (λ t. listed_rules (table_at t k)) same ∙ sym (append-nil (listed_rules (table_at old k)))
+adds_none old new (r ∷ rs) same none k = absurd (omega (arith, none))
 
 pub adds_more : (old middle new : Table) (rules : List PlainRule) (at : ℕ) (rule : PlainRule) (d : PlainRule) → rule ≡ get_or rules at d → at < length rules → AddsRules old middle (take at rules) → AddsRules middle new (rule ∷ []) → AddsRules old new (take (at + 1) rules)
 adds_more old middle new rules at rule d is less first second k =

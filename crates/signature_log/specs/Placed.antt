@@ -8,7 +8,6 @@ use Rattle.dk_model.specs.declared.signature.Entry.TheVariants.{Symbol, Rules}
 use Rattle.dk_model.specs.declared.signature.Rule.{Rule}
 use Rattle.shared_term.specs.Storage.{stored_term}
 use Rattle.shared_term.specs.declared.stored.Stored.{Stored}
-use Rattle.signature_log.specs.Blocks.{IsSound_4, places_4}
 use Rattle.signature_log.specs.Slots.{cell_at, fork_at}
 
 -- places of rules, each an entry and a number in it
@@ -55,7 +54,6 @@ table_at = fork_at (fork_at (fork_at cell_at 32) 1024) 32768
 abbrev pub AddsRules : Table → Table → List PlainRule → Type 0
 AddsRules old new rules = (symbol : ℕ) → listed_rules (table_at new symbol) ≡ listed_rules (table_at old symbol) ++ rules_of_head symbol rules
 
--- the blocks of a version: the entries in order, and of each symbol the rules that they declare
-pub record IsVersion (entries : List (List (List (List (Entry Stored))))) (table : Table) : Type 0 where
-  pub sound : IsSound_4 entries
-  pub rules : (symbol : ℕ) → listed_rules (table_at table symbol) ≡ declared_rules symbol (map (entry_by stored_term) (places_4 entries))
+-- the table of a version has of each symbol the rules that its entries declare
+abbrev pub IsVersion : List (Entry Stored) → Table → Type 0
+IsVersion entries table = (symbol : ℕ) → listed_rules (table_at table symbol) ≡ declared_rules symbol (map (entry_by stored_term) entries)

@@ -28,6 +28,17 @@ impl<T> Model for Leaf<T> {
 }
 
 impl<T> Leaf<T> {
+    /// No places.
+    pub fn empty(alloc: Global) -> Result<Leaf<T>, NoMemory>
+    where
+        T: Drop,
+        ensures { IfOk result (λ leaf. leaf ≡ []) }
+    {
+        Ok(Leaf {
+            places: Arc::new(alloc, Vec::new(alloc))?,
+        })
+    }
+
     pub fn as_slice(&self) -> &[T]
         ensures { result.now ≡ self.now }
     {

@@ -62,17 +62,17 @@ fn rule_count(held: &Held) -> usize
 fn counted<L: Ledger>(
     alloc: Global,
     table: &RuleTable,
-    held: Held,
+    held: &Held,
     blank: Blank,
 ) -> Result<RuleTable, NoMemory>
     requires name { blank.name ≡ L.name }
     requires parts { blank.parts ≡ L.parts }
     requires one { L.parts ≡ 1 }
-    ensures { IfOk result (λ t. AddsRules table.now t (entry_rules held)) }
+    ensures { IfOk result (λ t. AddsRules table.now t (entry_rules held.now)) }
 {
     let mut steps = Steps::<L>::start(blank);
     let mut all = table.share()?;
-    for at in 0..rule_count(&held) {
+    for at in 0..rule_count(held) {
         let place = Place::new(held.share()?, at);
         all = with_rule(alloc, &all, place, &mut steps)?;
     }
@@ -80,8 +80,11 @@ fn counted<L: Ledger>(
 }
 
 /// The table with the rules of an entry.
-pub fn with_entry(alloc: Global, table: &RuleTable, held: Held) -> Result<RuleTable, NoMemory>
-    ensures { IfOk result (λ t. AddsRules table.now t (entry_rules held)) }
+pub fn with_entry(alloc: Global, table: &RuleTable, held: &Held) -> Result<RuleTable, NoMemory>
+    ensures { IfOk result (λ t. AddsRules table.now t (entry_rules held.now)) }
 {
+    if rule_count(held) == 0 {
+        return table.share();
+    }
     counted::<Brand>(alloc, table, held, Blank::new(1))
 }

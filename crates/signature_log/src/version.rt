@@ -7,12 +7,11 @@ ghost use Rattle.dk_model.specs.SymbolRules.{rules_of, body_rule};
 ghost use Rattle.signature_log.specs.Versions.{stored_entry, entries_of};
 ghost use Rattle.signature_log.specs.Rows.{row_rules, body_rows};
 
-use crate::blocks::{Blocks, Share};
+use crate::blocks::Share;
 use crate::boxing::box_entry;
-use crate::branch::Branch;
+use crate::entries::Entries;
 use crate::fork::Fork;
 use crate::held::Held;
-use crate::leaf::Leaf;
 use crate::slots::Slots;
 use crate::table::{RuleTable, with_entry};
 use crate::{Grow, Rows, Steps};
@@ -23,12 +22,10 @@ use std::marker::{Brand, Model};
 use std::sync::Arc;
 use std::sync::ledger::{Blank, Ledger};
 
-/// Four levels of blocks of 32.
-type Entries = Branch<Branch<Branch<Leaf<Held>>>>;
-
 /// The entries of the commands accepted so far, in file order. Symbol `k` is declared by entry `k`, from 0.
 ///
-/// A version never changes: `append` gives another one, which shares all but a block of each level with it.
+/// A version never changes: `append` gives another one, which shares with it all but the last entries, and once in 32
+/// times all but a block of each level.
 #[derive(Drop)]
 pub struct Version {
     alloc: Global,
@@ -48,10 +45,9 @@ impl Model for Version {
 
     ghost coded = { coded_list (entry.the_row stored.the_row).coded };
 
-    ghost use Rattle.signature_log.specs.Blocks.{places_4};
     ghost use Rattle.signature_log.specs.Placed.{IsVersion};
 
-    ghost view = { λ v. places_4 v.entries };
+    ghost view = { λ v. v.entries };
 
     ghost invariant = { λ v. IsVersion v.entries v.rules };
 }
@@ -80,7 +76,7 @@ impl Version {
     {
         Ok(Version {
             alloc,
-            entries: Branch::empty(alloc)?,
+            entries: Entries::empty(alloc)?,
             rules: Fork::empty(alloc)?,
         })
     }
@@ -122,8 +118,8 @@ impl Version {
             return Err(Grow::Full);
         }
         let held = Held::new(entry);
-        let entries = self.entries.append(self.alloc, held.share()?, steps)?;
-        let rules = with_entry(self.alloc, &self.rules, held)?;
+        let rules = with_entry(self.alloc, &self.rules, &held)?;
+        let entries = self.entries.append(self.alloc, held, steps)?;
         Ok(Version {
             alloc: self.alloc,
             entries,

@@ -176,11 +176,13 @@ fn misplaced(alloc: Global, version: &Version, places: &[u32]) -> Result<Option<
     Ok(None)
 }
 
-// Three levels of blocks.
+// The rules stand in three levels of blocks; of the entries 34 groups, in two levels, and the last twelve beside them.
 #[test]
 fn keeps_the_order_from_block_to_block(rt: HostRuntime) -> Result<(), Fail> {
     let version = one_by_one(rt.alloc(), 1100)?;
-    let places = [0, 1, 31, 32, 33, 63, 64, 1023, 1024, 1025, 1055, 1056, 1099];
+    let places = [
+        0, 1, 31, 32, 33, 63, 64, 1023, 1024, 1025, 1055, 1056, 1087, 1088, 1099,
+    ];
     assert_eq!(rt; misplaced(rt.alloc(), &version, &places)?, None, "a place");
     assert!(rt; version.len() == 1100 && version.rules_of(7).len() == 1100);
     assert!(rt; version.get(1100).is_none() && version.get(u32::MAX).is_none());
