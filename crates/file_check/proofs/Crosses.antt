@@ -279,13 +279,13 @@ table_sync = fork_sync (Fork.the_row (Fork.the_row blocks)) fork_2_send fork_2_s
 
 -- a group of entries
 abbrev group : RattleType
-group = one Held.the_row
+group = Leaf.the_row Held.the_row
 
 group_send : IsSend group
-group_send = one_send Held.the_row held_send held_sync
+group_send = leaf_send Held.the_row held_send held_sync
 
 group_sync : IsSync group
-group_sync = one_sync Held.the_row held_send held_sync
+group_sync = leaf_sync Held.the_row held_send held_sync
 
 entries_send : IsSend Entries.the_row
 entries_send = let a = three_send group group_send group_sync in let b = group_send in search sendable depth 20
