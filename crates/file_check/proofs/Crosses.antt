@@ -1,6 +1,7 @@
 -- A job may go to any thread, and any thread may share it.
 use denote.RattleType.{RattleType}
 use denote.Param.Send.{IsSend, IsSync, part_keyless, sendable}
+use denote.Param.SendFields.{declared_send}
 use Rattle.std.proofs.Crossing.{crosses}
 use Rattle.dk_model.proofs.term.Term.TheLaws.TheKnot as TermKnot
 use Rattle.dk_model.proofs.scoped.Left.TheLaws.TheKnot as LeftKnot
@@ -13,10 +14,17 @@ use Rattle.dk_model.specs.contracts.signature.Rule as Rule
 use Rattle.dk_model.specs.contracts.signature.Entry as Entry
 use Rattle.board_core.specs.contracts.past.Past as Past
 use Rattle.dk_model.specs.contracts.node.NodeOf as NodeOf
+use Rattle.shared_term.specs.contracts.change.Frame as Frame
 use Rattle.shared_term.specs.contracts.id.TermId as TermId
+use Rattle.shared_term.specs.contracts.memo.Memo as Memo
+use Rattle.shared_term.specs.contracts.memo.Slot as MemoSlot
+use Rattle.shared_term.specs.contracts.memos.Memos as Memos
+use Rattle.shared_term.specs.contracts.nodes.Nodes as Nodes
+use Rattle.shared_term.specs.contracts.pool.Pool as Pool
 use Rattle.shared_term.specs.contracts.short.ShortNode as ShortNode
 use Rattle.shared_term.specs.contracts.packed.Packed as Packed
 use Rattle.shared_term.specs.contracts.stored.Stored as Stored
+use Rattle.shared_term.specs.contracts.summary.Summary as Summary
 use Rattle.signature_log.specs.contracts.branch.Branch as Branch
 use Rattle.signature_log.specs.contracts.cells.Cells as Cells
 use Rattle.signature_log.specs.contracts.entries.Entries as Entries
@@ -35,9 +43,17 @@ use Rattle.rule_match.specs.contracts.branch.Branch as TreeBranch
 use Rattle.rule_match.specs.contracts.branch.Node as TreeNode
 use Rattle.rule_match.specs.contracts.side.Side as Side
 use Rattle.rule_match.specs.contracts.tree.Tree as Tree
+use Rattle.conversion.specs.contracts.state.Answer as Answer
+use Rattle.conversion.specs.contracts.state.Head as Head
+use Rattle.conversion.specs.contracts.state.PoolReducer as PoolReducer
+use Rattle.conversion.specs.contracts.state.Value as Value
+use Rattle.conversion.specs.contracts.table.Slot as TableSlot
+use Rattle.conversion.specs.contracts.table.Table as Table
 use Rattle.conversion.specs.contracts.trees.SymbolTree as SymbolTree
 use Rattle.conversion.specs.contracts.trees.Trees as Trees
+use Rattle.conversion.specs.contracts.walks.Walks as Walks
 use Rattle.file_check.specs.contracts.job.Job as Job
+use Rattle.file_check.specs.contracts.job.Worker as Worker
 
 -- blocks of what may go to any thread, and be shared
 module _ (B : RattleType) (s : IsSend B) (y : IsSync B) where
@@ -304,3 +320,65 @@ job_send = let a = version_send in let b = command_send in search (sendable, cro
 
 pub job_sync : IsSync Job.the_row
 job_sync = let a = version_sync in let b = command_sync in search (sendable, crosses, past_sync) depth 20
+
+-- what a worker keeps from job to job: a pool, and tables of what was worked out
+summary_send : IsSend Summary.the_row
+summary_send = search (sendable, crosses) depth 40 fits 20000
+
+nodes_send : IsSend Nodes.the_row
+nodes_send = let a = node_send in let b = summary_send in search (sendable, crosses) depth 40 fits 20000
+
+memo_slot_send : IsSend MemoSlot.the_row
+memo_slot_send = search (sendable, crosses) depth 40 fits 20000
+
+memo_send : IsSend Memo.the_row
+memo_send = let a = memo_slot_send in search (sendable, crosses) depth 40 fits 20000
+
+memos_send : IsSend Memos.the_row
+memos_send = let a = memo_send in search (sendable, crosses) depth 40 fits 20000
+
+frame_send : IsSend Frame.the_row
+frame_send = search (sendable, crosses) depth 40 fits 20000
+
+pool_send : IsSend Pool.the_row
+pool_send = let a = nodes_send in let b = memos_send in let c = frame_send in search (sendable, crosses) depth 40 fits 20000
+
+module _ (V : RattleType) (s : IsSend V) where
+  table_slot_send : IsSend (TableSlot.the_row V)
+  table_slot_send = search (sendable, crosses) depth 40 fits 20000
+
+  results_send : IsSend (Table.the_row V)
+  results_send = let a = table_slot_send in search (sendable, crosses) depth 40 fits 20000
+
+head_send : IsSend Head.the_row
+head_send = search (sendable, crosses) depth 40 fits 20000
+
+value_send : IsSend Value.the_row
+value_send = search (sendable, crosses) depth 40 fits 20000
+
+answer_send : IsSend Answer.the_row
+answer_send = search (sendable, crosses) depth 40 fits 20000
+
+walks_send : IsSend Walks.the_row
+walks_send = search (sendable, crosses, results_send) depth 40 fits 20000
+
+id_send : IsSend TermId.the_row
+id_send = search (sendable, crosses) depth 40 fits 20000
+
+reducer_send : IsSend PoolReducer.the_row
+reducer_send =
+    declared_send PoolReducer.the_type
+      ( search (sendable, crosses) depth 20
+      , ( pool_send
+      , ( results_send TermId.the_row id_send
+      , ( results_send Head.the_row head_send
+      , ( results_send Value.the_row value_send
+      , ( results_send Value.the_row value_send
+      , ( results_send Answer.the_row answer_send
+      , ( trees_row_send
+      , ( walks_send
+      , ( search (sendable, crosses) depth 20
+      , tt ))))))))))
+
+pub worker_send : IsSend Worker.the_row
+worker_send = declared_send Worker.the_type (reducer_send, tt)

@@ -1,7 +1,8 @@
 use Rattle.file_check.proofs.Desking.{some_of}
-use Rattle.file_check.proofs.Crosses.{job_send, job_sync, trees_send, trees_row_send}
-use Rattle.std.proofs.Common.{rules, ◌∙◌, ap, sym, ◌+◌, arith}
+use Rattle.file_check.proofs.Crosses.{job_send, job_sync, worker_send}
+use Rattle.std.proofs.Common.{◌∙◌, ap, sym, ◌+◌, arith}
 use denote.Exit as Exit
+use Rattle.std.proofs.Crossing.{crosses}
 use denote.Param.Send.{sendable, arg_send, arg_sync, param_send, param_sync}
 use Rattle.task_board.specs.Passes.{IsOver}
 use Rattle.file_check.proofs.checking.checked_book.Goals as goal
@@ -28,4 +29,4 @@ returns-clause-finished g c =
     c.close.ensures.finished (some_of (λ p. IsOver p.seat.me.0) c.run_crew-read.result.1 (omega (arith, count, some)) (λ k d h. (c.run_crew-read.ensures.over k d h).2))
 
 pub run_crew-read-requires-send-C-Kit : goal.run_crew-read-requires-send-C-Kit
-run_crew-read-requires-send-C-Kit g c κs within = let a = trees_send in let b = trees_row_send in param_send 6 _ (arg_send _ Exit.no _ (search rules))
+run_crew-read-requires-send-C-Kit g c κs within = let a = worker_send in search (sendable, crosses) depth 40 fits 20000
