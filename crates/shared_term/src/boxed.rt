@@ -14,7 +14,7 @@ use std::alloc::Global;
 const FEW: usize = 64;
 
 impl Stored {
-    /// A term's nodes. An equal part is found again where its node is near.
+    /// A term's nodes. An equal part is mostly found again.
     pub fn from_term(alloc: Global, it: &Term) -> Result<Stored, NoMemory>
         ensures { IfOk result (λ s. stored_term s ≡ tree it.now) }
     {

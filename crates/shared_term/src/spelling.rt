@@ -8,15 +8,19 @@ ghost use Rattle.shared_term.specs.Spelling.{AreThere, Turns, spelt_tree};
 
 use crate::building::{Stage, Waiting};
 use crate::change::Pair;
-use crate::listing::shared;
+use crate::listing::{Lately, shared};
 use crate::walk::joined;
 use crate::{Node, TermId};
 use dk_model::{NoMemory, NodeOf, Term};
 use std::alloc::Global;
 
+// What waits has places for so many at once, as few terms nest deeper.
+const FEW: usize = 16;
+
 // A turn before a term, of which the first part comes next.
 fn before<'a>(
     nodes: &mut Vec<Node>,
+    lately: &mut Lately,
     waiting: &mut Vec<Waiting<&'a Term, TermId>>,
     it: &'a Term,
     erases: bool,
@@ -27,11 +31,11 @@ fn before<'a>(
         waiting.old.items (Before it.entry) waiting.new.items s) }
 {
     match it {
-        Term::Star => Ok(Stage::After(shared(nodes, NodeOf::Star)?)),
-        Term::Kind => Ok(Stage::After(shared(nodes, NodeOf::Kind)?)),
-        Term::Sym(k) => Ok(Stage::After(shared(nodes, NodeOf::Sym(*k))?)),
-        Term::Var(k) => Ok(Stage::After(shared(nodes, NodeOf::Var(*k))?)),
-        Term::Rvar(k) => Ok(Stage::After(shared(nodes, NodeOf::Rvar(*k))?)),
+        Term::Star => Ok(Stage::After(shared(nodes, lately, NodeOf::Star)?)),
+        Term::Kind => Ok(Stage::After(shared(nodes, lately, NodeOf::Kind)?)),
+        Term::Sym(k) => Ok(Stage::After(shared(nodes, lately, NodeOf::Sym(*k))?)),
+        Term::Var(k) => Ok(Stage::After(shared(nodes, lately, NodeOf::Var(*k))?)),
+        Term::Rvar(k) => Ok(Stage::After(shared(nodes, lately, NodeOf::Rvar(*k))?)),
         Term::App(f, a) => {
             let second: &'a Term = a;
             waiting.push(Waiting::First {
@@ -72,6 +76,7 @@ fn before<'a>(
 // A turn after a term, which stands at `id`, at what waits for it.
 fn after<'a>(
     nodes: &mut Vec<Node>,
+    lately: &mut Lately,
     waiting: &mut Vec<Waiting<&'a Term, TermId>>,
     last: Waiting<&'a Term, TermId>,
     id: TermId,
@@ -88,9 +93,9 @@ fn after<'a>(
             Ok(Stage::Before(second))
         }
         Waiting::Second { pair, first } => {
-            Ok(Stage::After(shared(nodes, joined(pair, first, id))?))
+            Ok(Stage::After(shared(nodes, lately, joined(pair, first, id))?))
         }
-        Waiting::Body => Ok(Stage::After(shared(nodes, NodeOf::Abs(None, id))?)),
+        Waiting::Body => Ok(Stage::After(shared(nodes, lately, NodeOf::Abs(None, id))?)),
     }
 }
 
@@ -106,14 +111,15 @@ pub(crate) fn spelt(
     ensures is { IfOk result (λ r. term nodes.new.items r ≡ spelt_tree erases (tree it.now)) }
     ensures spelt { OnOk result (IsSpelt nodes.new.items) }
 {
-    let mut waiting = Vec::new(alloc);
+    let mut lately = Lately::new();
+    let mut waiting = Vec::with_capacity(alloc, FEW)?;
     let mut stage = Stage::Before(it);
     loop {
         stage = match stage {
-            Stage::Before(part) => before(nodes, &mut waiting, part, erases)?,
+            Stage::Before(part) => before(nodes, &mut lately, &mut waiting, part, erases)?,
             Stage::After(id) => match waiting.pop() {
                 None => return Ok(id),
-                Some(last) => after(nodes, &mut waiting, last, id)?,
+                Some(last) => after(nodes, &mut lately, &mut waiting, last, id)?,
             },
         };
     }
