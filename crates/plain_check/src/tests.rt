@@ -68,6 +68,17 @@ fn outcome_of_trees(
     Ok((commands.len(), Verdict::Accepted))
 }
 
+// The entry that a command adds, where it is accepted over shared terms of which nothing is remembered; else its verdict.
+fn entered(
+    terms: &mut PoolReducer,
+    version: &Version,
+    command: &Scoped,
+    budget: u64,
+) -> Result<Entry<Stored>, Verdict> {
+    terms.clear();
+    enter_command(terms, version, command, budget)
+}
+
 /// The same over shared terms.
 fn outcome_of_shared_terms(
     alloc: Global,
@@ -77,8 +88,7 @@ fn outcome_of_shared_terms(
     let mut version = Version::empty(alloc)?;
     let mut terms = PoolReducer::new(alloc)?;
     for (i, command) in commands.iter().enumerate() {
-        terms.clear();
-        match enter_command(&mut terms, &version, command, budget) {
+        match entered(&mut terms, &version, command, budget) {
             Ok(entry) => version = appended(alloc, &version, entry)?,
             Err(verdict) => return Ok((i + 1, verdict)),
         }
