@@ -1,0 +1,84 @@
+//! What a call of the program does, over any shelf and sink.
+ghost use Rattle.std.specs.Prelude.{◌≡◌, length};
+ghost use Rattle.board_core.specs.Machine.{IsFinished, marks_of};
+
+use crate::trial::try_book;
+use crate::tried::Tried;
+use command_line::{CheckRequest, Request, read_request, usage_text};
+use dk_io::{Failed, Shelf, Sink, put, put_all};
+use dk_model::Limits;
+use std::alloc::Global;
+use std::io::ErrorKind;
+use verdict_book::{outcome_of, write_report};
+
+// The statuses of docs/report.md that no outcome of a file has.
+const USAGE: u8 = 2;
+
+const UNOPENED: u8 = 3;
+
+pub const NO_MEMORY: u8 = 4;
+
+const SINK_FAILED: u8 = 5;
+
+/// Does what the words ask, and answers the status (docs/report.md). The only thing that can be asked is the check of a
+/// file; the number of workers is taken and changes nothing.
+pub fn answer_call<H: Shelf, K: Sink>(
+    alloc: Global,
+    words: &Result<Vec<String>, ErrorKind>,
+    shelf: &mut H,
+    sink: &mut K,
+) -> u8 {
+    let words = match words {
+        Ok(words) => words.as_slice(),
+        Err(ErrorKind::OutOfMemory) => return NO_MEMORY,
+        Err(_) => return USAGE,
+    };
+    match read_request(alloc, words) {
+        Ok(Some(Request::Check(request))) => check_file(alloc, shelf, sink, &request),
+        Ok(_) => told(put(sink, usage_text()), USAGE),
+        Err(_) => put_memory(sink),
+    }
+}
+
+// The status of a report that is written.
+fn told(written: Result<(), Failed>, status: u8) -> u8 {
+    match written {
+        Ok(()) => status,
+        Err(Failed) => SINK_FAILED,
+    }
+}
+
+// Memory ended before the first command.
+fn put_memory<K: Sink>(sink: &mut K) -> u8 {
+    told(put(sink, b"memory 0 line 0\n"), NO_MEMORY)
+}
+
+fn check_file<H: Shelf, K: Sink>(
+    alloc: Global,
+    shelf: &mut H,
+    sink: &mut K,
+    request: &CheckRequest<'_>,
+) -> u8 {
+    let Ok(()) = shelf.open_book(request.file) else {
+        let line = [
+            b"unopened ".as_slice(),
+            request.file.as_bytes(),
+            b"\n".as_slice(),
+        ];
+        return told(put_all(sink, &line), UNOPENED);
+    };
+    match try_book(alloc, Limits::standard(), request.budget, shelf) {
+        Ok(tried) => put_report(sink, &tried, request),
+        Err(_) => put_memory(sink),
+    }
+}
+
+fn put_report<K: Sink>(sink: &mut K, tried: &Tried, request: &CheckRequest<'_>) -> u8
+    requires finished { IsFinished (marks_of tried.now.book.jobs) tried.now.book.events }
+    requires all { length tried.now.titles ≡ length tried.now.book.jobs }
+{
+    let Tried { book, titles } = tried;
+    let outcome = outcome_of(book, titles);
+    let written = write_report(book, titles, request.budget, request.quiet, sink);
+    told(written, outcome.status())
+}
