@@ -367,18 +367,37 @@ id_send = search (sendable, crosses) depth 40 fits 20000
 
 reducer_send : IsSend PoolReducer.the_row
 reducer_send =
-    declared_send PoolReducer.the_type
-      ( search (sendable, crosses) depth 20
-      , ( pool_send
-      , ( results_send TermId.the_row id_send
-      , ( results_send Head.the_row head_send
-      , ( results_send Value.the_row value_send
-      , ( results_send Value.the_row value_send
-      , ( results_send Answer.the_row answer_send
-      , ( trees_row_send
-      , ( walks_send
-      , ( search (sendable, crosses) depth 20
-      , tt ))))))))))
+    declared_send PoolReducer.the_type (
+      search (sendable, crosses) depth 20,
+      (
+        pool_send,
+        (
+          results_send TermId.the_row id_send,
+          (
+            results_send Head.the_row head_send,
+            (
+              results_send Value.the_row value_send,
+              (
+                results_send Value.the_row value_send,
+                (
+                  results_send Answer.the_row answer_send,
+                  (
+                    trees_row_send,
+                    (
+                      walks_send,
+                      (
+                        search (sendable, crosses) depth 20,
+                        tt,
+                      ),
+                    ),
+                  ),
+                ),
+              ),
+            ),
+          ),
+        ),
+      ),
+    )
 
 pub worker_send : IsSend Worker.the_row
 worker_send = declared_send Worker.the_type (reducer_send, tt)
