@@ -13,6 +13,10 @@ use Rattle.shared_term.specs.Summaries.{IsSummary, AreSummaries, blank, summary_
 use Rattle.shared_term.proofs.Summing.{both_right, inside_right, annotated_right, product_right}
 use Rattle.shared_term.specs.Pools.{Node, at, denoted, IsWithin, terms_after, terms, IsPool, Extends}
 
+pub no_terms : terms [] ≡ []
+unfolding terms
+no_terms = refl
+
 -- one node after others
 after-push : (ts : List Tree) (ns : List Node) (n : Node) → terms_after ts (ns ++ n ∷ []) ≡ terms_after ts ns ++ denoted (terms_after ts ns) n ∷ []
 after-push ts [] n = refl

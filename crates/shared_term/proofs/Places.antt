@@ -8,7 +8,7 @@ use Rattle.dk_model.specs.declared.NodeOf.TheVariants.{Star, Kind, Sym, Var, Rva
 use Rattle.shared_term.specs.declared.id.TermId.{TermId}
 use Rattle.shared_term.specs.Pools.{Node, at, denoted, IsWithin, terms, term, Extends}
 use Rattle.shared_term.specs.Storage.{IsSpelt, renamed, AreLoaded, IsNeeded, PartsNeeded, AreMarked, ArePlaced}
-use Rattle.shared_term.proofs.Growth.{extends-push, denoted-extends, within_further, split_push, last_term, below_or_last}
+use Rattle.shared_term.proofs.Growth.{no_terms, extends-push, denoted-extends, within_further, split_push, last_term, below_or_last}
 
 spelt-at : (ns : List Node) (n : Node) → IsSpelt ns → IsWithin (length ns) n → (i : ℕ) (m : Node)
     → ((i < length ns) × (slice_get ns i ≡ Some m)) ⊎ ((i ≡ length ns) × (m ≡ n)) → IsWithin i m × (get_or (terms (ns ++ n ∷ [])) i star ≡ denoted (terms (ns ++ n ∷ [])) m)
@@ -30,6 +30,16 @@ spelt-push ns n h w = record {
   within = λ i m at-i. (spelt-at ns n h w i m (split_push ns n i m at-i)).0;
   built = λ i m at-i. (spelt-at ns n h w i m (split_push ns n i m at-i)).1;
 }
+
+none_spelt : IsSpelt []
+none_spelt = record { within = λ i n e. cc; built = λ i n e. cc }
+
+-- a node without parts, alone in its list
+pub one_spelt : (n : Node) → IsWithin 0 n → IsSpelt (n ∷ [])
+one_spelt n w = spelt-push [] n none_spelt w
+
+pub one_term : (n : Node) → get_or (terms (n ∷ [])) 0 star ≡ denoted [] n
+one_term n = last_term [] n ∙ ap (λ ts. denoted ts n) no_terms
 
 -- the part has a place, at which its term stands
 abbrev HasPlace : List Node → List Node → List TermId → TermId → Type 0

@@ -1,11 +1,11 @@
 -- The nodes of a stored term, as they stand in memory.
-use Rattle.std.specs.Prelude.{List, map, Some, None}
+use Rattle.std.specs.Prelude.{List, [], ◌∷◌, map, Some, None}
 use Rattle.dk_model.specs.declared.NodeOf.TheVariants as node
 use Rattle.shared_term.specs.declared.id.TermId.{TermId}
 use Rattle.shared_term.specs.declared.short.ShortNode.{ShortNode}
 use Rattle.shared_term.specs.declared.short.ShortNode.TheVariants.{Star, Kind, Sym, Var, Rvar, App, Bare, Annotated, Prod}
 use Rattle.shared_term.specs.declared.packed.Packed.{Packed}
-use Rattle.shared_term.specs.declared.packed.Packed.TheVariants.{Short, Full}
+use Rattle.shared_term.specs.declared.packed.Packed.TheVariants.{One, Short, Full}
 use Rattle.shared_term.specs.Pools.{Node}
 
 -- the node that a short one stands for
@@ -22,5 +22,6 @@ full_node (Prod a b) = node.Prod (record { 0 = a }) (record { 0 = b })
 
 -- the nodes, and the place of the outermost one
 abbrev pub unpacked : Packed → List Node × TermId
+unpacked (One node) = (node ∷ [], record { 0 = 0 })
 unpacked (Short root nodes) = (map full_node nodes.items, root)
 unpacked (Full root nodes) = (nodes.items, root)

@@ -1,23 +1,45 @@
 //! Between stored terms and terms of boxes.
-ghost use Rattle.std.specs.Prelude.{◌≡◌, IfOk};
+ghost use Rattle.std.specs.Prelude.{◌≡◌, [], IfOk, IfSome};
 ghost use Rattle.dk_model.specs.Trees.{tree};
 ghost use Rattle.dk_model.specs.Erasure.{erased};
+ghost use Rattle.shared_term.specs.Pools.{denoted, IsWithin};
 ghost use Rattle.shared_term.specs.Storage.{stored_term};
 
-use crate::Stored;
 use crate::boxing::boxed;
 use crate::spelling::spelt;
-use dk_model::{NoMemory, Term};
+use crate::{Node, Stored};
+use dk_model::{NoMemory, NodeOf, Term};
 use std::alloc::Global;
 
 // A list that is to be packed has places for so many nodes at once, as most terms need no more.
 const FEW: usize = 64;
 
+// The node of a term without parts.
+fn single(it: &Term) -> Option<Node>
+    ensures within { IfSome result (λ n. IsWithin 0 n) }
+    ensures is { IfSome result (λ n. denoted [] n ≡ tree it.now) }
+    ensures erased { IfSome result (λ n. denoted [] n ≡ erased (tree it.now)) }
+{
+    match it {
+        Term::Star => Some(NodeOf::Star),
+        Term::Kind => Some(NodeOf::Kind),
+        Term::Sym(k) => Some(NodeOf::Sym(*k)),
+        Term::Var(k) => Some(NodeOf::Var(*k)),
+        Term::Rvar(k) => Some(NodeOf::Rvar(*k)),
+        Term::App(_, _) => None,
+        Term::Abs(_, _) => None,
+        Term::Prod(_, _) => None,
+    }
+}
+
 impl Stored {
-    /// A term's nodes. An equal part is mostly found again.
+    /// A term's nodes. An equal part is found again where its node's slot still has it (docs/DECISIONS.md).
     pub fn from_term(alloc: Global, it: &Term) -> Result<Stored, NoMemory>
         ensures { IfOk result (λ s. stored_term s ≡ tree it.now) }
     {
+        if let Some(node) = single(it) {
+            return Ok(Stored::one(node));
+        }
         let mut nodes = Vec::with_capacity(alloc, FEW)?;
         let root = spelt(alloc, &mut nodes, it, false)?;
         Stored::new(alloc, nodes, root)
@@ -27,6 +49,9 @@ impl Stored {
     pub fn from_erased(alloc: Global, it: &Term) -> Result<Stored, NoMemory>
         ensures { IfOk result (λ s. stored_term s ≡ erased (tree it.now)) }
     {
+        if let Some(node) = single(it) {
+            return Ok(Stored::one(node));
+        }
         let mut nodes = Vec::with_capacity(alloc, FEW)?;
         let root = spelt(alloc, &mut nodes, it, true)?;
         Stored::new(alloc, nodes, root)

@@ -10,6 +10,8 @@ use std::alloc::Global;
 /// Nodes, and the place of the outermost one.
 #[derive(Drop)]
 pub(crate) enum Packed {
+    /// A node without parts, which takes no block.
+    One(Node),
     /// Each in four bytes.
     Short { root: TermId, nodes: Vec<ShortNode> },
     Full { root: TermId, nodes: Vec<Node> },
@@ -47,6 +49,7 @@ impl Packed {
         ensures { IfOk result (λ p. unpacked p ≡ unpacked self.now) }
     {
         match self {
+            Packed::One(node) => Ok(Packed::One(*node)),
             Packed::Short { root, nodes } => Ok(Packed::Short {
                 root: *root,
                 nodes: nodes.as_slice().to_vec(alloc)?,
@@ -62,6 +65,7 @@ impl Packed {
         ensures { result ≡ (unpacked self.now).1 }
     {
         match self {
+            Packed::One(_) => TermId(0),
             Packed::Short { root, .. } => *root,
             Packed::Full { root, .. } => *root,
         }
@@ -71,6 +75,7 @@ impl Packed {
         ensures { result ≡ length (unpacked self.now).0 }
     {
         match self {
+            Packed::One(_) => 1,
             Packed::Short { nodes, .. } => nodes.len(),
             Packed::Full { nodes, .. } => nodes.len(),
         }
@@ -82,6 +87,7 @@ impl Packed {
         ensures { slice_get (unpacked self.now).0 at ≡ Some result }
     {
         match self {
+            Packed::One(node) => *node,
             Packed::Short { nodes, .. } => full_node(nodes[at]),
             Packed::Full { nodes, .. } => nodes[at],
         }

@@ -1,8 +1,8 @@
 //! A term in a compact list of its own, outside any pool.
-ghost use Rattle.std.specs.Prelude.{◌≡◌, ◌<◌, length, get_or, slice_get, Some, IfOk};
+ghost use Rattle.std.specs.Prelude.{◌≡◌, ◌<◌, [], length, get_or, slice_get, Some, IfOk};
 ghost use Rattle.dk_model.specs.Trees.{star};
 ghost use Rattle.shared_term.specs.Pools.{IsWithin, denoted, terms};
-ghost use Rattle.shared_term.specs.Storage.{IsSpelt, IsStored};
+ghost use Rattle.shared_term.specs.Storage.{IsSpelt, IsStored, stored_term};
 
 use crate::packed::Packed;
 use crate::{Node, TermId};
@@ -33,6 +33,16 @@ impl Model for Stored {
 }
 
 impl Stored {
+    /// The term of a node without parts.
+    pub(crate) fn one(node: Node) -> Stored
+        requires { IsWithin 0 node }
+        ensures { stored_term result ≡ denoted [] node }
+    {
+        Stored {
+            packed: Packed::One(node),
+        }
+    }
+
     /// The nodes of the list, with the place of the outermost one.
     pub(crate) fn new(alloc: Global, nodes: Vec<Node>, root: TermId) -> Result<Stored, NoMemory>
         requires { IsStored nodes.items root }
@@ -52,7 +62,8 @@ impl Stored {
         })
     }
 
-    /// How many nodes it has. Each takes 4 bytes where all their numbers are small, else 16.
+    /// How many nodes it has. One alone takes no block; of several each takes 4 bytes where all their numbers are small,
+    /// else 16.
     pub fn len(&self) -> usize
         ensures { result ≡ length self.now.0 }
     {
