@@ -6,6 +6,7 @@ use Rattle.std.proofs.Crossing.{crosses}
 use Rattle.dk_model.proofs.term.Term.TheLaws.TheKnot as TermKnot
 use Rattle.dk_model.proofs.scoped.Left.TheLaws.TheKnot as LeftKnot
 use Rattle.dk_model.proofs.signature.Pat.TheLaws.TheKnot as PatKnot
+use Rattle.signature_log.proofs.chain.Chain.TheLaws.TheKnot as ChainKnot
 use Rattle.dk_model.specs.contracts.term.Term as Term
 use Rattle.dk_model.specs.contracts.scoped.Left as Left
 use Rattle.dk_model.specs.contracts.scoped.ScopedRule as ScopedRule
@@ -27,6 +28,7 @@ use Rattle.shared_term.specs.contracts.stored.Stored as Stored
 use Rattle.shared_term.specs.contracts.summary.Summary as Summary
 use Rattle.signature_log.specs.contracts.branch.Branch as Branch
 use Rattle.signature_log.specs.contracts.cells.Cells as Cells
+use Rattle.signature_log.specs.contracts.chain.Chain as Chain
 use Rattle.signature_log.specs.contracts.entries.Entries as Entries
 use Rattle.signature_log.specs.contracts.fork.Fork as Fork
 use Rattle.signature_log.specs.contracts.held.Held as Held
@@ -80,6 +82,12 @@ module _ (B : RattleType) (s : IsSend B) (y : IsSync B) where
 
   cells_sync : IsSync (Cells.the_row B)
   cells_sync = search (sendable, crosses) depth 40
+
+  chain_send : IsSend (Chain.the_row B)
+  chain_send = search (sendable, crosses, ChainKnot.crosses) depth 40
+
+  chain_sync : IsSync (Chain.the_row B)
+  chain_sync = search (sendable, crosses, ChainKnot.crosses) depth 40
 
 -- of so many levels
 module _ (B : RattleType) (s : IsSend B) (y : IsSync B) where
@@ -304,10 +312,10 @@ group_sync : IsSync group
 group_sync = leaf_sync Held.the_row held_send held_sync
 
 entries_send : IsSend Entries.the_row
-entries_send = let a = three_send group group_send group_sync in let b = group_send in search sendable depth 20
+entries_send = let a = three_send group group_send group_sync in let b = chain_send Held.the_row held_send held_sync in search sendable depth 20
 
 entries_sync : IsSync Entries.the_row
-entries_sync = let a = three_sync group group_send group_sync in let b = group_sync in search sendable depth 20
+entries_sync = let a = three_sync group group_send group_sync in let b = chain_sync Held.the_row held_send held_sync in search sendable depth 20
 
 pub version_send : IsSend Version.the_row
 version_send = let a = entries_send in let b = table_send in search sendable depth 20

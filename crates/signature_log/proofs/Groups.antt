@@ -1,4 +1,4 @@
--- Whole groups in a row and what stands beside them: where a place stands, how many there are, and one more.
+-- Whole groups in a row and the chain behind them: where a place stands, how many there are, and one more.
 use Rattle.std.proofs.Common.{◌≡◌, ℕ, ◌+◌, ◌-◌, ◌*◌, ◌/◌, ◌%◌, ◌<◌, ◌≤◌, zero, suc, List, [], ◌∷◌, ◌++◌, length, slice_get, Some, None, refl, sym, ◌∙◌, ap, subst, arith, length-append, append-nil, append_assoc, inl, inr}
 use Rattle.std.specs.List.{All, flat_map}
 use Rattle.std.proofs.lemmas.Grind.{flat_map-append}
@@ -56,8 +56,8 @@ module _ {A : Type 0} where
   pub whole_at : (groups : List (List A)) (q : ℕ) (g : List A) → All IsWhole groups → slice_get groups q ≡ Some g → length g ≡ 32
   whole_at groups q g whole is = subst IsWhole (get_or_from_slice_get groups q g g is) (All-get_or IsWhole groups q g (slice_get_within groups q g is) whole)
 
-  pub all : (groups : List (List (List (List A)))) (recent : List A) → IsGrouped groups recent → length (grouped groups recent) ≡ length (places_3 groups) * 32 + length recent
-  all groups recent is = length-append (flat (places_3 groups)) recent ∙ omega (arith, count (places_3 groups) is.whole)
+  pub all : (groups : List (List (List (List A)))) (recent : List A) → All IsWhole (places_3 groups) → length (grouped groups recent) ≡ length (places_3 groups) * 32 + length recent
+  all groups recent whole = length-append (flat (places_3 groups)) recent ∙ omega (arith, count (places_3 groups) whole)
 
   -- one more beside the groups
   pub added : (groups : List (List (List (List A)))) (recent new : List A) (x : A) → new ≡ recent ++ x ∷ [] → grouped groups new ≡ grouped groups recent ++ x ∷ []
@@ -72,28 +72,38 @@ module _ {A : Type 0} where
   one_longer : (xs ys : List A) (x : A) → ys ≡ xs ++ x ∷ [] → length ys ≡ length xs + 1
   one_longer xs ys x e = ap length e ∙ length-append xs (x ∷ [])
 
-  pub added_grouped : (groups same : List (List (List (List A)))) (recent new : List A) (x : A) → IsGrouped groups recent → same ≡ groups → new ≡ recent ++ x ∷ [] → length new < 32 → length (grouped groups recent) < 1048576 → IsGrouped same new
-  added_grouped groups same recent new x is copied made less room =
+  pub added_grouped : (groups same : List (List (List (List A)))) (recent new : List A) (x : A) (n : ℕ) → IsGrouped groups recent n → same ≡ groups → new ≡ recent ++ x ∷ [] → 0 < (n + 1) % 32 → n < 1048576 → IsGrouped same new (n + 1)
+  added_grouped groups same recent new x n is copied made free room =
       let longer = one_longer (grouped groups recent) (grouped groups new) x (added groups recent new x made) in
-      subst (λ gs. IsGrouped gs new) (sym copied) record {
+      let one = one_longer recent new x made in
+      let due = all groups recent is.whole in
+      let few : length new < 32 = omega (arith, one, due, is.counted, is.few, free) in
+      subst (λ gs. IsGrouped gs new (n + 1)) (sym copied) record {
         sound = is.sound;
         whole = is.whole;
-        few = less;
-        within = omega (arith, longer, room);
+        few = few;
+        counted = omega (arith, longer, is.counted);
+        within = omega (arith, room);
       }
 
-  pub closed_grouped : (groups more : List (List (List (List A)))) (recent new : List A) (x : A) → IsGrouped groups recent → IsSound_3 more → new ≡ recent ++ x ∷ [] → places_3 more ≡ places_3 groups ++ new ∷ [] → 32 ≤ length new → length (grouped groups recent) < 1048576 → IsGrouped more []
-  closed_grouped groups more recent new x is sound made made_more full room =
+  pub closed_grouped : (groups more : List (List (List (List A)))) (recent new : List A) (x : A) (n : ℕ) → IsGrouped groups recent n → IsSound_3 more → new ≡ recent ++ x ∷ [] → places_3 more ≡ places_3 groups ++ new ∷ [] → (n + 1) % 32 ≡ 0 → n < 1048576 → IsGrouped more [] (n + 1)
+  closed_grouped groups more recent new x n is sound made made_more full room =
       let longer = one_longer (grouped groups recent) (grouped more []) x (closed groups more recent new x made made_more) in
       let one = one_longer recent new x made in
-      let last : length new ≡ 32 = omega (arith, one, is.few, full) in
+      let due = all groups recent is.whole in
+      let last : length new ≡ 32 = omega (arith, one, due, is.counted, is.few, full) in
       record {
         sound = sound;
         whole = subst (All IsWhole) (sym made_more) (All-push IsWhole (places_3 groups) new is.whole last);
         few = omega arith;
-        within = omega (arith, longer, room);
+        counted = omega (arith, longer, is.counted);
+        within = omega (arith, room);
       }
 
+  -- there is room for a place
+  pub below : (groups : List (List (List (List A)))) (recent : List A) (n : ℕ) → IsGrouped groups recent n → length (grouped groups recent) < 1048576 → n < 1048576
+  below groups recent n is less = omega (arith, is.counted, less)
+
   -- where there is room for a place there is room for a group
-  pub room : (groups : List (List (List (List A)))) (recent : List A) → IsGrouped groups recent → length (grouped groups recent) < 1048576 → length (places_3 groups) < 32768
-  room groups recent is less = omega (arith, all groups recent is, less)
+  pub room : (groups : List (List (List (List A)))) (recent : List A) (n : ℕ) → IsGrouped groups recent n → n < 1048576 → length (places_3 groups) < 32768
+  room groups recent n is less = omega (arith, all groups recent is.whole, is.counted, less)

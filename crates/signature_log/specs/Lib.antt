@@ -1,4 +1,5 @@
 pub mod Blocks
+pub mod Chains
 pub mod Groups
 pub mod Slots
 pub mod Placed

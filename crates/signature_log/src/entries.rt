@@ -3,8 +3,9 @@ ghost use Rattle.std.specs.Prelude.{◌≡◌, ◌+◌, ◌<◌, ◌≤◌, [], 
 ghost use Rattle.std.specs.Option.{option_copied};
 
 use crate::Steps;
-use crate::blocks::{Blocks, Share};
+use crate::blocks::{Blocks, Share, WIDTH};
 use crate::branch::Branch;
+use crate::chain::Chain;
 use crate::held::Held;
 use crate::leaf::Leaf;
 use dk_model::NoMemory;
@@ -18,13 +19,14 @@ const GROUP: u64 = 32;
 /// Groups of 32 entries, in three levels of blocks of 32.
 type Groups = Branch<Branch<Leaf<Leaf<Held>>>>;
 
-/// Entries in order: whole groups of 32, then the last ones, fewer than 32.
+/// Entries in order: whole groups of 32, then the last ones, fewer than 32, in a chain.
 ///
-/// So adding an entry mostly copies the last ones alone, and touches the blocks of groups once in 32 times.
+/// So adding an entry mostly takes one link and copies nothing, and touches the blocks of groups once in 32 times.
 #[derive(Drop)]
 pub struct Entries {
     groups: Groups,
-    recent: Leaf<Held>,
+    recent: Chain<Held>,
+    count: u64,
 }
 
 impl Model for Entries {
@@ -43,7 +45,24 @@ impl Model for Entries {
 
     ghost view = { λ entries. grouped entries.groups entries.recent };
 
-    ghost invariant = { λ entries. IsGrouped entries.groups entries.recent };
+    ghost invariant = { λ entries. IsGrouped entries.groups entries.recent entries.count };
+}
+
+/// The last entries with one more, as a group.
+fn group_of<L: Ledger>(
+    alloc: Global,
+    recent: &Chain<Held>,
+    entry: Held,
+    steps: &mut Steps<L>,
+) -> Result<Leaf<Held>, NoMemory>
+    ensures places { IfOk result (λ group. group ≡ recent.now ++ entry ∷ []) }
+    ensures cost { steps.new ≤ steps.old + (length recent.now + 1) }
+{
+    let mut all = Vec::with_capacity(alloc, WIDTH)?;
+    recent.list(&mut all, steps)?;
+    steps.tick();
+    all.push(entry)?;
+    Leaf::new(alloc, all)
 }
 
 impl Entries {
@@ -52,7 +71,8 @@ impl Entries {
     {
         Ok(Entries {
             groups: Branch::empty(alloc)?,
-            recent: Leaf::empty(alloc)?,
+            recent: Chain::empty(),
+            count: 0,
         })
     }
 
@@ -60,19 +80,22 @@ impl Entries {
         ensures count { result ≡ length self.now }
         ensures within { result ≤ 1048576 }
     {
-        self.groups.len() * GROUP + self.recent.len()
+        self.count
     }
 
     pub fn get(&self, at: u64) -> Option<&Held>
         ensures { option_copied result ≡ slice_get self.now at }
     {
+        if at >= self.count {
+            return None;
+        }
         match self.groups.get(at / GROUP) {
             Some(group) => group.get(at % GROUP),
-            None => self.recent.get(at - self.groups.len() * GROUP),
+            None => self.recent.get_back(self.count - 1 - at),
         }
     }
 
-    /// The entries with one more. Where that makes 32 of the last ones, they become a group.
+    /// The entries with one more. Where that would make 32 of the last ones, they become a group.
     pub fn append<L: Ledger>(
         &self,
         alloc: Global,
@@ -83,14 +106,24 @@ impl Entries {
         ensures entries { IfOk result (λ entries. entries ≡ self.now ++ entry ∷ []) }
         ensures cost { steps.new ≤ steps.old + 128 }
     {
-        let recent = self.recent.append(alloc, entry, steps)?;
-        if recent.len() < GROUP {
+        let count = self.count + 1;
+        if count % GROUP != 0 {
+            let recent = self.recent.append(alloc, entry, steps)?;
             let groups = self.groups.share()?;
-            return Ok(Entries { groups, recent });
+            return Ok(Entries {
+                groups,
+                recent,
+                count,
+            });
         }
-        let groups = self.groups.append(alloc, recent, steps)?;
-        let recent = Leaf::empty(alloc)?;
-        Ok(Entries { groups, recent })
+        let group = group_of(alloc, &self.recent, entry, steps)?;
+        let groups = self.groups.append(alloc, group, steps)?;
+        let recent = Chain::empty();
+        Ok(Entries {
+            groups,
+            recent,
+            count,
+        })
     }
 }
 
@@ -99,6 +132,7 @@ impl Share for Entries {
         Ok(Entries {
             groups: self.groups.share()?,
             recent: self.recent.share()?,
+            count: self.count,
         })
     }
 }

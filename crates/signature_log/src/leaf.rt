@@ -28,14 +28,14 @@ impl<T> Model for Leaf<T> {
 }
 
 impl<T> Leaf<T> {
-    /// No places.
-    pub fn empty(alloc: Global) -> Result<Leaf<T>, NoMemory>
+    /// A block of these places.
+    pub fn new(alloc: Global, places: Vec<T>) -> Result<Leaf<T>, NoMemory>
     where
         T: Drop,
-        ensures { IfOk result (λ leaf. leaf ≡ []) }
+        ensures { IfOk result (λ leaf. leaf ≡ places.items) }
     {
         Ok(Leaf {
-            places: Arc::new(alloc, Vec::new(alloc))?,
+            places: Arc::new(alloc, places)?,
         })
     }
 

@@ -7,6 +7,7 @@ mod blocks;
 mod boxing;
 mod branch;
 mod cells;
+mod chain;
 mod entries;
 mod fork;
 mod grow;

@@ -4,7 +4,7 @@ ghost use Rattle.std.specs.Prelude.{◌≡◌, ◌+◌};
 use std::marker::Model;
 use std::sync::ledger::{Blank, Book, Ledger, Share};
 
-/// How many places were copied into new blocks. It takes no bytes, and only `tick` changes it.
+/// How many places were put into new blocks and links. It takes no bytes, and only `tick` changes it.
 #[derive(Drop)]
 pub struct Steps<L: Ledger> {
     book: Book<L>,

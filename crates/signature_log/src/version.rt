@@ -24,8 +24,8 @@ use std::sync::ledger::{Blank, Ledger};
 
 /// The entries of the commands accepted so far, in file order. Symbol `k` is declared by entry `k`, from 0.
 ///
-/// A version never changes: `append` gives another one, which shares with it all but the last entries, and once in 32
-/// times all but a block of each level.
+/// A version never changes: `append` gives another one, which shares with it all but one link, and once in 32 times all
+/// but a group and a block of each level.
 #[derive(Drop)]
 pub struct Version {
     alloc: Global,
@@ -104,7 +104,7 @@ impl Version {
         self.append_counted(entry, &mut steps)
     }
 
-    /// The same with a count: a step for each place that is copied into a new block of entries.
+    /// The same with a count: a step for each place that is put into a new block of entries, and for a new link.
     pub fn append_counted<L: Ledger>(
         &self,
         entry: Arc<Entry<Stored>>,
