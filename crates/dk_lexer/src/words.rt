@@ -1,6 +1,7 @@
 //! What a plain run is.
-ghost use Rattle.std.specs.Prelude.{◌≡◌};
-ghost use Rattle.dk_lexer.specs.Spelling.{is_wildcard, is_outside, kind_of};
+ghost use Rattle.std.specs.Prelude.{◌≡◌, Some, slice_get, if◌then◌else◌};
+ghost use Rattle.std.specs.Str.{bytes_eq};
+ghost use Rattle.dk_lexer.specs.Spelling.{is_wildcard, kind_of};
 ghost use Rattle.dk_lexer.specs.Tokens.{command_after};
 
 use crate::{Sign, TokenKind};
@@ -16,33 +17,56 @@ pub fn is_wildcard(text: &[u8]) -> bool
 }
 
 /// The kind of a plain run that stands alone.
-#[tactic(auto, unfolding(crate::specs::Spelling::kind_of))]
 pub fn kind_of(text: &[u8]) -> TokenKind
     ensures { result ≡ kind_of text.now }
 {
-    if is_wildcard(text) {
-        TokenKind::Wildcard
-    } else if text == b"Type".as_slice() {
-        TokenKind::Star
-    } else if text == b"def".as_slice() {
-        TokenKind::Def
-    } else if text == b"thm".as_slice() {
-        TokenKind::Thm
-    } else if is_outside(text) {
-        TokenKind::Profile
-    } else {
-        TokenKind::Plain
+    match text.first() {
+        Some(first) => kind_by(*first, text),
+        None => TokenKind::Plain,
     }
 }
 
-// Is it a word outside the profile.
-fn is_outside(text: &[u8]) -> bool
-    ensures { result ≡ is_outside text.now }
+// The kind of a plain run that begins with this byte: most begin as no word does.
+fn kind_by(first: u8, text: &[u8]) -> TokenKind
+    requires { Some first ≡ slice_get text.now 0 }
+    ensures { result ≡ kind_of text.now }
 {
-    text == b"defac".as_slice()
-        || text == b"defacu".as_slice()
-        || text == b"injective".as_slice()
-        || text == b"private".as_slice()
+    match first {
+        b'_' => {
+            if is_wildcard(text) {
+                TokenKind::Wildcard
+            } else {
+                TokenKind::Plain
+            }
+        }
+        b'T' => kind_if(TokenKind::Star, text, b"Type".as_slice()),
+        b'd' => kind_by_d(text),
+        b't' => kind_if(TokenKind::Thm, text, b"thm".as_slice()),
+        b'i' => kind_if(TokenKind::Profile, text, b"injective".as_slice()),
+        b'p' => kind_if(TokenKind::Profile, text, b"private".as_slice()),
+        _ => TokenKind::Plain,
+    }
+}
+
+// The kind of a plain run that begins with `d`.
+fn kind_by_d(text: &[u8]) -> TokenKind
+    requires { Some 100 ≡ slice_get text.now 0 }
+    ensures { result ≡ kind_of text.now }
+{
+    if text == b"def".as_slice() {
+        TokenKind::Def
+    } else if text == b"defac".as_slice() {
+        TokenKind::Profile
+    } else {
+        kind_if(TokenKind::Profile, text, b"defacu".as_slice())
+    }
+}
+
+// The kind of a plain run that can be this word alone, which is of that kind.
+fn kind_if(kind: TokenKind, text: &[u8], word: &[u8]) -> TokenKind
+    ensures { result ≡ (if bytes_eq text.now word.now then kind else TokenKind.Plain) }
+{
+    if text == word { kind } else { TokenKind::Plain }
 }
 
 /// Where the command begins that is open behind a token, if one is: a dot ends it.
