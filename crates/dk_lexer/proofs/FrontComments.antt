@@ -35,7 +35,7 @@ comment_step l depth last b within = pair_goes (pair last (class_of b)) l depth 
 
 -- ---- as the loop finds it: over the bytes that there is room for
 
-front_length : (items bytes : List ℕ) (room i : ℕ) → items ≡ take room bytes → i < length items → i < room
+pub front_length : (items bytes : List ℕ) (room i : ℕ) → items ≡ take room bytes → i < length items → i < room
 front_length items bytes room i is lt =
     let len : length items ≡ min room (length bytes) = ap length is ∙ length-take room bytes in
     omega arith

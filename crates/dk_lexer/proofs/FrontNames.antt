@@ -27,8 +27,8 @@ stand_push [] b h e = (e, tt)
 stand_push (c ∷ bs) b h e = (h.0, stand_push bs b h.1 e)
 
 -- a byte more, as the loop finds it
-pub stand_more : (bs : List ℕ) (i : ℕ) (c : Class) (t : Bool) → i < length bs → c ≡ class_of (get_or bs i 0) → t ≡ in_name c → t ≡ true → StandInName (take i bs) → StandInName (take (i + 1) bs)
-stand_more bs i c t lt c_is t_is holds h = subst StandInName (sym (take_more bs i 0 lt)) (stand_push (take i bs) (get_or bs i 0) h (ap in_name (sym c_is) ∙ sym t_is ∙ holds))
+pub stand_more : (bs : List ℕ) (i : ℕ) (t : Bool) → i < length bs → t ≡ in_name (class_of (get_or bs i 0)) → t ≡ true → StandInName (take i bs) → StandInName (take (i + 1) bs)
+stand_more bs i t lt t_is holds h = subst StandInName (sym (take_more bs i 0 lt)) (stand_push (take i bs) (get_or bs i 0) h (sym t_is ∙ holds))
 
 -- a byte of a plain name
 name_runs : (c : Class) (l : Lexer) (text : List ℕ) (b : ℕ) → in_name c ≡ true → run_step l text c b ≡ run_name l text b

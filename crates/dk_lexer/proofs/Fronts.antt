@@ -1,7 +1,6 @@
 -- A front that gives nothing.
-use Rattle.std.proofs.Common.{◌≡◌, ◌<◌, ℕ, Bool, true, List, [], ◌∷◌, ◌++◌, ◌+◌, get_or, sym, ap, subst, ◌∙◌, refl, length}
-use Rattle.std.proofs.lemmas.List.{take_more}
-use Rattle.std.specs.Prelude.{Option, Some, None, take}
+use Rattle.std.proofs.Common.{◌≡◌, ℕ, true, List, [], ◌∷◌, ◌++◌, sym, ap, subst, ◌∙◌, refl}
+use Rattle.std.specs.Prelude.{Option, Some, None}
 use Rattle.dk_model.specs.declared.code.Code.{Code}
 use Rattle.dk_lexer.specs.declared.class.Class.{Class}
 use Rattle.dk_lexer.specs.declared.class.Class.TheVariants as class
@@ -12,7 +11,6 @@ use Rattle.dk_lexer.specs.Classes.{class_of}
 use Rattle.dk_lexer.specs.Fronts.{GiveNothing, Passes, GoesTo, is_blank_class, nothing_fed, with_part}
 use Rattle.dk_lexer.specs.Steps.{Step, begin_by, lexer_from, one, past, step, taken, takes}
 use Rattle.dk_lexer.specs.Tokens.{behind}
-use Rattle.dk_lexer.specs.declared.place.Place.{Place}
 
 -- ---- one byte more
 
@@ -62,29 +60,6 @@ blank_step l b blank within =
 
 -- ---- as the calls find it
 
-place_is : (old : Lexer) (b : ℕ) (to : Place → Lexer) (place next : Place) → place ≡ next → GoesTo old b (to next) → GoesTo old b (to place)
-place_is old b to place next is goes = subst (λ (p : Place). GoesTo old b (to p)) (sym is) goes
-
-pub blank_goes : (l : Lexer) (b : ℕ) (c : Class) (t : Bool) (place : Place) → c ≡ class_of b → t ≡ is_blank_class c → t ≡ true → None ≡ past l l.command → place ≡ behind l.here b
-    → GoesTo (with_part l part.Nothing) b (record l { part = part.Nothing; first = l.here; here = place })
-blank_goes l b c t place c_is t_is blank within place_is' =
-    place_is (with_part l part.Nothing) b (λ p. record l { part = part.Nothing; first = l.here; here = p }) place (behind l.here b) place_is'
-    (blank_step l b (ap is_blank_class (sym c_is) ∙ sym t_is ∙ blank) (sym within))
-
 -- the part that was taken out
 pub part_back : (l : Lexer) (p : Part) (bs : List ℕ) (new : Lexer) → p ≡ l.part → Passes (with_part l p) bs new → Passes l bs new
 part_back l p bs new is passes = subst (λ (q : Part). Passes (with_part l q) bs new) is passes
-
-pub keeps_part : (old : Lexer) (bs : List ℕ) (new : Lexer) (p : Part) → new.part ≡ p → Passes old bs (with_part new p) → Passes old bs new
-keeps_part old bs new p is passes = subst (λ (q : Part). Passes old bs (with_part new q)) (sym is) passes
-
--- ---- as the loops find it
-
-passes_taken : (old mid new : Lexer) (bytes : List ℕ) (i : ℕ) → i < length bytes → Passes old (take i bytes) mid → GoesTo mid (get_or bytes i 0) new → Passes old (take (i + 1) bytes) new
-passes_taken old mid new bytes i lt p goes = subst (λ (bs : List ℕ). Passes old bs new) (sym (take_more bytes i 0 lt)) (passes_more old mid new (take i bytes) (get_or bytes i 0) p goes)
-
-pub blank_taken : (old self : Lexer) (place : Place) (bytes : List ℕ) (i : ℕ) → i < length bytes → self.part ≡ part.Nothing → Passes old (take i bytes) self
-    → GoesTo (with_part self part.Nothing) (get_or bytes i 0) (record self { part = part.Nothing; first = self.here; here = place }) → Passes old (take (i + 1) bytes) (record self { first = self.here; here = place })
-blank_taken old self place bytes i lt is p goes =
-    keeps_part old (take (i + 1) bytes) (record self { first = self.here; here = place }) part.Nothing is
-    (passes_taken old (with_part self part.Nothing) (record self { part = part.Nothing; first = self.here; here = place }) bytes i lt (subst (λ (q : Part). Passes old (take i bytes) (with_part self q)) is p) goes)

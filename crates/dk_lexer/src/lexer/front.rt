@@ -1,7 +1,7 @@
 //! Fronts of a piece of which no byte gives a token: blanks, and bytes of a comment.
-ghost use Rattle.std.specs.Prelude.{◌≡◌, ◌≤◌, ◌<◌, ◌+◌, ◌-◌, ℕ, IfSome, length, take};
-ghost use Rattle.dk_lexer.specs.Fronts.{GoesTo, Passes, StandInName, comment_inside, is_blank_class, with_part};
-ghost use Rattle.dk_lexer.specs.Classes.{in_name};
+ghost use Rattle.std.specs.Prelude.{◌≡◌, ◌≤◌, ◌<◌, ◌+◌, ◌-◌, ℕ, length, take};
+ghost use Rattle.dk_lexer.specs.Fronts.{Passes, StandInName, comment_inside, is_blank_class, with_part};
+ghost use Rattle.dk_lexer.specs.Classes.{class_of, in_name};
 ghost use Rattle.dk_lexer.specs.Tokens.{bound};
 
 use super::Lexer;
@@ -9,18 +9,24 @@ use crate::Place;
 use crate::class::{Class, classify};
 use crate::part::Part;
 
-fn is_blank(class: Class) -> bool
-    ensures { result ≡ is_blank_class class }
+// Is it a blank between tokens.
+#[inline(always)]
+#[tactic(auto, unfolding(crate::specs::Classes::class_of))]
+fn is_blank(byte: u8) -> bool
+    ensures { result ≡ is_blank_class (class_of byte) }
 {
-    matches!(class, Class::Blank | Class::Newline)
+    matches!(byte, b' ' | b'\t' | b'\r' | b'\n')
 }
 
-fn is_in_name(class: Class) -> bool
-    ensures { result ≡ in_name class }
+// May it stand in a name.
+#[inline(always)]
+#[tactic(auto, unfolding(crate::specs::Classes::class_of))]
+fn is_in_name(byte: u8) -> bool
+    ensures { result ≡ in_name (class_of byte) }
 {
     matches!(
-        class,
-        Class::Letter | Class::Digit | Class::Underscore | Class::Quote
+        byte,
+        b'a'..=b'z' | b'A'..=b'Z' | b'0'..=b'9' | b'_' | b'\'' | b'!' | b'?'
     )
 }
 
@@ -31,7 +37,7 @@ pub(super) fn name_length(bytes: &[u8]) -> usize
 {
     let mut count = 0;
     for byte in bytes {
-        if !is_in_name(classify(*byte)) {
+        if !is_in_name(*byte) {
             return count;
         }
         count += 1;
@@ -86,21 +92,6 @@ impl Lexer {
         input.saturating_sub(offset)
     }
 
-    // The place behind a blank between tokens.
-    fn behind_blank(&self, byte: u8) -> Option<Place>
-        ensures { IfSome result (λ place. GoesTo (with_part self.now Part.Nothing) byte
-            (record self.now { part = Part.Nothing; first = self.now.here; here = place })) }
-    {
-        if !is_blank(classify(byte)) {
-            return None;
-        }
-        let None = self.past(self.command) else {
-            return None;
-        };
-        let here = self.here;
-        Some(here.behind(byte))
-    }
-
     // Blanks between tokens.
     pub(super) fn blanks(&mut self, bytes: &[u8]) -> usize
         requires { self.old.part ≡ Part.Nothing }
@@ -108,16 +99,23 @@ impl Lexer {
         ensures passes { Passes self.old (take result bytes.now) self.new }
         ensures part { self.new.part ≡ Part.Nothing }
     {
+        let command = self.command;
+        let room = self.room(command);
+        let mut first = self.first;
+        let mut here = self.here;
         let mut count = 0;
-        for byte in bytes {
-            let Some(place) = self.behind_blank(*byte) else {
+        for byte in at_most(bytes, room) {
+            if !is_blank(*byte) {
+                self.first = first;
+                self.here = here;
                 return count;
-            };
-            let here = self.here;
-            self.first = here;
-            self.here = place;
+            }
+            first = here;
+            here = here.behind(*byte);
             count += 1;
         }
+        self.first = first;
+        self.here = here;
         count
     }
 

@@ -49,9 +49,10 @@ fn name_end(rest: &[u8]) -> Option<NameEnd>
     }
 }
 
-// The sign that stands at a byte of this class, and how many bytes it has, where the class of the next byte settles it.
-fn front_sign(class: Class, next: Option<Class>) -> Option<(Sign, usize)>
-    ensures { result ≡ front_sign class next }
+// The sign that stands at a byte of this class, the first of these, and how many bytes it has, where the class of the
+// next one settles it.
+fn front_sign(class: Class, bytes: &[u8]) -> Option<(Sign, usize)>
+    ensures { result ≡ front_sign class (class_at bytes.now 1) }
 {
     match class {
         Class::Dot => Some((Sign::Dot, 1)),
@@ -60,24 +61,24 @@ fn front_sign(class: Class, next: Option<Class>) -> Option<(Sign, usize)>
         Class::OpenSquare => Some((Sign::OpenSquare, 1)),
         Class::CloseSquare => Some((Sign::CloseSquare, 1)),
         Class::CloseBrace => Some((Sign::CloseBrace, 1)),
-        Class::Colon => match next {
+        Class::Colon => match class_at(bytes, 1) {
             Some(Class::Equals) => Some((Sign::Defined, 2)),
             Some(_) => Some((Sign::Colon, 1)),
             None => None,
         },
-        Class::Equals => match next {
+        Class::Equals => match class_at(bytes, 1) {
             Some(Class::Greater) => Some((Sign::DoubleArrow, 2)),
             _ => None,
         },
-        Class::Minus => match next {
+        Class::Minus => match class_at(bytes, 1) {
             Some(Class::Greater) => Some((Sign::Arrow, 2)),
             _ => None,
         },
-        Class::OpenBracket => match next {
+        Class::OpenBracket => match class_at(bytes, 1) {
             Some(Class::Semicolon) | None => None,
             Some(_) => Some((Sign::OpenBracket, 1)),
         },
-        Class::OpenBrace => match next {
+        Class::OpenBrace => match class_at(bytes, 1) {
             Some(Class::Bar) | None => None,
             Some(_) => Some((Sign::OpenBrace, 1)),
         },
@@ -162,7 +163,7 @@ impl Lexer {
         ensures memory { IfErr result (λ end.
             Exhausts self.old waiting.old.items bytes.now waiting.new.items end.line) }
     {
-        let Some((sign, count)) = front_sign(class, class_at(bytes, 1)) else {
+        let Some((sign, count)) = front_sign(class, bytes) else {
             return Ok(0);
         };
         let here = self.here;

@@ -23,6 +23,7 @@ pub struct Exhausted {
 }
 
 // Hands a token over.
+#[inline(always)]
 pub(super) fn hand(waiting: &mut Vec<Token>, token: Token) -> Result<(), Exhausted>
     ensures ok { OnOk result (waiting.new.items ≡ waiting.old.items ++ token ∷ []) }
     ensures err { OnErr result (waiting.new.items ≡ waiting.old.items) }

@@ -7,5 +7,5 @@ loop-byte-preserved c =
     let name : c.is_in_name.result ≡ true = search rules in
     record {
       count = ap (λ n. n + 1) c.loop-byte.invariant.count;
-      name = stand_more c.args.bytes.now c.loop-byte.byte-index c.classify.result c.is_in_name.result c.loop-byte-test.true c.classify.ensures c.is_in_name.ensures name c.loop-byte.invariant.name;
+      name = stand_more c.args.bytes.now c.loop-byte.byte-index c.is_in_name.result c.loop-byte-test.true c.is_in_name.ensures name c.loop-byte.invariant.name;
     }
