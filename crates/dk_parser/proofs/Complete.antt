@@ -1,333 +1,388 @@
--- What is spelt so is read so.
-use Rattle.std.proofs.Common.{◌≡◌, ℕ, ◌+◌, true, false, List, [], ◌∷◌, ◌++◌, refl, sym, ap, ◌∙◌, append_assoc, inl, inr, append-nil}
-use Rattle.std.specs.Prelude.{Option, Some, None, ◌⊎◌}
+-- The parts of a command, one terminal after the other; what is spelt so is read so.
+use Rattle.std.proofs.Common.{◌≡◌, ℕ, List, [], ◌∷◌, ◌++◌, refl, sym, ap, ◌∙◌, append_assoc, append-nil}
+use Rattle.std.specs.Prelude.{Option, Some, None}
 use Rattle.dk_model.specs.declared.signature.SymSort.{SymSort}
+use Rattle.dk_model.specs.declared.signature.SymSort.TheVariants.{Static, Definable, Theorem}
+use Rattle.dk_lexer.specs.declared.token.Sign.{Sign}
 use Rattle.dk_lexer.specs.declared.token.Sign.TheVariants as sign
 use Rattle.dk_terms.specs.declared.terminal.Terminal.{Terminal}
 use Rattle.dk_terms.specs.declared.terminal.Terminal.TheVariants as terminal
-use Rattle.dk_parser.specs.Written.{Written, written_qualified, written_star, written_apply, written_arrow, written_product, written_bare, written_annotated, WrittenParam, written_declare}
-use Rattle.dk_parser.specs.Grammar.{colon, dot, arrow, double_arrow, open_bracket, close_bracket, param, SpellsBinder, spells_binder, spells_no_binder, SpellsAtom, spells_name, spells_qualified, spells_star, spells_wildcard, spells_brackets, SpellsApplication, spells_head, spells_applied, SpellsTerm, spells_application, spells_arrow, spells_product, spells_bracketed_product, spells_bare, spells_annotated, SpellsParams, spells_no_params, spells_params}
-use Rattle.dk_parser.specs.Parsing.{Role, at_front, domain, Application, due, bindable, applied, bracketed, Frame, bracket_frame, arrow_frame, product_frame, bare_frame, annotated_frame, Frames, bottom, on, TermSoFar, term_due, pushed, binder_term, Around, around_term, around, application_more, application_binder, takes_atom, application_term, in_frames, unwound, unwound_all, unwound_all_by, unwound_by, next_open, next_close, next_close_term, next_close_domain, next_arrow, framed, term_next, term_argument, term_done, application_ended, in_bracket, takes, Head, level_behind, with_param, Purpose, as_param, as_type, as_body, CommandSoFar, head_due, binder_due, binder_colon_due, in_term, behind_term, term_goes, term_ends, in_term_next}
-use Rattle.dk_parser.proofs.Machine.{ended, run_by, run}
+use Rattle.dk_terms.specs.Parsing.{Role, at_front, domain, Application, reading, bindable, Frame, bracket_frame, wrapping, TermSoFar, term_due, TermStep, binder_term, applied_to, end_next, term_next, PatternFrame, pattern_bracket, pattern_wrapping, LeftApplication, pattern_reading, pattern_bindable, LeftSoFar, left_due, binder_pattern, left_read, pattern_applied_to}
+use Rattle.dk_parser.specs.Written.{Written, written_arrow, written_product, written_bare, written_annotated, WrittenPattern, pattern_guard, pattern_bare, WrittenParam, WrittenNote, WrittenRule, WrittenForm, written_declare, written_rules}
+use Rattle.dk_parser.specs.Grammar.{colon, arrow, double_arrow, open_bracket, close_bracket, open_brace, close_brace, long_arrow, SpellsBinder, spells_binder, spells_no_binder, SpellsAtom, spells_name, spells_qualified, spells_star, spells_wildcard, spells_brackets, SpellsApplication, spells_head, spells_applied, SpellsTerm, spells_application, spells_arrow, spells_product, spells_bracketed_product, spells_bare, spells_annotated, SpellsPatternAtom, spells_pattern_name, spells_pattern_qualified, spells_pattern_wildcard, spells_guard, spells_pattern_brackets, SpellsPatternApplication, spells_pattern_head, spells_pattern_applied, SpellsPattern, spells_pattern_application, spells_pattern_bare, defined, dot, open_square, close_square, comma, param, entry, rule, SpellsParams, spells_no_params, spells_params, SpellsEntry, spells_entry, spells_typed_entry, SpellsEntries, spells_last_entry, spells_more_entries, SpellsContext, spells_no_context, spells_context, spells_no_rule_name, spells_rule_name, spells_qualified_rule_name, SpellsRule, spells_rule, SpellsRules, spells_last_rule, spells_more_rules, SpellsForm, spells_static, spells_definable, spells_definition, spells_typed_definition, spells_theorem, spells_rules}
+use Rattle.dk_parser.specs.Parsing.{Purpose, as_guard, as_right, RuleHead, CommandSoFar, in_left, in_term, in_term_by, behind_term, Head, with_entry, as_param, as_type, as_body, as_entry, command_due, head_due, binder_due, binder_colon_due, rule_name_due, rule_brace_due, context_due, entry_due, entry_named, Advance, goes, behind_entry, behind_rule, named_next, advanced, ends, refuses}
 
--- a term in a frame that is no bracket
-abbrev pub wrapped : Frame → Written → Written
-wrapped (bracket_frame s) a = a
-wrapped (arrow_frame b) a = written_arrow b a
-wrapped (product_frame v b) a = written_product v b a
-wrapped (bare_frame v) a = written_bare v a
-wrapped (annotated_frame v b) a = written_annotated v b a
+-- the part after these terminals, or the form and what is behind it, or no command
+pub data Run : Type 0 where
+  going : CommandSoFar → Run
+  ended : WrittenForm → List Terminal → Run
+  stuck : Run
 
--- a term that goes on is no whole one in a bracket
-unwound_in : (fs : Frames) (a : Written) (q : TermSoFar) → unwound fs a ≡ Some q → in_bracket fs ≡ true
-unwound_in (bottom level) a q e = cc
-unwound_in (on d (bracket_frame s) fs) a q e = refl
-unwound_in (on d f fs) a q e = unwound_in fs (wrapped f a) q e
+abbrev pub run_by : Advance → (CommandSoFar → Run) → List Terminal → Run
+run_by (goes q) more xs = more q
+run_by (ends form) more xs = ended form xs
+run_by refuses more xs = stuck
 
-close_domain_in : (fs : Frames) (v : Option (List ℕ)) (a : Written) (q : TermSoFar) → next_close_domain fs v a ≡ Some q → in_bracket fs ≡ true
-close_domain_in (on d (bracket_frame (due at_front)) fs) v a q e = refl
-close_domain_in fs v a q e = cc
+abbrev pub run : CommandSoFar → List Terminal → Run
+run p [] = going p
+run p (x ∷ xs) = run_by (advanced p x) (λ q. run q xs) xs
 
-close_in : (fs : Frames) (s : Application) (q : TermSoFar) → next_close fs s ≡ Some q → in_bracket fs ≡ true
-close_in fs (applied (domain v) a n) q e = close_domain_in fs v a q e
-close_in fs (applied at_front a n) q e = unwound_in fs a q e
-close_in fs (bindable v) q e = unwound_in fs (binder_term v) q e
-close_in fs s q e = cc
+-- these terminals end a command of this form
+abbrev pub Ends : CommandSoFar → List Terminal → WrittenForm → Type 0
+Ends p xs form = run p xs ≡ ended form []
 
--- what a term goes on with is a terminal of a term
-pub next_takes : (p q : TermSoFar) (x : Terminal) → term_next p x ≡ Some q → takes p x ≡ true
-next_takes p q (terminal.Sign sign.CloseBracket) e = close_in p.frames p.application q e
-next_takes p q x e = cc
+-- more terminals behind
+abbrev pub run_on : Run → List Terminal → Run
+run_on (going p) ys = run p ys
+run_on (ended form xs) ys = ended form (xs ++ ys)
+run_on stuck ys = stuck
 
--- no bracket is open around a whole term
-whole_out : (fs : Frames) (a b : Written) → unwound_all fs a ≡ Some b → in_bracket fs ≡ false
-whole_out (bottom level) a b e = refl
-whole_out (on d (bracket_frame s) fs) a b e = cc
-whole_out (on d f fs) a b e = whole_out fs (wrapped f a) b e
+run_by_append : (s : Advance) (xs ys : List Terminal) → ((q : CommandSoFar) → run q (xs ++ ys) ≡ run_on (run q xs) ys) → run_by s (λ q. run q (xs ++ ys)) (xs ++ ys) ≡ run_on (run_by s (λ q. run q xs) xs) ys
+run_by_append (goes q) xs ys h = h q
+run_by_append (ends form) xs ys h = refl
+run_by_append refuses xs ys h = refl
 
-ended_out : (o : Option Written) (fs : Frames) (b : Written) → application_ended fs o ≡ Some b → in_bracket fs ≡ false
-ended_out None fs b e = cc
-ended_out (Some a) fs b e = whole_out fs a b e
+pub run_append : (p : CommandSoFar) (xs ys : List Terminal) → run p (xs ++ ys) ≡ run_on (run p xs) ys
+run_append p [] ys = refl
+run_append p (x ∷ xs) ys = run_by_append (advanced p x) xs ys (λ q. run_append q xs ys)
 
--- a terminal that ends a whole term
-abbrev pub Enders : Terminal → Type 0
-Enders x = (p : TermSoFar) (a : Written) → term_done p ≡ Some a → takes p x ≡ false
+-- more terminals behind those that lead to a part
+pub run_next : (p q : CommandSoFar) (xs ys : List Terminal) → run p xs ≡ going q → run p (xs ++ ys) ≡ run q ys
+run_next p q xs ys e = run_append p xs ys ∙ ap (λ (r : Run). run_on r ys) e
 
-pub close_enders : Enders close_bracket
-close_enders p a e = ended_out (application_term p.application) p.frames a e
+-- one terminal more
+pub run_step : (p q : CommandSoFar) (s : Advance) (xs : List Terminal) (x : Terminal) (rest : List Terminal) → run p xs ≡ going q → advanced q x ≡ s → run p (xs ++ x ∷ rest) ≡ run_by s (λ r. run r rest) rest
+run_step p q s xs x rest e n = run_next p q xs (x ∷ rest) e ∙ ap (λ (s : Advance). run_by s (λ r. run r rest) rest) n
 
-abbrev pub at : Frames → Application → TermSoFar
-at fs s = record { frames = fs; application = s }
+pub no_append : (xs ys : List Terminal) (y : Terminal) → xs ++ y ∷ ys ≡ [] → ⊥
+no_append [] ys y e = cc
+no_append (x ∷ xs) ys y e = cc
 
--- the application with an atom more; a name or a wildcard at the front of a term is first taken for a binder
-abbrev IsMore : Application → Written → Application → Type 0
-IsMore s a t = (application_more s a ≡ Some t) ⊎ ((s ≡ due at_front) × ((v : Option (List ℕ)) × (t ≡ bindable v) × (binder_term v ≡ a)))
+-- a run that ends behind a whole list went on before its end
+going_before : (r : Run) (form : WrittenForm) (y : Terminal) (ys : List Terminal) → run_on r (y ∷ ys) ≡ ended form [] → (p : CommandSoFar) × (r ≡ going p)
+going_before (going p) form y ys e = (p, refl)
+going_before (ended f zs) form y ys e =
+    let behind : zs ++ y ∷ ys ≡ [] = cc in
+    absurd (no_append zs ys y behind)
+going_before stuck form y ys e = cc
 
--- the application behind an application
-abbrev IsBehind : Role → Written → Application → Type 0
-IsBehind role a t = ((n : ℕ) × (t ≡ applied role a n)) ⊎ ((role ≡ at_front) × ((v : Option (List ℕ)) × (t ≡ bindable v) × (binder_term v ≡ a)))
+pub front_goes : (p : CommandSoFar) (xs : List Terminal) (y : Terminal) (ys : List Terminal) (form : WrittenForm) → Ends p (xs ++ y ∷ ys) form → (q : CommandSoFar) × (run p xs ≡ going q)
+front_goes p xs y ys form e = going_before (run p xs) form y ys (sym (run_append p xs (y ∷ ys)) ∙ e)
 
-binder_more : (s : Application) (v : Option (List ℕ)) → takes_atom s ≡ true → (t : Application) × (application_binder s v ≡ Some t) × IsMore s (binder_term v) t
-binder_more (due at_front) v h = (bindable v, refl, inr (refl, (v, refl, refl)))
-binder_more (due (domain w)) v h = (applied (domain w) (binder_term v) 1, refl, inl refl)
-binder_more (bindable w) v h = (applied at_front (written_apply (binder_term w) (binder_term v)) 2, refl, inl refl)
-binder_more (applied role f n) v h = (applied role (written_apply f (binder_term v)) (n + 1), refl, inl refl)
-binder_more (bracketed w b) v h = cc
+-- Terms
 
-pub atom_more : (s : Application) (a : Written) → takes_atom s ≡ true → (t : Application) × (application_more s a ≡ Some t)
-atom_more (due role) a h = (applied role a 1, refl)
-atom_more (bindable w) a h = (applied at_front (written_apply (binder_term w) a) 2, refl)
-atom_more (applied role f n) a h = (applied role (written_apply f a) (n + 1), refl)
-atom_more (bracketed w b) a h = cc
-
-behind_head : (role : Role) (a : Written) (t : Application) → IsMore (due role) a t → IsBehind role a t
-behind_head role a t (inl e) =
-    let same : t ≡ applied role a 1 = cc in
-    inl (1, same)
-behind_head role a t (inr h) =
-    let same : role ≡ at_front = cc (h.0) in
-    inr (same, h.1)
-
-behind_takes : (role : Role) (a : Written) (t : Application) → IsBehind role a t → takes_atom t ≡ true
-behind_takes role a t (inl h) = ap takes_atom h.1
-behind_takes role a t (inr h) = ap takes_atom h.1.1
-
-behind_more : (role : Role) (f a : Written) (s t : Application) → IsBehind role f s → IsMore s a t → IsBehind role (written_apply f a) t
-behind_more role f a s t (inl h) (inl e) =
-    let more : application_more s a ≡ Some (applied role (written_apply f a) (h.0 + 1)) = ap (λ s. application_more s a) h.1 in
-    let same : t ≡ applied role (written_apply f a) (h.0 + 1) = cc in
-    inl (h.0 + 1, same)
-behind_more role f a s t (inr h) (inl e) =
-    let more : application_more s a ≡ Some (applied at_front (written_apply (binder_term h.1.0) a) 2) = ap (λ s. application_more s a) h.1.1 in
-    let front : applied at_front (written_apply (binder_term h.1.0) a) 2 ≡ applied role (written_apply f a) 2 = cc (h.0, h.1.2) in
-    let same : t ≡ applied at_front (written_apply (binder_term h.1.0) a) 2 = cc in
-    inl (2, same ∙ front)
-behind_more role f a s t (inl h) (inr e) = cc (h.1, e.0)
-behind_more role f a s t (inr h) (inr e) = cc (h.1.1, e.0)
-
--- a term ends behind an application at its front
-behind_whole : (a : Written) (t : Application) → IsBehind at_front a t → application_term t ≡ Some a
-behind_whole a t (inl h) = ap application_term h.1
-behind_whole a t (inr h) = ap application_term h.1.1 ∙ ap (λ b. Some b) h.1.2
-
-behind_arrow : (fs : Frames) (a : Written) (t : Application) → IsBehind at_front a t → next_arrow fs t ≡ framed (arrow_frame a) fs
-behind_arrow fs a t (inl h) = ap (next_arrow fs) h.1
-behind_arrow fs a t (inr h) = ap (next_arrow fs) h.1.1 ∙ ap (λ b. framed (arrow_frame b) fs) h.1.2
-
--- a domain is no term
-behind_domain : (v : Option (List ℕ)) (a : Written) (t : Application) → IsBehind (domain v) a t → (n : ℕ) × (t ≡ applied (domain v) a n)
-behind_domain v a t (inl h) = h
-behind_domain v a t (inr h) = cc (h.0)
-
-close_term : (fs : Frames) (t : Application) (a : Written) → application_term t ≡ Some a → next_close fs t ≡ unwound fs a
-close_term fs (due role) a e = cc
-close_term fs (bindable v) a e = ap (next_close_term fs) e
-close_term fs (applied at_front b n) a e = ap (next_close_term fs) e
-close_term fs (applied (domain v) b n) a e = cc
-close_term fs (bracketed v b) a e = cc
-
-binder_next : (fs : Frames) (x : Terminal) (v : Option (List ℕ)) → SpellsBinder x v → term_next (at fs (due at_front)) x ≡ Some (at fs (bindable v))
-binder_next fs x v spells_binder = refl
-binder_next fs x v spells_no_binder = refl
-
-done_by : (fs : Frames) (o : Option Written) (b a : Written) → o ≡ Some b → unwound_all fs b ≡ Some a → application_ended fs o ≡ Some a
-done_by fs o b a e h = ap (application_ended fs) e ∙ h
+-- a sign that ends an application of a term
+abbrev pub Enders : Sign → Type 0
+Enders s = (p : TermSoFar) → term_next p (terminal.Sign s) ≡ end_next p.frames p.application s
 
 module _ (purpose : Purpose) where
-  abbrev wrap : TermSoFar → CommandSoFar
-  wrap p = in_term purpose p
+  abbrev pub at : List Frame → Application → CommandSoFar
+  at fs s = in_term purpose (record { frames = fs; application = s })
 
-  stepped : (p q : TermSoFar) (x : Terminal) (rest : List Terminal) → term_next p x ≡ Some q → run (wrap p) (x ∷ rest) ≡ run (wrap q) rest
-  stepped p q x rest e =
-      ap (λ b. run_by (in_term_next b purpose p x) (λ r. run r rest) rest) (next_takes p q x e)
-      ∙ ap (λ o. run_by (term_goes purpose (term_argument p x) o) (λ r. run r rest) rest) e
+  -- what ends an application stands behind a whole term in its frames
+  pub ends_run : (fs : List Frame) (s : Application) (e : Sign) (rest : List Terminal) → Enders e → run (at fs s) (terminal.Sign e ∷ rest) ≡ run_by (in_term_by purpose (end_next fs s e)) (λ q. run q rest) rest
+  ends_run fs s e rest h = ap (λ (t : TermStep). run_by (in_term_by purpose t) (λ q. run q rest) rest) (h (record { frames = fs; application = s }))
 
-  record AtomRun (fs : Frames) (s : Application) (ys : List Terminal) (a : Written) (rest : List Terminal) : Type 0 where
-    pub application : Application
-    pub runs : run (wrap (at fs s)) (ys ++ rest) ≡ run (wrap (at fs application)) rest
-    pub kind : IsMore s a application
+  -- a name or a wildcard at the front of a term is its first atom, where this stands behind it
+  abbrev Follows : Role → List Terminal → Type 0
+  Follows at_front zs = (fs : List Frame) (v : Option (List ℕ)) → run (at fs (bindable v)) zs ≡ run (at fs (reading at_front (Some (binder_term v)))) zs
+  Follows (domain w) zs = Unit {0}
 
-  record ApplicationRun (fs : Frames) (role : Role) (xs : List Terminal) (a : Written) (rest : List Terminal) : Type 0 where
-    pub application : Application
-    pub runs : run (wrap (at fs (due role))) (xs ++ rest) ≡ run (wrap (at fs application)) rest
-    pub kind : IsBehind role a application
+  ender_follows : (e : Sign) (rest : List Terminal) → Enders e → Follows at_front (terminal.Sign e ∷ rest)
+  ender_follows e rest h fs v = ends_run fs (bindable v) e rest h ∙ sym (ends_run fs (reading at_front (Some (binder_term v))) e rest h)
 
-  record TermRun (fs : Frames) (xs : List Terminal) (a : Written) (rest : List Terminal) : Type 0 where
-    pub frames : Frames
-    pub application : Application
-    pub runs : run (wrap (at fs (due at_front))) (xs ++ rest) ≡ run (wrap (at frames application)) rest
-    pub last : Written
-    pub ends_in : application_term application ≡ Some last
-    pub closes : unwound frames last ≡ unwound fs a
-    pub ends_all : unwound_all frames last ≡ unwound_all fs a
+  atom_follows : {ys : List Terminal} {a : Written} → SpellsAtom ys a → (role : Role) (zs : List Terminal) → Follows role (ys ++ zs)
+  atom_follows k (domain w) zs = tt
+  atom_follows spells_name at_front zs = λ fs v. refl
+  atom_follows spells_qualified at_front zs = λ fs v. refl
+  atom_follows spells_star at_front zs = λ fs v. refl
+  atom_follows spells_wildcard at_front zs = λ fs v. refl
+  atom_follows (spells_brackets k) at_front zs = λ fs v. refl
 
   abbrev AtomRuns : List Terminal → Written → Type 0
-  AtomRuns ys a = (fs : Frames) (s : Application) (rest : List Terminal) → takes_atom s ≡ true → AtomRun fs s ys a rest
+  AtomRuns ys a = (fs : List Frame) (role : Role) (o : Option Written) (zs : List Terminal) → Follows role zs → run (at fs (reading role o)) (ys ++ zs) ≡ run (at fs (reading role (Some (applied_to o a)))) zs
 
   abbrev ApplicationRuns : List Terminal → Written → Type 0
-  ApplicationRuns xs a = (fs : Frames) (role : Role) (rest : List Terminal) → ApplicationRun fs role xs a rest
+  ApplicationRuns xs a = (fs : List Frame) (role : Role) (zs : List Terminal) → Follows role zs → run (at fs (reading role None)) (xs ++ zs) ≡ run (at fs (reading role (Some a))) zs
 
   abbrev TermRuns : List Terminal → Written → Type 0
-  TermRuns xs a = (fs : Frames) (rest : List Terminal) → TermRun fs xs a rest
+  TermRuns xs a = (fs : List Frame) (e : Sign) (rest : List Terminal) → Enders e → run (at fs (reading at_front None)) (xs ++ terminal.Sign e ∷ rest) ≡ run (at fs (reading at_front (Some a))) (terminal.Sign e ∷ rest)
 
-  binder_runs : (x : Terminal) (v : Option (List ℕ)) → ((fs : Frames) (s : Application) → term_next (at fs s) x ≡ in_frames fs (application_binder s v)) → AtomRuns (x ∷ []) (binder_term v)
-  binder_runs x v h fs s rest takes =
-      let t = binder_more s v takes in
-      record { application = t.0; runs = stepped (at fs s) (at fs t.0) x rest (h fs s ∙ ap (in_frames fs) t.1); kind = t.2 }
+  binder_runs : {x : Terminal} {v : Option (List ℕ)} → SpellsBinder x v → AtomRuns (x ∷ []) (binder_term v)
+  binder_runs spells_binder fs (domain w) o zs h = refl
+  binder_runs spells_binder fs at_front (Some f) zs h = refl
+  binder_runs (spells_binder {n}) fs at_front None zs h = h fs (Some n)
+  binder_runs spells_no_binder fs (domain w) o zs h = refl
+  binder_runs spells_no_binder fs at_front (Some f) zs h = refl
+  binder_runs spells_no_binder fs at_front None zs h = h fs None
 
-  word_runs : (x : Terminal) (a : Written) → ((fs : Frames) (s : Application) → term_next (at fs s) x ≡ in_frames fs (application_more s a)) → AtomRuns (x ∷ []) a
-  word_runs x a h fs s rest takes =
-      let t = atom_more s a takes in
-      record { application = t.0; runs = stepped (at fs s) (at fs t.0) x rest (h fs s ∙ ap (in_frames fs) t.1); kind = inl t.1 }
-
-  bracket_runs : (xs : List Terminal) (a : Written) → TermRuns xs a → AtomRuns (open_bracket ∷ (xs ++ close_bracket ∷ [])) a
-  bracket_runs xs a h fs s rest takes =
-      let t = atom_more s a takes in
-      let inside = h (pushed (bracket_frame s) fs) (close_bracket ∷ rest) in
-      record {
-        application = t.0;
-        runs = stepped (at fs s) (at (pushed (bracket_frame s) fs) (due at_front)) open_bracket ((xs ++ close_bracket ∷ []) ++ rest) (ap (λ b. next_open b fs s) takes)
-            ∙ ap (run (wrap (at (pushed (bracket_frame s) fs) (due at_front)))) (append_assoc xs (close_bracket ∷ []) rest)
-            ∙ inside.runs
-            ∙ stepped (at inside.frames inside.application) (at fs t.0) close_bracket rest
-            (close_term inside.frames inside.application inside.last inside.ends_in ∙ inside.closes ∙ ap (in_frames fs) t.1);
-        kind = inl t.1;
-      }
-
-  head_runs : (xs : List Terminal) (a : Written) → AtomRuns xs a → ApplicationRuns xs a
-  head_runs xs a h fs role rest =
-      let r = h fs (due role) rest refl in
-      record { application = r.application; runs = r.runs; kind = behind_head role a r.application r.kind }
-
-  applied_runs : (xs ys : List Terminal) (f a : Written) → ApplicationRuns xs f → AtomRuns ys a → ApplicationRuns (xs ++ ys) (written_apply f a)
-  applied_runs xs ys f a h k fs role rest =
-      let r = h fs role (ys ++ rest) in
-      let q = k fs r.application rest (behind_takes role f r.application r.kind) in
-      record {
-        application = q.application;
-        runs = ap (run (wrap (at fs (due role)))) (append_assoc xs ys rest) ∙ r.runs ∙ q.runs;
-        kind = behind_more role f a r.application q.application r.kind q.kind;
-      }
-
-  whole_application : (xs : List Terminal) (a : Written) → ApplicationRuns xs a → TermRuns xs a
-  whole_application xs a h fs rest =
-      let r = h fs at_front rest in
-      record { frames = fs; application = r.application; runs = r.runs; last = a; ends_in = behind_whole a r.application r.kind; closes = refl; ends_all = refl }
-
-  -- what leads into a frame, and a term behind it, is a term
-  framed_run : (f : Frame) (fs : Frames) (xs ys : List Terminal) (b : Written) (rest : List Terminal) → around f b ≡ around_term (wrapped f b) → run (wrap (at fs (due at_front))) (xs ++ rest) ≡ run (wrap (at (pushed f fs) (due at_front))) (ys ++ rest) → TermRuns ys b → TermRun fs xs (wrapped f b) rest
-  framed_run f fs xs ys b rest e leads k =
-      let q = k (pushed f fs) rest in
-      record {
-        frames = q.frames;
-        application = q.application;
-        runs = leads ∙ q.runs;
-        last = q.last;
-        ends_in = q.ends_in;
-        closes = q.closes ∙ ap (λ (r : Around). unwound_by r (λ t. unwound fs t) fs) e;
-        ends_all = q.ends_all ∙ ap (λ (r : Around). unwound_all_by r (λ t. unwound_all fs t)) e;
-      }
-
-  arrow_runs : (xs ys : List Terminal) (a b : Written) → ApplicationRuns xs a → TermRuns ys b → TermRuns (xs ++ arrow ∷ ys) (written_arrow a b)
-  arrow_runs xs ys a b h k fs rest =
-      let r = h fs at_front (arrow ∷ (ys ++ rest)) in
-      framed_run (arrow_frame a) fs (xs ++ arrow ∷ ys) ys b rest refl
-      (ap (run (wrap (at fs (due at_front)))) (append_assoc xs (arrow ∷ ys) rest)
-      ∙ r.runs
-      ∙ stepped (at fs r.application) (at (pushed (arrow_frame a) fs) (due at_front)) arrow (ys ++ rest) (behind_arrow fs a r.application r.kind)) k
+  -- a term goes into what makes a longer one of it
+  wrapped_runs : (ys : List Terminal) (b : Written) → TermRuns ys b → (g : Written → Written) (fs : List Frame) (e : Sign) (rest : List Terminal) → Enders e → run (at (wrapping g ∷ fs) (reading at_front None)) (ys ++ terminal.Sign e ∷ rest) ≡ run (at fs (reading at_front (Some (g b)))) (terminal.Sign e ∷ rest)
+  wrapped_runs ys b k g fs e rest h =
+      k (wrapping g ∷ fs) e rest h ∙ ends_run (wrapping g ∷ fs) (reading at_front (Some b)) e rest h ∙ sym (ends_run fs (reading at_front (Some (g b))) e rest h)
 
   -- a binder and its domain
-  domain_runs : (x : Terminal) (v : Option (List ℕ)) (xs : List Terminal) (a : Written) → SpellsBinder x v → ApplicationRuns xs a → (fs : Frames) (rest : List Terminal) →
-      (n : ℕ) × (run (wrap (at fs (due at_front))) (x ∷ colon ∷ (xs ++ rest)) ≡ run (wrap (at fs (applied (domain v) a n))) rest)
-  domain_runs x v xs a b h fs rest =
-      let r = h fs (domain v) rest in
-      let d = behind_domain v a r.application r.kind in (
-        d.0,
-        stepped (at fs (due at_front)) (at fs (bindable v)) x (colon ∷ (xs ++ rest)) (binder_next fs x v b)
-            ∙ stepped (at fs (bindable v)) (at fs (due (domain v))) colon (xs ++ rest) refl
-            ∙ r.runs
-            ∙ ap (λ s. run (wrap (at fs s)) rest) d.1,
-      )
+  domain_runs : {x : Terminal} {v : Option (List ℕ)} (xs : List Terminal) (a : Written) → SpellsBinder x v → ApplicationRuns xs a → (fs : List Frame) (zs : List Terminal) → run (at fs (reading at_front None)) (x ∷ colon ∷ (xs ++ zs)) ≡ run (at fs (reading (domain v) (Some a))) zs
+  domain_runs xs a (spells_binder {n}) h fs zs = h fs (domain (Some n)) zs tt
+  domain_runs xs a spells_no_binder h fs zs = h fs (domain None) zs tt
 
-  -- a binder, its domain, and a sign that goes on behind them
-  behind_domain_runs : (f : Frame) (mark : Terminal) (x : Terminal) (v : Option (List ℕ)) (xs ys : List Terminal) (a b : Written) → around f b ≡ around_term (wrapped f b) → ((fs : Frames) (n : ℕ) → term_next (at fs (applied (domain v) a n)) mark ≡ framed f fs) → SpellsBinder x v → ApplicationRuns xs a → TermRuns ys b → TermRuns (x ∷ colon ∷ (xs ++ mark ∷ ys)) (wrapped f b)
-  behind_domain_runs f mark x v xs ys a b e steps s h k fs rest =
-      let d = domain_runs x v xs a s h fs (mark ∷ (ys ++ rest)) in
-      framed_run f fs (x ∷ colon ∷ (xs ++ mark ∷ ys)) ys b rest e
-      (ap (λ zs. run (wrap (at fs (due at_front))) (x ∷ colon ∷ zs)) (append_assoc xs (mark ∷ ys) rest)
-      ∙ d.1
-      ∙ stepped (at fs (applied (domain v) a d.0)) (at (pushed f fs) (due at_front)) mark (ys ++ rest) (steps fs d.0)) k
-
-  bare_runs : (x : Terminal) (v : Option (List ℕ)) (ys : List Terminal) (b : Written) → SpellsBinder x v → TermRuns ys b → TermRuns (x ∷ double_arrow ∷ ys) (written_bare v b)
-  bare_runs x v ys b s k fs rest =
-      framed_run (bare_frame v) fs (x ∷ double_arrow ∷ ys) ys b rest refl
-      (stepped (at fs (due at_front)) (at fs (bindable v)) x (double_arrow ∷ (ys ++ rest)) (binder_next fs x v s)
-      ∙ stepped (at fs (bindable v)) (at (pushed (bare_frame v) fs) (due at_front)) double_arrow (ys ++ rest) refl) k
-
-  bracketed_runs : (x : Terminal) (v : Option (List ℕ)) (xs ys : List Terminal) (a b : Written) → SpellsBinder x v → ApplicationRuns xs a → TermRuns ys b → TermRuns (open_bracket ∷ x ∷ colon ∷ (xs ++ close_bracket ∷ arrow ∷ ys)) (written_product v a b)
-  bracketed_runs x v xs ys a b s h k fs rest =
-      let inside = pushed (bracket_frame (due at_front)) fs in
-      let d = domain_runs x v xs a s h inside (close_bracket ∷ arrow ∷ (ys ++ rest)) in
-      framed_run (product_frame v a) fs (open_bracket ∷ x ∷ colon ∷ (xs ++ close_bracket ∷ arrow ∷ ys)) ys b rest refl
-      (ap (λ zs. run (wrap (at fs (due at_front))) (open_bracket ∷ x ∷ colon ∷ zs)) (append_assoc xs (close_bracket ∷ arrow ∷ ys) rest)
-      ∙ stepped (at fs (due at_front)) (at inside (due at_front)) open_bracket (x ∷ colon ∷ (xs ++ close_bracket ∷ arrow ∷ (ys ++ rest))) refl
-      ∙ d.1
-      ∙ stepped (at inside (applied (domain v) a d.0)) (at fs (bracketed v a)) close_bracket (arrow ∷ (ys ++ rest)) refl
-      ∙ stepped (at fs (bracketed v a)) (at (pushed (product_frame v a) fs) (due at_front)) arrow (ys ++ rest) refl) k
+  bare_step : {x : Terminal} {v : Option (List ℕ)} → SpellsBinder x v → (fs : List Frame) (zs : List Terminal) → run (at fs (reading at_front None)) (x ∷ double_arrow ∷ zs) ≡ run (at (wrapping (λ b. written_bare v b) ∷ fs) (reading at_front None)) zs
+  bare_step spells_binder fs zs = refl
+  bare_step spells_no_binder fs zs = refl
 
   mutual
     atom_runs : {ys : List Terminal} {a : Written} → SpellsAtom ys a → AtomRuns ys a
-    atom_runs (spells_name {n}) = binder_runs (terminal.Name n) (Some n) (λ fs s. refl)
-    atom_runs (spells_qualified {m} {n}) = word_runs (terminal.Qualified m n) (written_qualified m n) (λ fs s. refl)
-    atom_runs spells_star = word_runs terminal.Star written_star (λ fs s. refl)
-    atom_runs spells_wildcard = binder_runs terminal.Wildcard None (λ fs s. refl)
-    atom_runs (spells_brackets {xs} {a} h) = bracket_runs xs a (term_runs h)
+    atom_runs spells_name = binder_runs spells_binder
+    atom_runs spells_wildcard = binder_runs spells_no_binder
+    atom_runs spells_qualified = λ fs role o zs h. refl
+    atom_runs spells_star = λ fs role o zs h. refl
+    atom_runs (spells_brackets {xs} {a} k) = λ fs role o zs h.
+        ap (run (at (bracket_frame role o ∷ fs) (reading at_front None))) (append_assoc xs (close_bracket ∷ []) zs)
+        ∙ term_runs k (bracket_frame role o ∷ fs) sign.CloseBracket zs (λ p. refl)
 
     application_runs : {xs : List Terminal} {a : Written} → SpellsApplication xs a → ApplicationRuns xs a
-    application_runs (spells_head {xs} {a} h) = head_runs xs a (atom_runs h)
-    application_runs (spells_applied {xs} {ys} {f} {a} h k) = applied_runs xs ys f a (application_runs h) (atom_runs k)
+    application_runs (spells_head k) = λ fs role zs h. atom_runs k fs role None zs h
+    application_runs (spells_applied {xs} {ys} {f} {a} h k) = λ fs role zs j.
+        ap (run (at fs (reading role None))) (append_assoc xs ys zs)
+        ∙ application_runs h fs role (ys ++ zs) (atom_follows k role zs)
+        ∙ atom_runs k fs role (Some f) zs j
 
     term_runs : {xs : List Terminal} {a : Written} → SpellsTerm xs a → TermRuns xs a
-    term_runs (spells_application {xs} {a} h) = whole_application xs a (application_runs h)
-    term_runs (spells_arrow {xs} {ys} {a} {b} h k) = arrow_runs xs ys a b (application_runs h) (term_runs k)
-    term_runs (spells_product {x} {v} {xs} {ys} {a} {b} s h k) = behind_domain_runs (product_frame v a) arrow x v xs ys a b refl (λ fs n. refl) s (application_runs h) (term_runs k)
-    term_runs (spells_bracketed_product {x} {v} {xs} {ys} {a} {b} s h k) = bracketed_runs x v xs ys a b s (application_runs h) (term_runs k)
-    term_runs (spells_bare {x} {v} {ys} {b} s k) = bare_runs x v ys b s (term_runs k)
-    term_runs (spells_annotated {x} {v} {xs} {ys} {a} {b} s h k) = behind_domain_runs (annotated_frame v a) double_arrow x v xs ys a b refl (λ fs n. refl) s (application_runs h) (term_runs k)
+    term_runs (spells_application k) = λ fs e rest h. application_runs k fs at_front (terminal.Sign e ∷ rest) (ender_follows e rest h)
+    term_runs (spells_arrow {xs} {ys} {a} {b = t} h k) = λ fs e rest j.
+        ap (run (at fs (reading at_front None))) (append_assoc xs (arrow ∷ ys) (terminal.Sign e ∷ rest))
+        ∙ application_runs h fs at_front (arrow ∷ (ys ++ terminal.Sign e ∷ rest)) (λ fs v. refl)
+        ∙ wrapped_runs ys t (term_runs k) (λ b. written_arrow a b) fs e rest j
+    term_runs (spells_product {x} {v} {xs} {ys} {a} {b = t} b h k) = λ fs e rest j.
+        ap (λ zs. run (at fs (reading at_front None)) (x ∷ colon ∷ zs)) (append_assoc xs (arrow ∷ ys) (terminal.Sign e ∷ rest))
+        ∙ domain_runs xs a b (application_runs h) fs (arrow ∷ (ys ++ terminal.Sign e ∷ rest))
+        ∙ wrapped_runs ys t (term_runs k) (λ b. written_product v a b) fs e rest j
+    term_runs (spells_bracketed_product {x} {v} {xs} {ys} {a} {b = t} b h k) = λ fs e rest j.
+        ap (λ zs. run (at (bracket_frame at_front None ∷ fs) (reading at_front None)) (x ∷ colon ∷ zs)) (append_assoc xs (close_bracket ∷ arrow ∷ ys) (terminal.Sign e ∷ rest))
+        ∙ domain_runs xs a b (application_runs h) (bracket_frame at_front None ∷ fs) (close_bracket ∷ arrow ∷ (ys ++ terminal.Sign e ∷ rest))
+        ∙ wrapped_runs ys t (term_runs k) (λ b. written_product v a b) fs e rest j
+    term_runs (spells_bare {x} {v} {ys} {b = t} b k) = λ fs e rest j.
+        bare_step b fs (ys ++ terminal.Sign e ∷ rest) ∙ wrapped_runs ys t (term_runs k) (λ b. written_bare v b) fs e rest j
+    term_runs (spells_annotated {x} {v} {xs} {ys} {a} {b = t} b h k) = λ fs e rest j.
+        ap (λ zs. run (at fs (reading at_front None)) (x ∷ colon ∷ zs)) (append_assoc xs (double_arrow ∷ ys) (terminal.Sign e ∷ rest))
+        ∙ domain_runs xs a b (application_runs h) fs (double_arrow ∷ (ys ++ terminal.Sign e ∷ rest))
+        ∙ wrapped_runs ys t (term_runs k) (λ b. written_annotated v a b) fs e rest j
 
-  -- a whole term and the terminal that ends it
-  pub term_complete : {xs : List Terminal} {a : Written} → SpellsTerm xs a → (level : ℕ) (x : Terminal) (rest : List Terminal) → Enders x → run (in_term purpose (term_due level)) (xs ++ x ∷ rest) ≡ run_by (behind_term purpose a x) (λ q. run q rest) rest
-  term_complete {xs} {a} h level x rest enders =
-      let r = term_runs h (bottom level) (x ∷ rest) in
-      let p = at r.frames r.application in
-      let done : term_done p ≡ Some a = done_by r.frames (application_term r.application) r.last a r.ends_in r.ends_all in
-      r.runs
-      ∙ ap (λ b. run_by (in_term_next b purpose p x) (λ q. run q rest) rest) (enders p a done)
-      ∙ ap (λ o. run_by (term_ends purpose x o) (λ q. run q rest) rest) done
+  -- a whole term and the sign that ends it
+  pub term_complete : {xs : List Terminal} {a : Written} → SpellsTerm xs a → (e : Sign) (rest : List Terminal) → Enders e → run (in_term purpose term_due) (xs ++ terminal.Sign e ∷ rest) ≡ run_by (behind_term purpose a e) (λ q. run q rest) rest
+  term_complete {a = a} k e rest h = term_runs k [] e rest h ∙ ends_run [] (reading at_front (Some a)) e rest h
 
--- a parameter is read as what it spells
-binder_complete : (h : Head) (x : Terminal) (v : Option (List ℕ)) (rest : List Terminal) → SpellsBinder x v → run (binder_due h) (x ∷ rest) ≡ run (binder_colon_due h v) rest
-binder_complete h x v rest spells_binder = refl
-binder_complete h x v rest spells_no_binder = refl
+-- Left sides
 
-param_complete : (h : Head) {x : Terminal} {v : Option (List ℕ)} {xs : List Terminal} {a : Written} → SpellsBinder x v → SpellsTerm xs a → (rest : List Terminal) → run (head_due h) (open_bracket ∷ x ∷ colon ∷ (xs ++ close_bracket ∷ rest)) ≡ run (head_due (with_param h v a)) rest
-param_complete h {x} {v} {xs} {a} s k rest =
-    binder_complete h x v (colon ∷ (xs ++ close_bracket ∷ rest)) s
-    ∙ term_complete (as_param h v) k (level_behind h + 1) close_bracket rest close_enders
+module _ (h : RuleHead) where
+  abbrev left_at : List PatternFrame → LeftApplication → CommandSoFar
+  left_at fs s = in_left h (record { frames = fs; application = s })
+
+  -- a name or a wildcard is the first atom, where this stands behind it
+  abbrev PatternFollows : List Terminal → Type 0
+  PatternFollows zs = (fs : List PatternFrame) (v : Option (List ℕ)) → run (left_at fs (pattern_bindable v)) zs ≡ run (left_at fs (pattern_reading (Some (binder_pattern v)))) zs
+
+  guard_runs : {xs : List Terminal} {a : Written} → SpellsTerm xs a → (fs : List PatternFrame) (s : LeftApplication) (zs : List Terminal) → run (left_at fs s) ((open_brace ∷ (xs ++ close_brace ∷ [])) ++ zs) ≡ run (left_at fs (pattern_reading (Some (pattern_applied_to (left_read s) (pattern_guard a))))) zs
+  guard_runs {xs} {a} k fs s zs =
+      ap (λ us. run (left_at fs s) (open_brace ∷ us)) (append_assoc xs (close_brace ∷ []) zs)
+      ∙ term_complete (as_guard h (record { frames = fs; application = s })) k sign.CloseBrace zs (λ p. refl)
+
+  pattern_follows : {ys : List Terminal} {p : WrittenPattern} → SpellsPatternAtom ys p → (zs : List Terminal) → PatternFollows (ys ++ zs)
+  pattern_follows spells_pattern_name zs = λ fs v. refl
+  pattern_follows spells_pattern_qualified zs = λ fs v. refl
+  pattern_follows spells_pattern_wildcard zs = λ fs v. refl
+  pattern_follows (spells_guard k) zs = λ fs v. guard_runs k fs (pattern_bindable v) zs ∙ sym (guard_runs k fs (pattern_reading (Some (binder_pattern v))) zs)
+  pattern_follows (spells_pattern_brackets k) zs = λ fs v. refl
+
+  abbrev PatternAtomRuns : List Terminal → WrittenPattern → Type 0
+  PatternAtomRuns ys p = (fs : List PatternFrame) (o : Option WrittenPattern) (zs : List Terminal) → PatternFollows zs → run (left_at fs (pattern_reading o)) (ys ++ zs) ≡ run (left_at fs (pattern_reading (Some (pattern_applied_to o p)))) zs
+
+  abbrev LeftRuns : List Terminal → WrittenPattern → Type 0
+  LeftRuns xs p = (fs : List PatternFrame) (zs : List Terminal) → PatternFollows zs → run (left_at fs (pattern_reading None)) (xs ++ zs) ≡ run (left_at fs (pattern_reading (Some p))) zs
+
+  -- in a bracket, that closes behind it
+  abbrev PatternRuns : List Terminal → WrittenPattern → Type 0
+  PatternRuns xs p = (f : PatternFrame) (fs : List PatternFrame) (rest : List Terminal) → run (left_at (f ∷ fs) (pattern_reading None)) (xs ++ close_bracket ∷ rest) ≡ run (left_at (f ∷ fs) (pattern_reading (Some p))) (close_bracket ∷ rest)
+
+  bound_step : {x : Terminal} {v : Option (List ℕ)} → SpellsBinder x v → (f : PatternFrame) (fs : List PatternFrame) (zs : List Terminal) → run (left_at (f ∷ fs) (pattern_reading None)) (x ∷ double_arrow ∷ zs) ≡ run (left_at (pattern_wrapping (λ p. pattern_bare v p) ∷ f ∷ fs) (pattern_reading None)) zs
+  bound_step spells_binder f fs zs = refl
+  bound_step spells_no_binder f fs zs = refl
+
+  pattern_binder_runs : {x : Terminal} {v : Option (List ℕ)} → SpellsBinder x v → PatternAtomRuns (x ∷ []) (binder_pattern v)
+  pattern_binder_runs spells_binder fs (Some f) zs j = refl
+  pattern_binder_runs (spells_binder {n}) fs None zs j = j fs (Some n)
+  pattern_binder_runs spells_no_binder fs (Some f) zs j = refl
+  pattern_binder_runs spells_no_binder fs None zs j = j fs None
+
+  mutual
+    pattern_atom_runs : {ys : List Terminal} {p : WrittenPattern} → SpellsPatternAtom ys p → PatternAtomRuns ys p
+    pattern_atom_runs spells_pattern_name = pattern_binder_runs spells_binder
+    pattern_atom_runs spells_pattern_wildcard = pattern_binder_runs spells_no_binder
+    pattern_atom_runs spells_pattern_qualified = λ fs o zs j. refl
+    pattern_atom_runs (spells_guard k) = λ fs o zs j. guard_runs k fs (pattern_reading o) zs
+    pattern_atom_runs (spells_pattern_brackets {xs} {p} k) = λ fs o zs j.
+        ap (run (left_at (pattern_bracket o ∷ fs) (pattern_reading None))) (append_assoc xs (close_bracket ∷ []) zs)
+        ∙ pattern_runs k (pattern_bracket o) fs zs
+
+    left_runs : {xs : List Terminal} {p : WrittenPattern} → SpellsPatternApplication xs p → LeftRuns xs p
+    left_runs (spells_pattern_head k) = λ fs zs j. pattern_atom_runs k fs None zs j
+    left_runs (spells_pattern_applied {xs} {ys} {f} {p} l k) = λ fs zs j.
+        ap (run (left_at fs (pattern_reading None))) (append_assoc xs ys zs)
+        ∙ left_runs l fs (ys ++ zs) (pattern_follows k zs)
+        ∙ pattern_atom_runs k fs (Some f) zs j
+
+    pattern_runs : {xs : List Terminal} {p : WrittenPattern} → SpellsPattern xs p → PatternRuns xs p
+    pattern_runs (spells_pattern_application k) = λ f fs rest. left_runs k (f ∷ fs) (close_bracket ∷ rest) (λ fs v. refl)
+    pattern_runs (spells_pattern_bare {x} {v} {xs} b k) = λ f fs rest.
+        bound_step b f fs (xs ++ close_bracket ∷ rest) ∙ pattern_runs k (pattern_wrapping (λ p. pattern_bare v p)) (f ∷ fs) rest
+
+  -- a left side and its `-->`
+  pub left_complete : {xs : List Terminal} {l : WrittenPattern} → SpellsPatternApplication xs l → (rest : List Terminal) → run (in_left h left_due) (xs ++ long_arrow ∷ rest) ≡ run (in_term (as_right h l) term_due) rest
+  left_complete k rest = left_runs k [] (long_arrow ∷ rest) (λ fs v. refl)
+
+-- Declarations
 
 abbrev pub head_of : SymSort → List ℕ → List WrittenParam → Head
 head_of s n ps = record { sort = s; name = n; params = ps }
 
-pub params_complete : (s : SymSort) (n : List ℕ) (ps : List WrittenParam) {xs : List Terminal} {qs : List WrittenParam} → SpellsParams xs qs → (rest : List Terminal) → run (head_due (head_of s n ps)) (xs ++ rest) ≡ run (head_due (head_of s n (ps ++ qs))) rest
+binder_complete : (h : Head) {x : Terminal} {v : Option (List ℕ)} (rest : List Terminal) → SpellsBinder x v → run (binder_due h) (x ∷ rest) ≡ run (binder_colon_due h v) rest
+binder_complete h rest spells_binder = refl
+binder_complete h rest spells_no_binder = refl
+
+params_complete : (s : SymSort) (n : List ℕ) (ps : List WrittenParam) {xs : List Terminal} {qs : List WrittenParam} → SpellsParams xs qs → (rest : List Terminal) → run (head_due (head_of s n ps)) (xs ++ rest) ≡ run (head_due (head_of s n (ps ++ qs))) rest
 params_complete s n ps spells_no_params rest = ap (λ qs. run (head_due (head_of s n qs)) rest) (sym (append-nil ps))
 params_complete s n ps (spells_params {x} {v} {xs} {ys} {a} {ps = qs} b k h) rest =
     ap (λ zs. run (head_due (head_of s n ps)) (open_bracket ∷ x ∷ colon ∷ zs)) (append_assoc xs (close_bracket ∷ ys) rest)
-    ∙ param_complete (head_of s n ps) b k (ys ++ rest)
+    ∙ binder_complete (head_of s n ps) (colon ∷ (xs ++ close_bracket ∷ (ys ++ rest))) b
+    ∙ term_complete (as_param (head_of s n ps) v) k sign.CloseBracket (ys ++ rest) (λ p. refl)
     ∙ params_complete s n (ps ++ param v a ∷ []) h rest
     ∙ ap (λ qs. run (head_due (head_of s n qs)) rest) (append_assoc ps (param v a ∷ []) qs)
 
-pub type_complete : (h : Head) {xs : List Terminal} {a : Written} → SpellsTerm xs a → (x : Terminal) (rest : List Terminal) → Enders x → run (head_due h) (colon ∷ (xs ++ x ∷ rest)) ≡ run_by (behind_term (as_type h) a x) (λ q. run q rest) rest
-type_complete h k x rest enders = term_complete (as_type h) k (level_behind h) x rest enders
+body_complete : (h : Head) (typ : Option Written) {xs : List Terminal} {b : Written} → SpellsTerm xs b → Ends (in_term (as_body h typ) term_due) (xs ++ dot ∷ []) (written_declare h.sort h.name h.params typ (Some b))
+body_complete h typ k = term_complete (as_body h typ) k sign.Dot [] (λ p. refl)
 
-pub body_complete : (h : Head) (typ : Option Written) {xs : List Terminal} {b : Written} → SpellsTerm xs b → run (in_term (as_body h typ) (term_due (level_behind h))) (xs ++ dot ∷ []) ≡ ended (written_declare h.sort h.name h.params typ (Some b)) []
-body_complete h typ k = term_complete (as_body h typ) k (level_behind h) dot [] (λ p a e. refl)
+-- Contexts
+
+-- an entry may begin here
+abbrev TakesEntry : CommandSoFar → RuleHead → Type 0
+TakesEntry p h = (n : List ℕ) (rest : List Terminal) → run p (terminal.Name n ∷ rest) ≡ run (entry_named h n) rest
+
+abbrev rule_head : List WrittenRule → List WrittenNote → RuleHead
+rule_head rules es = record { rules = rules; context = es }
+
+entry_complete : (p : CommandSoFar) (rules : List WrittenRule) (es : List WrittenNote) {xs : List Terminal} {e : WrittenNote} → TakesEntry p (rule_head rules es) → SpellsEntry xs e → (s : Sign) (rest : List Terminal) → Enders s → ((h : RuleHead) (n : List ℕ) → named_next h n (terminal.Sign s) ≡ behind_entry (with_entry h n None) s) → run p (xs ++ terminal.Sign s ∷ rest) ≡ run_by (behind_entry (rule_head rules (es ++ e ∷ [])) s) (λ q. run q rest) rest
+entry_complete p rules es t (spells_entry {n}) s rest k named = t n (terminal.Sign s ∷ rest) ∙ ap (λ (a : Advance). run_by a (λ q. run q rest) rest) (named (rule_head rules es) n)
+entry_complete p rules es t (spells_typed_entry {n} {xs} b) s rest k named = t n (colon ∷ (xs ++ terminal.Sign s ∷ rest)) ∙ term_complete (as_entry (rule_head rules es) n) b s rest k
+
+entries_complete : (p : CommandSoFar) (rules : List WrittenRule) (before : List WrittenNote) {xs : List Terminal} {es : List WrittenNote} → TakesEntry p (rule_head rules before) → SpellsEntries xs es → (rest : List Terminal) →
+    run p (xs ++ close_square ∷ rest) ≡ run (in_left (rule_head rules (before ++ es)) left_due) rest
+entries_complete p rules before t (spells_last_entry s) rest = entry_complete p rules before t s sign.CloseSquare rest (λ p. refl) (λ h n. refl)
+entries_complete p rules before t (spells_more_entries {xs} {ys} {e} {es} s k) rest =
+    ap (run p) (append_assoc xs (comma ∷ ys) (close_square ∷ rest))
+    ∙ entry_complete p rules before t s sign.Comma (ys ++ close_square ∷ rest) (λ p. refl) (λ h n. refl)
+    ∙ entries_complete (entry_due (rule_head rules (before ++ e ∷ []))) rules (before ++ e ∷ []) (λ n rest. refl) k rest
+    ∙ ap (λ fs. run (in_left (rule_head rules fs) left_due) rest) (append_assoc before (e ∷ []) es)
+
+-- a context, read from behind its first bracket
+record ContextRun (rules : List WrittenRule) (cs : List Terminal) (es : List WrittenNote) : Type 0 where
+  pub us : List Terminal
+  pub is : cs ≡ open_square ∷ us
+  pub runs : (rest : List Terminal) → run (context_due (rule_head rules [])) (us ++ rest) ≡ run (in_left (rule_head rules es) left_due) rest
+
+context_complete : (rules : List WrittenRule) {cs : List Terminal} {es : List WrittenNote} → SpellsContext cs es → ContextRun rules cs es
+context_complete rules spells_no_context = record { us = close_square ∷ []; is = refl; runs = λ rest. refl }
+context_complete rules (spells_context {xs} k) = record {
+  us = xs ++ close_square ∷ [];
+  is = refl;
+  runs = λ rest. ap (run (context_due (rule_head rules []))) (append_assoc xs (close_square ∷ []) rest) ∙ entries_complete (context_due (rule_head rules [])) rules [] (λ n rest. refl) k rest;
+}
+
+-- Rules
+
+-- rules behind these rules, by the sign that they begin with, and these terminals behind them
+record RulesRun (done : List WrittenRule) (xs behind : List Terminal) (result : Run) : Type 0 where
+  pub first : Sign
+  pub us : List Terminal
+  pub is : xs ≡ terminal.Sign first ∷ us
+  pub enders : Enders first
+  pub begins : advanced command_due (terminal.Sign first) ≡ behind_rule (rule_head [] []) first
+  pub runs : run_by (behind_rule (rule_head done []) first) (λ q. run q (us ++ behind)) (us ++ behind) ≡ result
+
+-- the sign behind a rule
+abbrev behind_rules : List WrittenRule → Sign → List Terminal → Run
+behind_rules rules e rest = run_by (behind_rule (rule_head rules []) e) (λ q. run q rest) rest
+
+rule_lists : (us ys zs more : List Terminal) → (us ++ (ys ++ long_arrow ∷ zs)) ++ more ≡ us ++ (ys ++ long_arrow ∷ (zs ++ more))
+rule_lists us ys zs more = simp append_assoc
+
+-- a rule from its context on
+body_run : (rules : List WrittenRule) {cs ys zs : List Terminal} {es : List WrittenNote} {l : WrittenPattern} {r : Written} (c : ContextRun rules cs es) → SpellsPatternApplication ys l → SpellsTerm zs r → (e : Sign) (rest : List Terminal) → Enders e →
+    run (context_due (rule_head rules [])) ((c.us ++ (ys ++ long_arrow ∷ zs)) ++ terminal.Sign e ∷ rest) ≡ behind_rules (rules ++ rule es l r ∷ []) e rest
+body_run rules {ys = ys} {zs = zs} {es = es} {l = l} c k t e rest enders =
+    ap (run (context_due (rule_head rules []))) (rule_lists c.us ys zs (terminal.Sign e ∷ rest))
+    ∙ c.runs (ys ++ long_arrow ∷ (zs ++ terminal.Sign e ∷ rest))
+    ∙ left_complete (rule_head rules es) k (zs ++ terminal.Sign e ∷ rest)
+    ∙ term_complete (as_right (rule_head rules es) l) t e rest enders
+
+named_complete : (rules : List WrittenRule) {cs ys zs : List Terminal} {es : List WrittenNote} {l : WrittenPattern} {r : Written} (n : Terminal) → ((h : RuleHead) → advanced (rule_name_due h) n ≡ goes (rule_brace_due h)) → SpellsContext cs es → SpellsPatternApplication ys l → SpellsTerm zs r → (e : Sign) (rest : List Terminal) → Enders e
+    → RulesRun rules (open_brace ∷ n ∷ close_brace ∷ (cs ++ (ys ++ long_arrow ∷ zs))) (terminal.Sign e ∷ rest) (behind_rules (rules ++ rule es l r ∷ []) e rest)
+named_complete rules {ys = ys} {zs = zs} n named c k t e rest enders =
+    let cs = context_complete rules c in
+    let us = close_brace ∷ open_square ∷ (cs.us ++ (ys ++ long_arrow ∷ zs)) in
+    record {
+      first = sign.OpenBrace;
+      us = n ∷ us;
+      is = ap (λ us. open_brace ∷ n ∷ close_brace ∷ (us ++ (ys ++ long_arrow ∷ zs))) cs.is;
+      enders = λ p. refl;
+      begins = refl;
+      runs = ap (λ (a : Advance). run_by a (λ q. run q (us ++ terminal.Sign e ∷ rest)) (us ++ terminal.Sign e ∷ rest)) (named (rule_head rules [])) ∙ body_run rules cs k t e rest enders;
+    }
+
+rule_complete : (rules : List WrittenRule) {xs : List Terminal} {r : WrittenRule} → SpellsRule xs r → (e : Sign) (rest : List Terminal) → Enders e → RulesRun rules xs (terminal.Sign e ∷ rest) (behind_rules (rules ++ r ∷ []) e rest)
+rule_complete rules (spells_rule {xs} {ys} {zs} spells_no_rule_name c k t) e rest enders =
+    let cs = context_complete rules c in
+    record { first = sign.OpenSquare; us = cs.us ++ (ys ++ long_arrow ∷ zs); is = ap (λ us. us ++ (ys ++ long_arrow ∷ zs)) cs.is; enders = λ p. refl; begins = refl; runs = body_run rules cs k t e rest enders }
+rule_complete rules (spells_rule (spells_rule_name {n}) c k t) e rest enders = named_complete rules (terminal.Name n) (λ h. refl) c k t e rest enders
+rule_complete rules (spells_rule (spells_qualified_rule_name {m} {n}) c k t) e rest enders = named_complete rules (terminal.Qualified m n) (λ h. refl) c k t e rest enders
+
+rules_complete : (done : List WrittenRule) {xs : List Terminal} {rs : List WrittenRule} → SpellsRules xs rs → RulesRun done xs (dot ∷ []) (ended (written_rules (done ++ rs)) [])
+rules_complete done (spells_last_rule s) = rule_complete done s sign.Dot [] (λ p. refl)
+rules_complete done (spells_more_rules {xs} {ys} {r} {rs} s k) =
+    let later = rules_complete (done ++ r ∷ []) k in
+    let one = rule_complete done s later.first (later.us ++ dot ∷ []) later.enders in
+    let lists : (one.us ++ ys) ++ dot ∷ [] ≡ one.us ++ terminal.Sign later.first ∷ (later.us ++ dot ∷ []) = append_assoc one.us ys (dot ∷ []) ∙ ap (λ us. one.us ++ (us ++ dot ∷ [])) later.is in
+    record {
+      first = one.first;
+      us = one.us ++ ys;
+      is = ap (λ us. us ++ ys) one.is;
+      enders = one.enders;
+      begins = one.begins;
+      runs = ap (λ us. run_by (behind_rule (rule_head done []) one.first) (λ q. run q us) us) lists ∙ one.runs ∙ later.runs ∙ ap (λ qs. ended (written_rules qs) []) (append_assoc done (r ∷ []) rs);
+    }
+
+rules_ended : {xs : List Terminal} {rs : List WrittenRule} → SpellsRules xs rs → Ends command_due (xs ++ dot ∷ []) (written_rules rs)
+rules_ended k =
+    let r = rules_complete [] k in
+    ap (λ us. run command_due (us ++ dot ∷ [])) r.is
+    ∙ ap (λ (s : Advance). run_by s (λ q. run q (r.us ++ dot ∷ [])) (r.us ++ dot ∷ [])) r.begins
+    ∙ r.runs
+
+-- Commands
+
+-- a command is read as what it spells
+pub complete : {xs : List Terminal} {form : WrittenForm} → SpellsForm xs form → Ends command_due xs form
+complete (spells_static {n} {xs} {ys} {ps} h k) =
+    params_complete Static n [] h (colon ∷ (ys ++ dot ∷ [])) ∙ term_complete (as_type (head_of Static n ps)) k sign.Dot [] (λ p. refl)
+complete (spells_definable {n} {xs} {ys} {ps} h k) =
+    params_complete Definable n [] h (colon ∷ (ys ++ dot ∷ [])) ∙ term_complete (as_type (head_of Definable n ps)) k sign.Dot [] (λ p. refl)
+complete (spells_definition {n} {xs} {ys} {ps} h k) =
+    params_complete Definable n [] h (defined ∷ (ys ++ dot ∷ [])) ∙ body_complete (head_of Definable n ps) None k
+complete (spells_typed_definition {n} {xs} {ys} {zs} {ps} {a} h k j) =
+    params_complete Definable n [] h (colon ∷ (ys ++ defined ∷ (zs ++ dot ∷ [])))
+    ∙ term_complete (as_type (head_of Definable n ps)) k sign.Defined (zs ++ dot ∷ []) (λ p. refl)
+    ∙ body_complete (head_of Definable n ps) (Some a) j
+complete (spells_theorem {n} {xs} {ys} {zs} {ps} {a} h k j) =
+    params_complete Theorem n [] h (colon ∷ (ys ++ defined ∷ (zs ++ dot ∷ [])))
+    ∙ term_complete (as_type (head_of Theorem n ps)) k sign.Defined (zs ++ dot ∷ []) (λ p. refl)
+    ∙ body_complete (head_of Theorem n ps) (Some a) j
+complete (spells_rules k) = rules_ended k

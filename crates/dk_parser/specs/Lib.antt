@@ -1,5 +1,6 @@
 pub mod FileReading
 pub mod Grammar
+pub mod Groups
 pub mod Levels
 pub mod Parsing
 pub mod RawViews

@@ -1,5 +1,5 @@
 -- For proofs: what the parser's steps read, and what a token adds to it. That it is what `Reads` says is a law (src/laws.rt).
-use Rattle.std.specs.Prelude.{◌≡◌, ℕ, List, [], ◌∷◌, ◌++◌, Option, Some, None, Result, Ok, Err, unwrap_or, option_map, IsSome}
+use Rattle.std.specs.Prelude.{◌≡◌, ℕ, List, [], ◌∷◌, ◌++◌, Option, Some, None, Result, Ok, Err, IsSome}
 use Rattle.dk_model.specs.declared.code.Code.{Code}
 use Rattle.dk_model.specs.declared.code.Code.TheVariants.{E03}
 use Rattle.dk_model.specs.declared.code.Fault.{Fault}
@@ -10,19 +10,16 @@ use Rattle.dk_parser.specs.declared.parser.Step.{Step}
 use Rattle.dk_parser.specs.declared.parser.Step.TheVariants as step
 use Rattle.dk_parser.specs.Written.{WrittenCommand}
 use Rattle.dk_parser.specs.RawViews.{written_command}
-use Rattle.dk_parser.specs.Parsing.{Parsing, started, parsing_after, commands_from}
+use Rattle.dk_parser.specs.Parsing.{Parsing, started, begun_line, parsing_after, commands_from}
 use Rattle.dk_parser.specs.Reading.{TokenReading}
 
-abbrev pub fault_of : Parsing → Option (ℕ × Code)
-fault_of s = option_map (λ code. (unwrap_or s.begun 0, code)) s.fault
+-- the commands so far, and the parser behind them
+abbrev pub reading_at : List WrittenCommand → Parsing → TokenReading
+reading_at cs s = record { commands = cs; begun = begun_line s; fault = s.fault }
 
 -- what a list of tokens is read as
 abbrev pub read_tokens : Limits → List Token → TokenReading
-read_tokens limits ts = record {
-  commands = commands_from (started limits) ts;
-  begun = (parsing_after limits ts).begun;
-  fault = fault_of (parsing_after limits ts);
-}
+read_tokens limits ts = reading_at (commands_from (started limits) ts) (parsing_after limits ts)
 
 -- one reading begins with another: its commands do, and a fault stays
 pub record Extends (old new : TokenReading) : Type 0 where

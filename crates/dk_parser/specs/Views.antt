@@ -1,13 +1,13 @@
 -- For proofs: the parser and its parts as plain data.
-use Rattle.std.specs.Prelude.{◌≡◌, Bool, false, List, Result, Ok, Err, map}
+use Rattle.std.specs.Prelude.{◌≡◌, List, Result, Ok, Err, map}
 use Rattle.dk_model.specs.declared.code.Fault.{Fault}
 use Rattle.dk_model.specs.declared.code.Fault.TheVariants as fault
 use Rattle.dk_model.specs.declared.limits.Limits.{Limits}
 use Rattle.dk_lexer.specs.declared.token.Token.{Token}
 use Rattle.dk_terms.specs.declared.term_so_far.TermSoFar.{TermSoFar}
-use Rattle.dk_parser.specs.declared.head.Head.{Head}
+use Rattle.dk_parser.specs.declared.declare_part.Head.{Head}
 use Rattle.dk_terms.specs.declared.left_so_far.LeftSoFar.{LeftSoFar}
-use Rattle.dk_parser.specs.declared.rule_head.RuleHead.{RuleHead}
+use Rattle.dk_parser.specs.declared.rule_part.RuleHead.{RuleHead}
 use Rattle.dk_parser.specs.declared.command_so_far.Purpose.{Purpose}
 use Rattle.dk_parser.specs.declared.command_so_far.Purpose.TheVariants as purpose
 use Rattle.dk_parser.specs.declared.command_so_far.Due.{Due}
@@ -16,11 +16,15 @@ use Rattle.dk_parser.specs.declared.command_so_far.CommandSoFar.{CommandSoFar}
 use Rattle.dk_parser.specs.declared.command_so_far.Advance.{Advance}
 use Rattle.dk_parser.specs.declared.command_so_far.Advance.TheVariants as advance
 use Rattle.dk_parser.specs.declared.parser.Parser.{Parser}
+use Rattle.dk_parser.specs.declared.standing.Standing.{Standing}
 use Rattle.dk_parser.specs.declared.parser.Step.{Step}
 use Rattle.dk_parser.specs.declared.parser.Step.TheVariants as step
 use Rattle.dk_parser.specs.RawViews.{maybe_written, written_param, written_pattern, written_note, written_rule, written_form, written_command}
 use Rattle.dk_parser.specs.Parsing as plain
-pub use Rattle.dk_terms.specs.Views.{changed, maybe_pattern, plain_role, plain_application, plain_frame, is_bracket, opens_domain, plain_around, frames_on, plain_frames, plain_term, plain_left_application, binders_on, plain_binders, brackets_on, plain_left}
+use Rattle.dk_terms.specs.Parsing as terms
+use Rattle.dk_parser.specs.Groups.{plain_group, plain_groups, plain_side}
+use Rattle.dk_parser.specs.Levels as levels
+use Rattle.dk_terms.specs.Views.{plain_term, plain_left}
 
 abbrev pub plain_head : Head → plain.Head
 plain_head h = record { sort = h.sort; name = h.name; params = map written_param h.params }
@@ -28,7 +32,7 @@ plain_head h = record { sort = h.sort; name = h.name; params = map written_param
 abbrev pub plain_rule_head : RuleHead → plain.RuleHead
 plain_rule_head h = record { rules = map written_rule h.rules; context = map written_note h.context }
 
-abbrev pub purpose_by : plain.Head → plain.RuleHead → plain.LeftSoFar → Purpose → plain.Purpose
+abbrev pub purpose_by : plain.Head → plain.RuleHead → terms.LeftSoFar → Purpose → plain.Purpose
 purpose_by h r l (purpose.Param v) = plain.as_param h v
 purpose_by h r l purpose.Type = plain.as_type h
 purpose_by h r l (purpose.Body a) = plain.as_body h (maybe_written a)
@@ -40,7 +44,7 @@ purpose_by h r l (purpose.Right p) = plain.as_right r (written_pattern p)
 abbrev pub plain_purpose : CommandSoFar → Purpose → plain.Purpose
 plain_purpose c u = purpose_by (plain_head c.head) (plain_rule_head c.rules) (plain_left c.left) u
 
-abbrev pub due_by : plain.Head → plain.RuleHead → plain.LeftSoFar → plain.TermSoFar → Due → plain.CommandSoFar
+abbrev pub due_by : plain.Head → plain.RuleHead → terms.LeftSoFar → terms.TermSoFar → Due → plain.CommandSoFar
 due_by h r l t due.Command = plain.command_due
 due_by h r l t (due.Name sort) = plain.name_due sort
 due_by h r l t due.Head = plain.head_due h
@@ -62,20 +66,18 @@ plain_due c d = due_by (plain_head c.head) (plain_rule_head c.rules) (plain_left
 abbrev pub plain_command : CommandSoFar → plain.CommandSoFar
 plain_command c = plain_due c c.due
 
--- a term is due, and its terminal is the next one
-abbrev pub is_in_term : Due → Bool → Bool
-is_in_term (due.Term u) takes = takes
-is_in_term _ takes = false
-
 -- what a terminal came to, and the command that it left
 abbrev pub plain_step : Advance → CommandSoFar → plain.Advance
-plain_step (advance.Goes made) c = plain.goes made (plain_command c)
+plain_step advance.Goes c = plain.goes (plain_command c)
 plain_step (advance.Ends command) c = plain.ends (written_form command.value.form)
 plain_step advance.Refuses c = plain.refuses
 
+abbrev pub plain_standing : Standing → levels.Standing
+plain_standing s = record { params = s.params; side = plain_side s.side; groups = record { inner = plain_group s.inner; outer = plain_groups s.outer } }
+
 -- the parser as plain data
 abbrev pub parsing : Parser → plain.Parsing
-parsing p = record { limits = p.limits; begun = p.begun; part = plain_command p.part; fault = p.fault }
+parsing p = record { limits = p.limits; begun = p.begun; standing = plain_standing p.standing; part = plain_command p.part; fault = p.fault }
 
 -- the parser was given these tokens and no others; it is as they leave it
 abbrev pub HasRead : Limits → List Token → Parser → Type 0

@@ -1,16 +1,18 @@
 //! Commands, one terminal at a time.
 ghost use Rattle.std.specs.Prelude.{◌≡◌, IfOk};
-ghost use Rattle.dk_parser.specs.Parsing.{behind_term, advanced, takes, term_argument, term_done, term_ends, term_goes, term_next};
+ghost use Rattle.dk_parser.specs.Parsing.{advanced, behind_term, goes_into, in_term_by};
+ghost use Rattle.dk_terms.specs.Parsing.{term_next};
 ghost use Rattle.dk_parser.specs.Parsing as plain;
-ghost use Rattle.dk_parser.specs.Views.{is_in_term, plain_command, plain_due, plain_purpose, plain_step, plain_term};
+ghost use Rattle.dk_parser.specs.Views.{plain_command, plain_due, plain_purpose, plain_step};
+ghost use Rattle.dk_terms.specs.Views.{plain_term};
 ghost use Rattle.dk_parser.specs.RawViews.{written, written_form};
 
-use crate::head::Head;
-use crate::rule_head::RuleHead;
+use crate::declare_part::Head;
+use crate::rule_part::RuleHead;
 use crate::{Raw, RawForm};
 use dk_lexer::Sign;
 use dk_model::{Listed, NoMemory, SymSort};
-use dk_terms::{LeftSoFar, RawPat, RawTerm, TermSoFar, Terminal};
+use dk_terms::{LeftSoFar, RawPat, RawTerm, TermSoFar, TermStep, Terminal};
 use std::alloc::Global;
 use std::mem::replace;
 
@@ -75,9 +77,8 @@ pub struct CommandSoFar {
 /// What a terminal makes of a command that has begun.
 #[derive(Drop)]
 pub enum Advance {
-    /// It goes on. The level that the terminal stands on, or the number of the argument that it
-    /// begins, whichever is greater.
-    Goes(u64),
+    /// It goes on.
+    Goes,
     /// This command ends; its line is still to be told.
     Ends(Box<Raw>),
     /// No command begins so.
@@ -98,21 +99,27 @@ impl CommandSoFar {
         }
     }
 
-    /// Takes a terminal.
-    #[tactic(auto, using(crate::proofs::Advanced::more_advanced, crate::proofs::Advanced::end_advanced))]
+    /// Takes a terminal. Most stand in a term, so these come first.
     pub fn next(&mut self, alloc: Global, x: Terminal) -> Result<Advance, NoMemory>
         ensures { IfOk result (λ step. plain_step step self.new
             ≡ advanced (plain_command self.old) x) }
     {
-        if self.is_in_term(&x) {
-            return self.term_more(alloc, x);
+        match self.due {
+            Due::Term(_) => self.term_next(alloc, x),
+            _ => self.part_next(alloc, x),
         }
+    }
+
+    fn part_next(&mut self, alloc: Global, x: Terminal) -> Result<Advance, NoMemory>
+        ensures { IfOk result (λ step. plain_step step self.new
+            ≡ advanced (plain_command self.old) x) }
+    {
         match replace(&mut self.due, Due::Command) {
             Due::Command => Ok(self.command_next(alloc, x)),
             Due::Name(sort) => Ok(self.name_next(alloc, sort, x)),
-            Due::Head => self.head_next(alloc, x),
-            Due::Binder => self.binder_next(x),
-            Due::BinderColon(binder) => self.binder_colon_next(alloc, binder, x),
+            Due::Head => Ok(self.head_next(alloc, x)),
+            Due::Binder => Ok(self.binder_next(x)),
+            Due::BinderColon(binder) => Ok(self.binder_colon_next(alloc, binder, x)),
             Due::RuleName => Ok(self.rule_name_next(x)),
             Due::RuleBrace => Ok(self.rule_brace_next(x)),
             Due::Square => Ok(self.square_next(x)),
@@ -120,35 +127,27 @@ impl CommandSoFar {
             Due::Entry => Ok(self.entry_next(x)),
             Due::EntryNamed(name) => self.named_next(alloc, name, x),
             Due::Left => self.left_next(alloc, x),
-            Due::Term(purpose) => self.term_end(alloc, purpose, x),
-        }
-    }
-
-    // Whether a term is being read that takes this terminal.
-    fn is_in_term(&self, x: &Terminal) -> bool
-        ensures { result ≡ is_in_term self.now.due (takes (plain_term self.now.term) x.now) }
-    {
-        match self.due {
-            Due::Term(_) => self.term.takes(x),
-            _ => false,
+            Due::Term(purpose) => {
+                self.due = Due::Term(purpose);
+                self.term_next(alloc, x)
+            }
         }
     }
 
     // Goes on where this is due.
-    pub(crate) fn goes(&mut self, made: u64, due: Due) -> Advance
-        ensures { plain_step result self.new ≡ plain.goes made (plain_due self.old due) }
+    pub(crate) fn goes(&mut self, due: Due) -> Advance
+        ensures { plain_step result self.new ≡ plain.goes (plain_due self.old due) }
     {
         self.due = due;
-        Advance::Goes(made)
+        Advance::Goes
     }
 
-    // Goes on with a term on this level.
-    pub(crate) fn goes_into(&mut self, alloc: Global, level: u64, purpose: Purpose) -> Advance
-        ensures { plain_step result self.new ≡ plain.goes level
-            (plain.in_term (plain_purpose self.old purpose) (plain.term_due level)) }
+    // Goes on with a term.
+    pub(crate) fn goes_into(&mut self, alloc: Global, purpose: Purpose) -> Advance
+        ensures { plain_step result self.new ≡ goes_into (plain_purpose self.old purpose) }
     {
-        self.term.begin(alloc, level);
-        self.goes(level, Due::Term(purpose))
+        self.term.begin(alloc);
+        self.goes(Due::Term(purpose))
     }
 
     // The command ends with this form.
@@ -164,68 +163,63 @@ impl CommandSoFar {
     {
         match x {
             Terminal::Name(name) => self.named(alloc, SymSort::Static, name),
-            Terminal::Def => self.goes(0, Due::Name(SymSort::Definable)),
-            Terminal::Thm => self.goes(0, Due::Name(SymSort::Theorem)),
+            Terminal::Def => self.goes(Due::Name(SymSort::Definable)),
+            Terminal::Thm => self.goes(Due::Name(SymSort::Theorem)),
             Terminal::Sign(Sign::OpenBrace) => {
                 self.rules = RuleHead::new(alloc);
-                self.goes(0, Due::RuleName)
+                self.goes(Due::RuleName)
             }
             Terminal::Sign(Sign::OpenSquare) => {
                 self.rules = RuleHead::new(alloc);
-                self.goes(0, Due::Context)
+                self.goes(Due::Context)
             }
             _ => Advance::Refuses,
         }
     }
 
-    // One terminal more of a term.
-    fn term_more(&mut self, alloc: Global, x: Terminal) -> Result<Advance, NoMemory>
+    // One terminal more of a term, or what ends it.
+    fn term_next(&mut self, alloc: Global, x: Terminal) -> Result<Advance, NoMemory>
         ensures { IfOk result (λ step. (purpose : Purpose) → self.old.due ≡ Due.Term purpose →
-            plain_step step self.new ≡ term_goes (plain_purpose self.old purpose)
-            (term_argument (plain_term self.old.term) x) (term_next (plain_term self.old.term) x)) }
+            plain_step step self.new ≡ in_term_by (plain_purpose self.old purpose)
+            (term_next (plain_term self.old.term) x)) }
     {
-        let argument = self.term.argument(&x);
-        if self.term.next(alloc, x)? {
-            Ok(Advance::Goes(self.term.depth()?.max(argument)))
-        } else {
-            Ok(Advance::Refuses)
+        match self.term.next(alloc, x)? {
+            TermStep::Goes => Ok(Advance::Goes),
+            TermStep::Ends(term, sign) => self.term_end(alloc, term, sign),
+            TermStep::Refuses => Ok(Advance::Refuses),
         }
     }
 
-    // What ends a term, where it may end here.
-    fn term_end(
-        &mut self,
-        alloc: Global,
-        purpose: Purpose,
-        x: Terminal,
-    ) -> Result<Advance, NoMemory>
-        ensures { IfOk result (λ step. plain_step step self.new
-            ≡ term_ends (plain_purpose self.old purpose) x (term_done (plain_term self.old.term))) }
+    // A sign behind the term that is due.
+    fn term_end(&mut self, alloc: Global, term: RawTerm, sign: Sign) -> Result<Advance, NoMemory>
+        ensures { IfOk result (λ step. (purpose : Purpose) → self.old.due ≡ Due.Term purpose →
+            plain_step step self.new
+            ≡ behind_term (plain_purpose self.old purpose) (written term) sign) }
     {
-        match self.term.done(alloc)? {
-            Some(term) => self.behind_term(alloc, purpose, term, x),
-            None => Ok(Advance::Refuses),
+        match replace(&mut self.due, Due::Command) {
+            Due::Term(purpose) => self.behind_term(alloc, purpose, term, sign),
+            _ => Ok(Advance::Refuses),
         }
     }
 
-    // A terminal behind a whole term.
+    // A sign behind a whole term.
     fn behind_term(
         &mut self,
         alloc: Global,
         purpose: Purpose,
         term: RawTerm,
-        x: Terminal,
+        sign: Sign,
     ) -> Result<Advance, NoMemory>
         ensures { IfOk result (λ step. plain_step step self.new
-            ≡ behind_term (plain_purpose self.old purpose) (written term) x) }
+            ≡ behind_term (plain_purpose self.old purpose) (written term) sign) }
     {
         match purpose {
-            Purpose::Param(binder) => self.param_read(binder, term, x),
-            Purpose::Type => self.type_read(alloc, term, x),
-            Purpose::Body(typ) => self.body_read(alloc, typ, term, x),
-            Purpose::Entry(name) => self.entry_read(alloc, name, Some(term), x),
-            Purpose::Guard => self.guard_read(alloc, term, x),
-            Purpose::Right(left) => self.rule_read(alloc, left, term, x),
+            Purpose::Param(binder) => self.param_read(binder, term, sign),
+            Purpose::Type => self.type_read(alloc, term, sign),
+            Purpose::Body(typ) => self.body_read(alloc, typ, term, sign),
+            Purpose::Entry(name) => self.entry_read(alloc, name, Some(term), sign),
+            Purpose::Guard => self.guard_read(alloc, term, sign),
+            Purpose::Right(left) => self.rule_read(alloc, left, term, sign),
         }
     }
 }

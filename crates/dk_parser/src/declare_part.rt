@@ -1,17 +1,63 @@
 //! Declarations, one terminal at a time.
-ghost use Rattle.std.specs.Prelude.{◌≡◌, ◌+◌, IfOk};
-ghost use Rattle.dk_parser.specs.Parsing.{behind_term, binder_named, body_behind_head, body_behind_type, body_due, dot_behind_type, head_next, named, advanced};
+ghost use Rattle.std.specs.Prelude.{◌≡◌, [], IfOk, OnOk};
+ghost use Rattle.dk_parser.specs.Parsing.{advanced, behind_term, head_next, named, with_param};
 ghost use Rattle.dk_parser.specs.Parsing as plain;
 ghost use Rattle.dk_parser.specs.Views.{plain_head, plain_step};
-ghost use Rattle.dk_parser.specs.RawViews.{maybe_written, written};
+ghost use Rattle.dk_parser.specs.RawViews.{maybe_written, written, written_form};
+ghost use Rattle.dk_parser.specs.Written.{written_declare};
 
 use crate::command_so_far::{Advance, CommandSoFar, Due, Purpose};
-use crate::head::Head;
+use crate::{RawForm, RawParam};
 use dk_lexer::Sign;
 use dk_model::{Listed, NoMemory, SymSort};
-use dk_terms::{RawTerm, Terminal, next};
+use dk_terms::{RawTerm, Terminal};
 use std::alloc::Global;
 use std::mem::replace;
+
+/// The sort, the name and the parameters so far.
+#[derive(Drop)]
+pub struct Head {
+    pub sort: SymSort,
+    pub name: Listed<u8>,
+    pub params: Listed<RawParam>,
+}
+
+impl Head {
+    /// Behind the name.
+    pub fn new(alloc: Global, sort: SymSort, name: Listed<u8>) -> Head
+        ensures { plain_head result ≡ record { sort = sort; name = name; params = [] } }
+    {
+        Head {
+            sort,
+            name,
+            params: Listed::new(alloc),
+        }
+    }
+
+    /// Adds a parameter.
+    pub fn param(&mut self, binder: Option<Listed<u8>>, typ: RawTerm) -> Result<(), NoMemory>
+        ensures { OnOk result (plain_head self.new
+            ≡ with_param (plain_head self.old) binder (written typ)) }
+    {
+        self.params.push(RawParam { binder, typ })
+    }
+
+    /// The declaration with this type and this body.
+    pub fn declared(self, typ: Option<RawTerm>, body: Option<RawTerm>) -> RawForm
+        ensures { written_form result
+            ≡ written_declare self.sort self.name (plain_head self).params (maybe_written typ)
+            (maybe_written body) }
+    {
+        let Head { sort, name, params } = self;
+        RawForm::Declare {
+            sort,
+            name,
+            params,
+            typ,
+            body,
+        }
+    }
+}
 
 impl CommandSoFar {
     // The name of a definition or a theorem.
@@ -29,41 +75,34 @@ impl CommandSoFar {
         ensures { plain_step result self.new ≡ named sort name }
     {
         self.head = Head::new(alloc, sort, name);
-        self.goes(0, Due::Head)
+        self.goes(Due::Head)
     }
 
     // A parameter, the colon, or `:=`.
-    pub(crate) fn head_next(&mut self, alloc: Global, x: Terminal) -> Result<Advance, NoMemory>
-        ensures { IfOk result (λ step. plain_step step self.new
-            ≡ head_next (plain_head self.old.head) x) }
+    pub(crate) fn head_next(&mut self, alloc: Global, x: Terminal) -> Advance
+        ensures { plain_step result self.new ≡ head_next (plain_head self.old.head) x }
     {
-        let level = self.head.level();
         match x {
-            Terminal::Sign(Sign::OpenBracket) => Ok(self.goes(next(level)?, Due::Binder)),
-            Terminal::Sign(Sign::Colon) => Ok(self.goes_into(alloc, level, Purpose::Type)),
-            Terminal::Sign(Sign::Defined) => Ok(self.body_behind_head(alloc)),
-            _ => Ok(Advance::Refuses),
+            Terminal::Sign(Sign::OpenBracket) => self.goes(Due::Binder),
+            Terminal::Sign(Sign::Colon) => self.goes_into(alloc, Purpose::Type),
+            Terminal::Sign(Sign::Defined) => match self.head.sort {
+                SymSort::Definable => self.goes_into(alloc, Purpose::Body(None)),
+                _ => Advance::Refuses,
+            },
+            _ => Advance::Refuses,
         }
     }
 
     // The binder of a parameter.
-    pub(crate) fn binder_next(&mut self, x: Terminal) -> Result<Advance, NoMemory>
-        ensures { IfOk result (λ step. plain_step step self.new
-            ≡ advanced (plain.binder_due (plain_head self.old.head)) x) }
+    pub(crate) fn binder_next(&mut self, x: Terminal) -> Advance
+        ensures { plain_step result self.new
+            ≡ advanced (plain.binder_due (plain_head self.old.head)) x }
     {
         match x {
-            Terminal::Name(name) => self.binder_named(Some(name)),
-            Terminal::Wildcard => self.binder_named(None),
-            _ => Ok(Advance::Refuses),
+            Terminal::Name(name) => self.goes(Due::BinderColon(Some(name))),
+            Terminal::Wildcard => self.goes(Due::BinderColon(None)),
+            _ => Advance::Refuses,
         }
-    }
-
-    fn binder_named(&mut self, binder: Option<Listed<u8>>) -> Result<Advance, NoMemory>
-        ensures { IfOk result (λ step. plain_step step self.new
-            ≡ binder_named (plain_head self.old.head) binder) }
-    {
-        let level = next(self.head.level())?;
-        Ok(self.goes(level, Due::BinderColon(binder)))
     }
 
     // The colon behind a binder.
@@ -72,61 +111,13 @@ impl CommandSoFar {
         alloc: Global,
         binder: Option<Listed<u8>>,
         x: Terminal,
-    ) -> Result<Advance, NoMemory>
-        ensures { IfOk result (λ step. plain_step step self.new
-            ≡ advanced (plain.binder_colon_due (plain_head self.old.head) binder) x) }
+    ) -> Advance
+        ensures { plain_step result self.new
+            ≡ advanced (plain.binder_colon_due (plain_head self.old.head) binder) x }
     {
         match x {
-            Terminal::Sign(Sign::Colon) => {
-                let level = next(self.head.level())?;
-                Ok(self.goes_into(alloc, level, Purpose::Param(binder)))
-            }
-            _ => Ok(Advance::Refuses),
-        }
-    }
-
-    // Behind `:=`.
-    fn body_due(&mut self, alloc: Global, typ: Option<RawTerm>) -> Advance
-        ensures { plain_step result self.new
-            ≡ body_due (plain_head self.old.head) (maybe_written typ) }
-    {
-        let level = self.head.level();
-        self.goes_into(alloc, level, Purpose::Body(typ))
-    }
-
-    // `:=` behind the name and the parameters.
-    fn body_behind_head(&mut self, alloc: Global) -> Advance
-        ensures { plain_step result self.new
-            ≡ body_behind_head self.old.head.sort (plain_head self.old.head) }
-    {
-        match self.head.sort {
-            SymSort::Definable => self.body_due(alloc, None),
+            Terminal::Sign(Sign::Colon) => self.goes_into(alloc, Purpose::Param(binder)),
             _ => Advance::Refuses,
-        }
-    }
-
-    // `:=` behind the type.
-    fn body_behind_type(&mut self, alloc: Global, typ: RawTerm) -> Advance
-        ensures { plain_step result self.new
-            ≡ body_behind_type self.old.head.sort (plain_head self.old.head) (written typ) }
-    {
-        match self.head.sort {
-            SymSort::Static => Advance::Refuses,
-            _ => self.body_due(alloc, Some(typ)),
-        }
-    }
-
-    // The dot behind the type.
-    fn dot_behind_type(&mut self, alloc: Global, typ: RawTerm) -> Result<Advance, NoMemory>
-        ensures { IfOk result (λ step. plain_step step self.new
-            ≡ dot_behind_type self.old.head.sort (plain_head self.old.head) (written typ)) }
-    {
-        match self.head.sort {
-            SymSort::Theorem => Ok(Advance::Refuses),
-            _ => {
-                let form = self.taken_head(alloc).declared(Some(typ), None);
-                self.ends(alloc, form)
-            }
         }
     }
 
@@ -138,57 +129,65 @@ impl CommandSoFar {
         replace(&mut self.head, none)
     }
 
-    // A terminal behind the type of a parameter.
+    // A sign behind the type of a parameter.
     pub(crate) fn param_read(
         &mut self,
         binder: Option<Listed<u8>>,
         typ: RawTerm,
-        x: Terminal,
+        sign: Sign,
     ) -> Result<Advance, NoMemory>
         ensures { IfOk result (λ step. plain_step step self.new
-            ≡ behind_term (plain.as_param (plain_head self.old.head) binder) (written typ) x) }
+            ≡ behind_term (plain.as_param (plain_head self.old.head) binder) (written typ) sign) }
     {
-        match x {
-            Terminal::Sign(Sign::CloseBracket) => {
-                let level = next(self.head.level())?;
+        match sign {
+            Sign::CloseBracket => {
                 self.head.param(binder, typ)?;
-                Ok(self.goes(level, Due::Head))
+                Ok(self.goes(Due::Head))
             }
             _ => Ok(Advance::Refuses),
         }
     }
 
-    // A terminal behind the type of a declaration.
+    // A sign behind the type of a declaration.
     pub(crate) fn type_read(
         &mut self,
         alloc: Global,
         typ: RawTerm,
-        x: Terminal,
+        sign: Sign,
     ) -> Result<Advance, NoMemory>
         ensures { IfOk result (λ step. plain_step step self.new
-            ≡ behind_term (plain.as_type (plain_head self.old.head)) (written typ) x) }
+            ≡ behind_term (plain.as_type (plain_head self.old.head)) (written typ) sign) }
     {
-        match x {
-            Terminal::Sign(Sign::Dot) => self.dot_behind_type(alloc, typ),
-            Terminal::Sign(Sign::Defined) => Ok(self.body_behind_type(alloc, typ)),
+        match sign {
+            Sign::Dot => match self.head.sort {
+                SymSort::Theorem => Ok(Advance::Refuses),
+                _ => {
+                    let form = self.taken_head(alloc).declared(Some(typ), None);
+                    self.ends(alloc, form)
+                }
+            },
+            Sign::Defined => match self.head.sort {
+                SymSort::Static => Ok(Advance::Refuses),
+                _ => Ok(self.goes_into(alloc, Purpose::Body(Some(typ)))),
+            },
             _ => Ok(Advance::Refuses),
         }
     }
 
-    // A terminal behind a body.
+    // A sign behind a body.
     pub(crate) fn body_read(
         &mut self,
         alloc: Global,
         typ: Option<RawTerm>,
         body: RawTerm,
-        x: Terminal,
+        sign: Sign,
     ) -> Result<Advance, NoMemory>
         ensures { IfOk result (λ step. plain_step step self.new
             ≡ behind_term (plain.as_body (plain_head self.old.head) (maybe_written typ))
-            (written body) x) }
+            (written body) sign) }
     {
-        match x {
-            Terminal::Sign(Sign::Dot) => {
+        match sign {
+            Sign::Dot => {
                 let form = self.taken_head(alloc).declared(typ, Some(body));
                 self.ends(alloc, form)
             }

@@ -5,12 +5,11 @@
 
 mod command_so_far;
 mod declare_part;
-mod head;
 mod laws;
 mod parser;
 mod raw;
-mod rule_head;
 mod rule_part;
+mod standing;
 
 pub use dk_terms::{RawBare, RawBinding, RawPair, RawPat, RawQualified, RawTerm, Terminal};
 pub use laws::{grammar_law, reading_law};

@@ -3,13 +3,13 @@ ghost use Rattle.std.specs.Prelude.{◌≡◌, [], ◌∷◌, ◌++◌, List, Er
 ghost use Rattle.dk_lexer.specs.declared.token.Token.{Token};
 ghost use Rattle.dk_model.specs.declared.code.Fault.{Fault};
 ghost use Rattle.dk_model.specs.declared.limits.Limits.{Limits};
-ghost use Rattle.dk_parser.specs.Parsing.{advanced, turn, turn_by_step};
-ghost use Rattle.dk_parser.specs.Parsing as plain;
+ghost use Rattle.dk_parser.specs.Parsing.{command_due, refusal, turn, turn_by_step};
 ghost use Rattle.dk_parser.specs.Steps.{AddsStep, Answers, finished, read_tokens};
-ghost use Rattle.dk_parser.specs.Views.{CameTo, HasRead, parsing};
+ghost use Rattle.dk_parser.specs.Views.{CameTo, HasRead, parsing, plain_step};
 
 use crate::Raw;
 use crate::command_so_far::{Advance, CommandSoFar, Due};
+use crate::standing::Standing;
 use dk_lexer::Token;
 use dk_model::{Code, Fault, Limits, NoMemory};
 use dk_terms::Terminal;
@@ -32,8 +32,10 @@ pub enum Step {
 pub struct Parser {
     limits: Limits,
     begun: Option<u32>,
+    standing: Standing,
     part: CommandSoFar,
-    fault: Option<Code>,
+    // With the line of its command.
+    fault: Option<(u32, Code)>,
 }
 
 impl Parser {
@@ -44,6 +46,7 @@ impl Parser {
         Parser {
             limits,
             begun: None,
+            standing: Standing::new(alloc),
             part: CommandSoFar::new(alloc),
             fault: None,
         }
@@ -72,7 +75,7 @@ impl Parser {
             → result ≡ finished (read_tokens limits ts) }
     {
         match (self.fault, self.begun) {
-            (Some(code), _) => Err(code),
+            (Some((_, code)), _) => Err(code),
             (None, Some(_)) => Err(Code::E03),
             (None, None) => Ok(()),
         }
@@ -84,63 +87,75 @@ impl Parser {
         ensures { (limits : Limits) (ts : List Token) → HasRead limits ts self.now
             → result ≡ (read_tokens limits ts).begun }
     {
-        self.begun
+        match self.fault {
+            Some((line, _)) => Some(line),
+            None => self.begun,
+        }
     }
 
     fn take(&mut self, alloc: Global, token: Token) -> Result<Step, Fault>
         ensures { CameTo (turn (parsing self.old) token) result (parsing self.new) }
     {
-        if let Some(code) = self.fault {
+        if let Some((_, code)) = self.fault {
             return Err(Fault::Refused(code));
         }
         let line = self.begun.unwrap_or(token.line);
-        match Terminal::of(alloc, token)? {
-            Terminal::Profile => self.refuse(line, Code::E06),
-            x => self.advance(alloc, line, x),
-        }
+        let x = Terminal::of(alloc, token)?;
+        let code = refusal(&x);
+        let load = self.standing.take(alloc, &x)?;
+        let deep = load > u64::from(self.limits.levels);
+        let step = self.part.next(alloc, x)?;
+        self.answer(alloc, line, code, deep, step)
     }
 
-    fn advance(&mut self, alloc: Global, line: u32, x: Terminal) -> Result<Step, Fault>
+    // The answer to a step.
+    fn answer(
+        &mut self,
+        alloc: Global,
+        line: u32,
+        code: Code,
+        deep: bool,
+        step: Advance,
+    ) -> Result<Step, Fault>
         ensures { CameTo
-            (turn_by_step (parsing self.old) line (advanced (parsing self.old).part x))
+            (turn_by_step (parsing self.old) line code deep (plain_step step self.old.part))
             result (parsing self.new) }
     {
-        match self.part.next(alloc, x)? {
-            Advance::Goes(made) => self.goes(line, made),
-            Advance::Ends(command) => {
+        match (step, deep) {
+            (Advance::Refuses, _) => self.refuse(line, code),
+            (_, true) => self.refuse(line, Code::E04),
+            (Advance::Goes, false) => {
+                self.begun = Some(line);
+                Ok(Step::More)
+            }
+            (Advance::Ends(command), false) => {
                 let mut command = command;
                 command.line = line;
                 self.begun = None;
+                self.standing.start(alloc);
                 self.part.due = Due::Command;
                 Ok(Step::Command(command))
             }
-            Advance::Refuses => self.refuse(line, Code::E02),
         }
-    }
-
-    fn goes(&mut self, line: u32, made: u64) -> Result<Step, Fault>
-        ensures { CameTo
-            (turn_by_step (parsing self.old) line (plain.goes made (parsing self.old).part))
-            result (parsing self.new) }
-    {
-        if made > u64::from(self.limits.levels) {
-            return self.refuse(line, Code::E04);
-        }
-        self.begun = Some(line);
-        Ok(Step::More)
     }
 
     fn refuse(&mut self, line: u32, code: Code) -> Result<Step, Fault>
         ensures answer { result ≡ Err (Fault.Refused code) }
-        ensures after { parsing self.new ≡ record (parsing self.old) {
-          begun = Some line;
-          part = plain.command_due;
-          fault = Some code;
-        } }
+        ensures after { parsing self.new
+            ≡ record (parsing self.old) { part = command_due; fault = Some (line, code) } }
     {
-        self.begun = Some(line);
         self.part.due = Due::Command;
-        self.fault = Some(code);
+        self.fault = Some((line, code));
         Err(Fault::Refused(code))
+    }
+}
+
+// The code of a terminal that no command goes on with.
+fn refusal(x: &Terminal) -> Code
+    ensures { result ≡ refusal x.now }
+{
+    match x {
+        Terminal::Profile => Code::E06,
+        _ => Code::E02,
     }
 }

@@ -1,19 +1,59 @@
 //! The rules of a command, one terminal at a time.
-ghost use Rattle.std.specs.Prelude.{◌≡◌, IfOk};
-ghost use Rattle.dk_parser.specs.Grammar.{entry};
-ghost use Rattle.dk_parser.specs.Parsing.{behind_entry, behind_rule, behind_term, guard_due, left_goes, left_next, named_next, advanced, pattern_argument, pattern_next, right_due, with_entry, with_rule};
+ghost use Rattle.std.specs.Prelude.{◌≡◌, IfOk, OnOk};
+ghost use Rattle.dk_terms.specs.Views.{plain_left};
+ghost use Rattle.dk_parser.specs.Parsing.{advanced, behind_entry, behind_rule, behind_term, goes, in_left_next, named_next, no_rules, with_entry, with_rule};
 ghost use Rattle.dk_parser.specs.Parsing as plain;
-ghost use Rattle.dk_parser.specs.Views.{maybe_pattern, plain_left, plain_rule_head, plain_step};
+ghost use Rattle.dk_terms.specs.Parsing.{left_due};
+ghost use Rattle.dk_parser.specs.Views.{plain_rule_head, plain_step};
 ghost use Rattle.dk_parser.specs.RawViews.{maybe_written, written, written_pattern};
 
-use crate::RawForm;
 use crate::command_so_far::{Advance, CommandSoFar, Due, Purpose};
-use crate::rule_head::RuleHead;
+use crate::{RawForm, RawNote, RawRule};
 use dk_lexer::Sign;
 use dk_model::{Listed, NoMemory};
-use dk_terms::{RawPat, RawTerm, Terminal, next};
+use dk_terms::{LeftStep, RawPat, RawTerm, Terminal};
 use std::alloc::Global;
 use std::mem::replace;
+
+/// The rules, and the context of the next one so far.
+#[derive(Drop)]
+pub struct RuleHead {
+    pub rules: Listed<RawRule>,
+    pub context: Listed<RawNote>,
+}
+
+impl RuleHead {
+    /// Before the first rule.
+    pub fn new(alloc: Global) -> RuleHead
+        ensures { plain_rule_head result ≡ no_rules }
+    {
+        RuleHead {
+            rules: Listed::new(alloc),
+            context: Listed::new(alloc),
+        }
+    }
+
+    /// Adds an entry to the context.
+    pub fn entry(&mut self, name: Listed<u8>, note: Option<RawTerm>) -> Result<(), NoMemory>
+        ensures { OnOk result (plain_rule_head self.new
+            ≡ with_entry (plain_rule_head self.old) name (maybe_written note)) }
+    {
+        self.context.push(RawNote { name, note })
+    }
+
+    /// Adds a rule; the context of the next one is empty.
+    pub fn rule(&mut self, alloc: Global, left: RawPat, right: RawTerm) -> Result<(), NoMemory>
+        ensures { OnOk result (plain_rule_head self.new
+            ≡ with_rule (plain_rule_head self.old) (written_pattern left) (written right)) }
+    {
+        let context = replace(&mut self.context, Listed::new(alloc));
+        self.rules.push(RawRule {
+            context,
+            left,
+            right,
+        })
+    }
+}
 
 impl CommandSoFar {
     // The name of a rule.
@@ -22,8 +62,8 @@ impl CommandSoFar {
             ≡ advanced (plain.rule_name_due (plain_rule_head self.old.rules)) x }
     {
         match x {
-            Terminal::Name(_) => self.goes(0, Due::RuleBrace),
-            Terminal::Qualified(_, _) => self.goes(0, Due::RuleBrace),
+            Terminal::Name(_) => self.goes(Due::RuleBrace),
+            Terminal::Qualified(_, _) => self.goes(Due::RuleBrace),
             _ => Advance::Refuses,
         }
     }
@@ -34,7 +74,7 @@ impl CommandSoFar {
             ≡ advanced (plain.rule_brace_due (plain_rule_head self.old.rules)) x }
     {
         match x {
-            Terminal::Sign(Sign::CloseBrace) => self.goes(0, Due::Square),
+            Terminal::Sign(Sign::CloseBrace) => self.goes(Due::Square),
             _ => Advance::Refuses,
         }
     }
@@ -45,7 +85,7 @@ impl CommandSoFar {
             ≡ advanced (plain.square_due (plain_rule_head self.old.rules)) x }
     {
         match x {
-            Terminal::Sign(Sign::OpenSquare) => self.goes(0, Due::Context),
+            Terminal::Sign(Sign::OpenSquare) => self.goes(Due::Context),
             _ => Advance::Refuses,
         }
     }
@@ -57,7 +97,7 @@ impl CommandSoFar {
     {
         match x {
             Terminal::Sign(Sign::CloseSquare) => self.left_due(alloc),
-            Terminal::Name(name) => self.goes(0, Due::EntryNamed(name)),
+            Terminal::Name(name) => self.goes(Due::EntryNamed(name)),
             _ => Advance::Refuses,
         }
     }
@@ -68,7 +108,7 @@ impl CommandSoFar {
             ≡ advanced (plain.entry_due (plain_rule_head self.old.rules)) x }
     {
         match x {
-            Terminal::Name(name) => self.goes(0, Due::EntryNamed(name)),
+            Terminal::Name(name) => self.goes(Due::EntryNamed(name)),
             _ => Advance::Refuses,
         }
     }
@@ -76,36 +116,36 @@ impl CommandSoFar {
     // Behind a context.
     fn left_due(&mut self, alloc: Global) -> Advance
         ensures { plain_step result self.new
-            ≡ plain.goes 0 (plain.in_left (plain_rule_head self.old.rules) plain.left_due) }
+            ≡ goes (plain.in_left (plain_rule_head self.old.rules) left_due) }
     {
         self.left.begin(alloc);
-        self.goes(0, Due::Left)
+        self.goes(Due::Left)
     }
 
-    // A terminal behind an entry of a context.
-    fn behind_entry(&mut self, alloc: Global, x: Terminal) -> Advance
-        ensures { plain_step result self.new ≡ behind_entry (plain_rule_head self.old.rules) x }
+    // A sign behind an entry of a context.
+    fn behind_entry(&mut self, alloc: Global, sign: Sign) -> Advance
+        ensures { plain_step result self.new ≡ behind_entry (plain_rule_head self.old.rules) sign }
     {
-        match x {
-            Terminal::Sign(Sign::Comma) => self.goes(0, Due::Entry),
-            Terminal::Sign(Sign::CloseSquare) => self.left_due(alloc),
+        match sign {
+            Sign::Comma => self.goes(Due::Entry),
+            Sign::CloseSquare => self.left_due(alloc),
             _ => Advance::Refuses,
         }
     }
 
-    // A terminal behind a whole entry of a context.
+    // A sign behind a whole entry of a context.
     pub(crate) fn entry_read(
         &mut self,
         alloc: Global,
         name: Listed<u8>,
         note: Option<RawTerm>,
-        x: Terminal,
+        sign: Sign,
     ) -> Result<Advance, NoMemory>
         ensures { IfOk result (λ step. plain_step step self.new ≡ behind_entry
-            (with_entry (plain_rule_head self.old.rules) (entry name (maybe_written note))) x) }
+            (with_entry (plain_rule_head self.old.rules) name (maybe_written note)) sign) }
     {
         self.rules.entry(name, note)?;
-        Ok(self.behind_entry(alloc, x))
+        Ok(self.behind_entry(alloc, sign))
     }
 
     // A terminal behind the name of an entry.
@@ -119,111 +159,75 @@ impl CommandSoFar {
             ≡ named_next (plain_rule_head self.old.rules) name x) }
     {
         match x {
-            Terminal::Sign(Sign::Colon) => Ok(self.goes_into(alloc, 0, Purpose::Entry(name))),
-            x => self.entry_read(alloc, name, None, x),
+            Terminal::Sign(Sign::Colon) => Ok(self.goes_into(alloc, Purpose::Entry(name))),
+            Terminal::Sign(sign) => self.entry_read(alloc, name, None, sign),
+            _ => Ok(Advance::Refuses),
         }
     }
 
     // A terminal on a left side.
     pub(crate) fn left_next(&mut self, alloc: Global, x: Terminal) -> Result<Advance, NoMemory>
         ensures { IfOk result (λ step. plain_step step self.new
-            ≡ left_next (plain_rule_head self.old.rules) (plain_left self.old.left) x) }
+            ≡ in_left_next (plain_rule_head self.old.rules) (plain_left self.old.left) x) }
     {
         match x {
-            Terminal::Sign(Sign::LongArrow) => Ok(self.right_due(alloc)),
-            Terminal::Sign(Sign::OpenBrace) => self.guard_due(alloc),
-            x => self.left_more(alloc, x),
+            Terminal::Sign(Sign::OpenBrace) => Ok(self.goes_into(alloc, Purpose::Guard)),
+            x => match self.left.next(alloc, x)? {
+                LeftStep::Goes => Ok(self.goes(Due::Left)),
+                LeftStep::Ends(left) => Ok(self.goes_into(alloc, Purpose::Right(left))),
+                LeftStep::Refuses => Ok(Advance::Refuses),
+            },
         }
     }
 
-    // One terminal more of a left side.
-    fn left_more(&mut self, alloc: Global, x: Terminal) -> Result<Advance, NoMemory>
-        ensures { IfOk result (λ step. plain_step step self.new
-            ≡ left_goes (plain_rule_head self.old.rules)
-            (pattern_argument (plain_left self.old.left) x)
-            (pattern_next (plain_left self.old.left) x)) }
-    {
-        let argument = self.left.argument(&x);
-        if self.left.next(alloc, x)? {
-            let made = self.left.depth().max(argument);
-            Ok(self.goes(made, Due::Left))
-        } else {
-            Ok(Advance::Refuses)
-        }
-    }
-
-    // Behind `-->`.
-    fn right_due(&mut self, alloc: Global) -> Advance
-        ensures { plain_step result self.new
-            ≡ right_due (plain_rule_head self.old.rules)
-            (plain.pattern_done (plain_left self.old.left)) }
-    {
-        match self.left.done() {
-            Some(left) => self.goes_into(alloc, 0, Purpose::Right(left)),
-            None => Advance::Refuses,
-        }
-    }
-
-    // Behind the brace that opens a guard.
-    fn guard_due(&mut self, alloc: Global) -> Result<Advance, NoMemory>
-        ensures { IfOk result (λ step. plain_step step self.new
-            ≡ guard_due (plain_rule_head self.old.rules) (plain_left self.old.left)) }
-    {
-        let level = next(self.left.depth())?;
-        self.term.begin(alloc, level);
-        let made = level.max(self.left.atoms());
-        Ok(self.goes(made, Due::Term(Purpose::Guard)))
-    }
-
-    // A terminal behind the term of a guard.
+    // A sign behind the term of a guard.
     pub(crate) fn guard_read(
         &mut self,
         alloc: Global,
         term: RawTerm,
-        x: Terminal,
+        sign: Sign,
     ) -> Result<Advance, NoMemory>
         ensures { IfOk result (λ step. plain_step step self.new ≡ behind_term
             (plain.as_guard (plain_rule_head self.old.rules) (plain_left self.old.left))
-            (written term) x) }
+            (written term) sign) }
     {
-        match x {
-            Terminal::Sign(Sign::CloseBrace) => {
-                let level = self.left.depth();
+        match sign {
+            Sign::CloseBrace => {
                 self.left.atom(alloc, RawPat::Guard(term))?;
-                Ok(self.goes(level, Due::Left))
+                Ok(self.goes(Due::Left))
             }
             _ => Ok(Advance::Refuses),
         }
     }
 
-    // A terminal behind a rule.
-    fn behind_rule(&mut self, alloc: Global, x: Terminal) -> Result<Advance, NoMemory>
+    // A sign behind a rule.
+    fn behind_rule(&mut self, alloc: Global, sign: Sign) -> Result<Advance, NoMemory>
         ensures { IfOk result (λ step. plain_step step self.new
-            ≡ behind_rule (plain_rule_head self.old.rules) x) }
+            ≡ behind_rule (plain_rule_head self.old.rules) sign) }
     {
-        match x {
-            Terminal::Sign(Sign::Dot) => {
+        match sign {
+            Sign::Dot => {
                 let RuleHead { rules, context: _ } = replace(&mut self.rules, RuleHead::new(alloc));
                 self.ends(alloc, RawForm::Rules(rules))
             }
-            Terminal::Sign(Sign::OpenSquare) => Ok(self.goes(0, Due::Context)),
-            Terminal::Sign(Sign::OpenBrace) => Ok(self.goes(0, Due::RuleName)),
+            Sign::OpenSquare => Ok(self.goes(Due::Context)),
+            Sign::OpenBrace => Ok(self.goes(Due::RuleName)),
             _ => Ok(Advance::Refuses),
         }
     }
 
-    // A terminal behind a right side.
+    // A sign behind a right side.
     pub(crate) fn rule_read(
         &mut self,
         alloc: Global,
         left: RawPat,
         right: RawTerm,
-        x: Terminal,
+        sign: Sign,
     ) -> Result<Advance, NoMemory>
         ensures { IfOk result (λ step. plain_step step self.new ≡ behind_rule
-            (with_rule (plain_rule_head self.old.rules) (written_pattern left) (written right)) x) }
+            (with_rule (plain_rule_head self.old.rules) (written_pattern left) (written right)) sign) }
     {
         self.rules.rule(alloc, left, right)?;
-        self.behind_rule(alloc, x)
+        self.behind_rule(alloc, sign)
     }
 }

@@ -1,5 +1,6 @@
 -- For proofs: what has been made of the terminals of a term or of a left side so far. `Grammar` has its meaning.
-use Rattle.std.specs.Prelude.{ℕ, ◌+◌, Bool, true, false, List, Option, Some, None}
+use Rattle.std.specs.Prelude.{ℕ, List, [], ◌∷◌, Option, Some, None}
+use Rattle.dk_lexer.specs.declared.token.Sign.{Sign}
 use Rattle.dk_lexer.specs.declared.token.Sign.TheVariants as sign
 use Rattle.dk_terms.specs.declared.terminal.Terminal.{Terminal}
 use Rattle.dk_terms.specs.declared.terminal.Terminal.TheVariants as terminal
@@ -10,299 +11,202 @@ pub data Role : Type 0 where
   at_front : Role
   domain : Option (List ℕ) → Role
 
--- what has been read of an application and what stands before it: nothing; a binder or else a first atom; some atoms;
--- or a binder and its domain in brackets, behind which an arrow is due
+-- what has been read of an application and what stands before it: nothing or some atoms; a name or a wildcard at the front of a
+-- term, which is a binder or else the first atom; or a binder and its domain in brackets, behind which an arrow is due
 pub data Application : Type 0 where
-  due : Role → Application
+  reading : Role → Option Written → Application
   bindable : Option (List ℕ) → Application
-  applied : Role → Written → ℕ → Application
   bracketed : Option (List ℕ) → Written → Application
 
--- what waits for a term: a bracket, `A ->`, `x : A ->`, `x =>` or `x : A =>`
+-- what waits for a term: a bracket behind what stands before it, or what makes a longer term of it
 pub data Frame : Type 0 where
-  bracket_frame : Application → Frame
-  arrow_frame : Written → Frame
-  product_frame : Option (List ℕ) → Written → Frame
-  bare_frame : Option (List ℕ) → Frame
-  annotated_frame : Option (List ℕ) → Written → Frame
+  bracket_frame : Role → Option Written → Frame
+  wrapping : (Written → Written) → Frame
 
--- the innermost first, each with the level from it on; a term begins on some level
-pub data Frames : Type 0 where
-  bottom : ℕ → Frames
-  on : ℕ → Frame → Frames → Frames
-
--- a term that has begun
+-- a term that has begun; the innermost frame first
 pub record TermSoFar : Type 0 where
-  pub frames : Frames
+  pub frames : List Frame
   pub application : Application
 
--- a term that begins on this level
-abbrev pub term_due : ℕ → TermSoFar
-term_due level = record { frames = bottom level; application = due at_front }
+-- a term is due
+abbrev pub term_due : TermSoFar
+term_due = record { frames = []; application = reading at_front None }
 
-abbrev pub depth : Frames → ℕ
-depth (bottom level) = level
-depth (on d f fs) = d
-
-abbrev pub pushed : Frame → Frames → Frames
-pushed f fs = on (depth fs + 1) f fs
+-- what a terminal makes of it: a term that goes on; a whole term, behind which this sign stands; or nothing
+pub data TermStep : Type 0 where
+  term_goes : TermSoFar → TermStep
+  term_ends : Written → Sign → TermStep
+  term_refuses : TermStep
 
 -- a binder read as a term
 abbrev pub binder_term : Option (List ℕ) → Written
 binder_term None = written_wild
 binder_term (Some n) = written_name n
 
-abbrev pub atoms : Application → ℕ
-atoms (due role) = 0
-atoms (bindable v) = 1
-atoms (applied role a n) = n
-atoms (bracketed v a) = 1
+-- an atom behind what has been read of its application
+abbrev pub applied_to : Option Written → Written → Written
+applied_to None a = a
+applied_to (Some f) a = written_apply f a
+
+abbrev pub within : List Frame → Application → TermStep
+within fs application = term_goes (record { frames = fs; application = application })
+
+abbrev pub framed : Frame → List Frame → TermStep
+framed f fs = within (f ∷ fs) (reading at_front None)
 
 -- one atom more
-abbrev pub application_more : Application → Written → Option Application
-application_more (due role) a = Some (applied role a 1)
-application_more (bindable v) a = Some (applied at_front (written_apply (binder_term v) a) 2)
-application_more (applied role f n) a = Some (applied role (written_apply f a) (n + 1))
-application_more (bracketed v b) a = None
+abbrev pub atom_next : List Frame → Application → Written → TermStep
+atom_next fs (reading role o) a = within fs (reading role (Some (applied_to o a)))
+atom_next fs (bindable v) a = within fs (reading at_front (Some (written_apply (binder_term v) a)))
+atom_next fs (bracketed v b) a = term_refuses
 
 -- one name or wildcard more
-abbrev pub application_binder : Application → Option (List ℕ) → Option Application
-application_binder (due at_front) v = Some (bindable v)
-application_binder application v = application_more application (binder_term v)
+abbrev pub binder_next : List Frame → Application → Option (List ℕ) → TermStep
+binder_next fs (reading at_front None) v = within fs (bindable v)
+binder_next fs application v = atom_next fs application (binder_term v)
 
--- may an atom stand here
-abbrev pub takes_atom : Application → Bool
-takes_atom (bracketed v a) = false
-takes_atom application = true
+abbrev pub open_next : List Frame → Application → TermStep
+open_next fs (reading role o) = framed (bracket_frame role o) fs
+open_next fs (bindable v) = framed (bracket_frame at_front (Some (binder_term v))) fs
+open_next fs (bracketed v a) = term_refuses
 
--- the application, where a term may end behind it
-abbrev pub application_term : Application → Option Written
-application_term (bindable v) = Some (binder_term v)
-application_term (applied at_front a n) = Some a
-application_term application = None
+abbrev pub colon_next : List Frame → Application → TermStep
+colon_next fs (bindable v) = within fs (reading (domain v) None)
+colon_next fs application = term_refuses
 
-abbrev pub in_frames : Frames → Option Application → Option TermSoFar
-in_frames fs None = None
-in_frames fs (Some application) = Some (record { frames = fs; application = application })
+abbrev pub arrow_next : List Frame → Application → TermStep
+arrow_next fs (bindable v) = framed (wrapping (λ b. written_arrow (binder_term v) b)) fs
+arrow_next fs (reading at_front (Some a)) = framed (wrapping (λ b. written_arrow a b)) fs
+arrow_next fs (reading (domain v) (Some a)) = framed (wrapping (λ b. written_product v a b)) fs
+arrow_next fs (bracketed v a) = framed (wrapping (λ b. written_product v a b)) fs
+arrow_next fs application = term_refuses
 
--- a term in its frame: a longer term, or the last one in a bracket that stands behind this application
-pub data Around : Type 0 where
-  around_term : Written → Around
-  around_bracket : Application → Written → Around
+abbrev pub double_arrow_next : List Frame → Application → TermStep
+double_arrow_next fs (bindable v) = framed (wrapping (λ b. written_bare v b)) fs
+double_arrow_next fs (reading (domain v) (Some a)) = framed (wrapping (λ b. written_annotated v a b)) fs
+double_arrow_next fs application = term_refuses
 
-abbrev pub around : Frame → Written → Around
-around (bracket_frame application) a = around_bracket application a
-around (arrow_frame b) a = around_term (written_arrow b a)
-around (product_frame v b) a = around_term (written_product v b a)
-around (bare_frame v) a = around_term (written_bare v a)
-around (annotated_frame v b) a = around_term (written_annotated v b a)
+-- the bracket that a term stands in, and the sign behind the term
+abbrev pub bracket_ended : List Frame → Role → Option Written → Written → Sign → TermStep
+bracket_ended fs role o a sign.CloseBracket = within fs (reading role (Some (applied_to o a)))
+bracket_ended fs role o a s = term_refuses
 
-abbrev pub unwound_by : Around → (Written → Option TermSoFar) → Frames → Option TermSoFar
-unwound_by (around_term t) more fs = more t
-unwound_by (around_bracket application a) more fs = in_frames fs (application_more application a)
-
--- the bracket closes behind this term
-abbrev pub unwound : Frames → Written → Option TermSoFar
-unwound (bottom level) a = None
-unwound (on d f fs) a = unwound_by (around f a) (λ t. unwound fs t) fs
-
-abbrev pub unwound_all_by : Around → (Written → Option Written) → Option Written
-unwound_all_by (around_term t) more = more t
-unwound_all_by (around_bracket application a) more = None
-
--- the whole term ends behind this one
-abbrev pub unwound_all : Frames → Written → Option Written
-unwound_all (bottom level) a = Some a
-unwound_all (on d f fs) a = unwound_all_by (around f a) (λ t. unwound_all fs t)
-
-abbrev pub next_open : Bool → Frames → Application → Option TermSoFar
-next_open true fs application = Some (record { frames = pushed (bracket_frame application) fs; application = due at_front })
-next_open false fs application = None
-
-abbrev pub next_close_term : Frames → Option Written → Option TermSoFar
-next_close_term fs None = None
-next_close_term fs (Some a) = unwound fs a
+-- a term in its frames, and the sign behind it
+abbrev pub ended : List Frame → Written → Sign → TermStep
+ended [] a s = term_ends a s
+ended (wrapping g ∷ fs) a s = ended fs (g a) s
+ended (bracket_frame role o ∷ fs) a s = bracket_ended fs role o a s
 
 -- `(x : A)`, which stands at the front of a term
-abbrev pub next_close_domain : Frames → Option (List ℕ) → Written → Option TermSoFar
-next_close_domain (on d (bracket_frame (due at_front)) fs) v a = Some (record { frames = fs; application = bracketed v a })
-next_close_domain fs v a = None
+abbrev pub domain_closed : List Frame → Option (List ℕ) → Written → Sign → TermStep
+domain_closed (bracket_frame at_front None ∷ fs) v a sign.CloseBracket = within fs (bracketed v a)
+domain_closed fs v a s = term_refuses
 
-abbrev pub next_close : Frames → Application → Option TermSoFar
-next_close fs (applied (domain v) a n) = next_close_domain fs v a
-next_close fs application = next_close_term fs (application_term application)
-
-abbrev pub next_colon : Frames → Application → Option TermSoFar
-next_colon fs (bindable v) = Some (record { frames = fs; application = due (domain v) })
-next_colon fs application = None
-
-abbrev pub framed : Frame → Frames → Option TermSoFar
-framed f fs = Some (record { frames = pushed f fs; application = due at_front })
-
-abbrev pub next_arrow : Frames → Application → Option TermSoFar
-next_arrow fs (bindable v) = framed (arrow_frame (binder_term v)) fs
-next_arrow fs (applied at_front a n) = framed (arrow_frame a) fs
-next_arrow fs (applied (domain v) a n) = framed (product_frame v a) fs
-next_arrow fs (bracketed v a) = framed (product_frame v a) fs
-next_arrow fs (due role) = None
-
-abbrev pub next_double_arrow : Frames → Application → Option TermSoFar
-next_double_arrow fs (bindable v) = framed (bare_frame v) fs
-next_double_arrow fs (applied (domain v) a n) = framed (annotated_frame v a) fs
-next_double_arrow fs application = None
+-- what ends an application
+abbrev pub end_next : List Frame → Application → Sign → TermStep
+end_next fs (bindable v) s = ended fs (binder_term v) s
+end_next fs (reading at_front (Some a)) s = ended fs a s
+end_next fs (reading (domain v) (Some a)) s = domain_closed fs v a s
+end_next fs application s = term_refuses
 
 -- the term with one terminal more
-abbrev pub term_next : TermSoFar → Terminal → Option TermSoFar
-term_next p (terminal.Name n) = in_frames p.frames (application_binder p.application (Some n))
-term_next p terminal.Wildcard = in_frames p.frames (application_binder p.application None)
-term_next p (terminal.Qualified m n) = in_frames p.frames (application_more p.application (written_qualified m n))
-term_next p terminal.Star = in_frames p.frames (application_more p.application written_star)
-term_next p (terminal.Sign sign.OpenBracket) = next_open (takes_atom p.application) p.frames p.application
-term_next p (terminal.Sign sign.CloseBracket) = next_close p.frames p.application
-term_next p (terminal.Sign sign.Colon) = next_colon p.frames p.application
-term_next p (terminal.Sign sign.Arrow) = next_arrow p.frames p.application
-term_next p (terminal.Sign sign.DoubleArrow) = next_double_arrow p.frames p.application
-term_next p x = None
+abbrev pub term_next : TermSoFar → Terminal → TermStep
+term_next p (terminal.Name n) = binder_next p.frames p.application (Some n)
+term_next p terminal.Wildcard = binder_next p.frames p.application None
+term_next p (terminal.Qualified m n) = atom_next p.frames p.application (written_qualified m n)
+term_next p terminal.Star = atom_next p.frames p.application written_star
+term_next p (terminal.Sign sign.OpenBracket) = open_next p.frames p.application
+term_next p (terminal.Sign sign.Colon) = colon_next p.frames p.application
+term_next p (terminal.Sign sign.Arrow) = arrow_next p.frames p.application
+term_next p (terminal.Sign sign.DoubleArrow) = double_arrow_next p.frames p.application
+term_next p (terminal.Sign s) = end_next p.frames p.application s
+term_next p x = term_refuses
 
--- the number of the argument that a terminal begins
-abbrev pub term_argument : TermSoFar → Terminal → ℕ
-term_argument p (terminal.Name n) = atoms p.application
-term_argument p terminal.Wildcard = atoms p.application
-term_argument p (terminal.Qualified m n) = atoms p.application
-term_argument p terminal.Star = atoms p.application
-term_argument p (terminal.Sign sign.OpenBracket) = atoms p.application
-term_argument p x = 0
-
-abbrev pub application_ended : Frames → Option Written → Option Written
-application_ended fs None = None
-application_ended fs (Some a) = unwound_all fs a
-
--- the term, where it may end here
-abbrev pub term_done : TermSoFar → Option Written
-term_done p = application_ended p.frames (application_term p.application)
-
--- is a bracket open
-abbrev pub in_bracket : Frames → Bool
-in_bracket (bottom level) = false
-in_bracket (on d (bracket_frame application) fs) = true
-in_bracket (on d f fs) = in_bracket fs
-
--- is this a terminal of a term; a bracket that closes is one where one is open
-abbrev pub takes : TermSoFar → Terminal → Bool
-takes p (terminal.Name n) = true
-takes p terminal.Wildcard = true
-takes p (terminal.Qualified m n) = true
-takes p terminal.Star = true
-takes p (terminal.Sign sign.OpenBracket) = true
-takes p (terminal.Sign sign.CloseBracket) = in_bracket p.frames
-takes p (terminal.Sign sign.Colon) = true
-takes p (terminal.Sign sign.Arrow) = true
-takes p (terminal.Sign sign.DoubleArrow) = true
-takes p x = false
-
--- what has been read of an application of patterns: nothing; a binder or else a first atom; or some atoms
+-- what has been read of an application of patterns: nothing or some atoms; or a name or a wildcard, a binder or else the first atom
 pub data LeftApplication : Type 0 where
-  pattern_due : LeftApplication
+  pattern_reading : Option WrittenPattern → LeftApplication
   pattern_bindable : Option (List ℕ) → LeftApplication
-  pattern_applied : WrittenPattern → ℕ → LeftApplication
 
--- the binders of a pattern in brackets, the innermost first
-pub data Binders : Type 0 where
-  no_binders : Binders
-  binder_on : Option (List ℕ) → Binders → Binders
+-- what waits for a pattern, as for a term
+pub data PatternFrame : Type 0 where
+  pattern_bracket : Option WrittenPattern → PatternFrame
+  pattern_wrapping : (WrittenPattern → WrittenPattern) → PatternFrame
 
--- the brackets that are open, the innermost first, each with the level in it, what stood before it and its binders
-pub data PatternFrames : Type 0 where
-  no_bracket : PatternFrames
-  bracket_on : ℕ → LeftApplication → Binders → PatternFrames → PatternFrames
-
--- a left side that has begun
+-- a left side that has begun; the innermost frame first, and the outermost one is a bracket
 pub record LeftSoFar : Type 0 where
-  pub frames : PatternFrames
+  pub frames : List PatternFrame
   pub application : LeftApplication
 
 -- a left side is due
 abbrev pub left_due : LeftSoFar
-left_due = record { frames = no_bracket; application = pattern_due }
+left_due = record { frames = []; application = pattern_reading None }
 
-abbrev pub pattern_depth : PatternFrames → ℕ
-pattern_depth no_bracket = 0
-pattern_depth (bracket_on d application vs fs) = d
-
-abbrev pub pattern_atoms : LeftApplication → ℕ
-pattern_atoms pattern_due = 0
-pattern_atoms (pattern_bindable v) = 1
-pattern_atoms (pattern_applied p n) = n
+-- what a terminal makes of it: one that goes on, a whole left side, or nothing
+pub data LeftStep : Type 0 where
+  left_goes : LeftSoFar → LeftStep
+  left_ends : WrittenPattern → LeftStep
+  left_refuses : LeftStep
 
 -- a binder read as a pattern
 abbrev pub binder_pattern : Option (List ℕ) → WrittenPattern
 binder_pattern None = pattern_wild
 binder_pattern (Some n) = pattern_name n
 
+-- what has been read of an application, where it may end
+abbrev pub left_read : LeftApplication → Option WrittenPattern
+left_read (pattern_reading o) = o
+left_read (pattern_bindable v) = Some (binder_pattern v)
+
+-- an atom behind what has been read of its application
+abbrev pub pattern_applied_to : Option WrittenPattern → WrittenPattern → WrittenPattern
+pattern_applied_to None p = p
+pattern_applied_to (Some f) p = pattern_apply f p
+
 -- one atom more
-abbrev pub pattern_more : LeftApplication → WrittenPattern → LeftApplication
-pattern_more pattern_due p = pattern_applied p 1
-pattern_more (pattern_bindable v) p = pattern_applied (pattern_apply (binder_pattern v) p) 2
-pattern_more (pattern_applied f n) p = pattern_applied (pattern_apply f p) (n + 1)
+abbrev pub with_atom : LeftSoFar → WrittenPattern → LeftSoFar
+with_atom part p = record { frames = part.frames; application = pattern_reading (Some (pattern_applied_to (left_read part.application) p)) }
 
 -- one name or wildcard more
-abbrev pub pattern_binder : LeftApplication → Option (List ℕ) → LeftApplication
-pattern_binder pattern_due v = pattern_bindable v
-pattern_binder application v = pattern_more application (binder_pattern v)
+abbrev pub application_bound : LeftApplication → Option (List ℕ) → LeftApplication
+application_bound (pattern_reading None) v = pattern_bindable v
+application_bound application v = pattern_reading (Some (pattern_applied_to (left_read application) (binder_pattern v)))
 
--- the application, where it may end
-abbrev pub left_pattern : LeftApplication → Option WrittenPattern
-left_pattern pattern_due = None
-left_pattern (pattern_bindable v) = Some (binder_pattern v)
-left_pattern (pattern_applied p n) = Some p
+abbrev pub left_within : List PatternFrame → LeftApplication → LeftStep
+left_within fs application = left_goes (record { frames = fs; application = application })
 
--- a pattern under these binders
-abbrev pub under_binders : Binders → WrittenPattern → WrittenPattern
-under_binders no_binders p = p
-under_binders (binder_on v vs) p = under_binders vs (pattern_bare v p)
+-- the bracket that a pattern stands in, and the sign behind the pattern
+abbrev pub pattern_bracket_ended : List PatternFrame → Option WrittenPattern → WrittenPattern → Sign → LeftStep
+pattern_bracket_ended fs o p sign.CloseBracket = left_within fs (pattern_reading (Some (pattern_applied_to o p)))
+pattern_bracket_ended fs o p s = left_refuses
 
-abbrev pub with_atom : LeftSoFar → WrittenPattern → LeftSoFar
-with_atom part p = record { frames = part.frames; application = pattern_more part.application p }
+-- a whole left side, and the sign behind it
+abbrev pub left_whole : WrittenPattern → Sign → LeftStep
+left_whole p sign.LongArrow = left_ends p
+left_whole p s = left_refuses
 
-abbrev pub with_binder : LeftSoFar → Option (List ℕ) → LeftSoFar
-with_binder part v = record { frames = part.frames; application = pattern_binder part.application v }
+-- a pattern in its frames, and the sign behind it
+abbrev pub left_ended : List PatternFrame → WrittenPattern → Sign → LeftStep
+left_ended [] p s = left_whole p s
+left_ended (pattern_wrapping g ∷ fs) p s = left_ended fs (g p) s
+left_ended (pattern_bracket o ∷ fs) p s = pattern_bracket_ended fs o p s
 
--- an open bracket more
-abbrev pub pattern_opened : LeftSoFar → LeftSoFar
-pattern_opened part = record { frames = bracket_on (pattern_depth part.frames + 1) part.application no_binders part.frames; application = pattern_due }
-
--- the innermost bracket closes
-abbrev pub pattern_closed : PatternFrames → Option WrittenPattern → Option LeftSoFar
-pattern_closed (bracket_on d application vs fs) (Some p) = Some (record { frames = fs; application = pattern_more application (under_binders vs p) })
-pattern_closed fs p = None
+-- what ends an application
+abbrev pub end_left : List PatternFrame → Option WrittenPattern → Sign → LeftStep
+end_left fs None s = left_refuses
+end_left fs (Some p) s = left_ended fs p s
 
 -- `x =>`, which stands in brackets
-abbrev pub pattern_bound : PatternFrames → LeftApplication → Option LeftSoFar
-pattern_bound (bracket_on d application vs fs) (pattern_bindable v) = Some (record { frames = bracket_on (d + 1) application (binder_on v vs) fs; application = pattern_due })
-pattern_bound fs application = None
+abbrev pub left_bound : List PatternFrame → LeftApplication → LeftStep
+left_bound (f ∷ fs) (pattern_bindable v) = left_within (pattern_wrapping (λ p. pattern_bare v p) ∷ f ∷ fs) (pattern_reading None)
+left_bound fs application = left_refuses
 
 -- the left side with one terminal more that is not in a guard
-abbrev pub pattern_next : LeftSoFar → Terminal → Option LeftSoFar
-pattern_next part (terminal.Name n) = Some (with_binder part (Some n))
-pattern_next part terminal.Wildcard = Some (with_binder part None)
-pattern_next part (terminal.Qualified m n) = Some (with_atom part (pattern_qualified m n))
-pattern_next part (terminal.Sign sign.OpenBracket) = Some (pattern_opened part)
-pattern_next part (terminal.Sign sign.CloseBracket) = pattern_closed part.frames (left_pattern part.application)
-pattern_next part (terminal.Sign sign.DoubleArrow) = pattern_bound part.frames part.application
-pattern_next part x = None
-
--- the number of the argument that a terminal begins
-abbrev pub pattern_argument : LeftSoFar → Terminal → ℕ
-pattern_argument part (terminal.Name n) = pattern_atoms part.application
-pattern_argument part terminal.Wildcard = pattern_atoms part.application
-pattern_argument part (terminal.Qualified m n) = pattern_atoms part.application
-pattern_argument part (terminal.Sign sign.OpenBracket) = pattern_atoms part.application
-pattern_argument part x = 0
-
-abbrev pub done_outside : PatternFrames → Option WrittenPattern → Option WrittenPattern
-done_outside no_bracket p = p
-done_outside fs p = None
-
--- the left side, where it may end here
-abbrev pub pattern_done : LeftSoFar → Option WrittenPattern
-pattern_done part = done_outside part.frames (left_pattern part.application)
+abbrev pub left_next : LeftSoFar → Terminal → LeftStep
+left_next part (terminal.Name n) = left_within part.frames (application_bound part.application (Some n))
+left_next part terminal.Wildcard = left_within part.frames (application_bound part.application None)
+left_next part (terminal.Qualified m n) = left_goes (with_atom part (pattern_qualified m n))
+left_next part (terminal.Sign sign.OpenBracket) = left_within (pattern_bracket (left_read part.application) ∷ part.frames) (pattern_reading None)
+left_next part (terminal.Sign sign.CloseBracket) = end_left part.frames (left_read part.application) sign.CloseBracket
+left_next part (terminal.Sign sign.DoubleArrow) = left_bound part.frames part.application
+left_next part (terminal.Sign sign.LongArrow) = end_left part.frames (left_read part.application) sign.LongArrow
+left_next part x = left_refuses

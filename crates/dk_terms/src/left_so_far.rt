@@ -1,29 +1,34 @@
 //! Left sides of rules, one terminal at a time; their guards are read as terms.
-ghost use Rattle.std.specs.Prelude.{◌≡◌, IfOk, List, Option, OnOk, ℕ};
-ghost use Rattle.dk_terms.specs.Parsing.{left_due, pattern_argument, pattern_atoms, pattern_bound, pattern_closed, pattern_depth, pattern_done, pattern_next, pattern_opened, left_pattern, under_binders, with_atom, with_binder};
+ghost use Rattle.std.specs.Prelude.{◌≡◌, ◌∷◌, IfOk, OnOk, Some, None};
+ghost use Rattle.dk_terms.specs.Parsing.{application_bound, binder_pattern, end_left, left_bound, left_due, left_ended, left_next, left_read, pattern_applied_to, pattern_bracket_ended, with_atom};
 ghost use Rattle.dk_terms.specs.Parsing as plain;
-ghost use Rattle.dk_terms.specs.Views.{changed, maybe_pattern, plain_binders, plain_left};
+ghost use Rattle.dk_terms.specs.Views.{maybe_pattern, plain_left, plain_left_application, plain_left_step};
 ghost use Rattle.dk_terms.specs.Written.{pattern_bare};
 ghost use Rattle.dk_terms.specs.RawViews.{written_pattern};
 
 use crate::RawPat;
-use crate::frames::next;
-use crate::left_application::LeftApplication;
 use crate::terminal::Terminal;
 use dk_lexer::Sign;
 use dk_model::{Listed, NoMemory};
 use std::alloc::Global;
 use std::mem::replace;
 
-/// An open bracket of a left side.
+/// What has been read of an application of patterns.
 #[derive(Drop)]
-pub struct PatternFrame {
-    // The level in it.
-    level: u64,
-    // What stood before it.
-    before: LeftApplication,
-    // The outermost first.
-    binders: Listed<Option<Listed<u8>>>,
+pub enum LeftApplication {
+    /// Nothing, or some atoms.
+    Reading(Option<RawPat>),
+    /// A name or a wildcard: a binder or the first atom.
+    Bindable(Option<Listed<u8>>),
+}
+
+/// What waits for a pattern.
+#[derive(Drop)]
+pub enum PatternFrame {
+    /// An open bracket, and what stood before it.
+    Bracket(Option<RawPat>),
+    /// `x =>`.
+    Bare(Option<Listed<u8>>),
 }
 
 /// A left side that has begun.
@@ -34,25 +39,45 @@ pub struct LeftSoFar {
     application: LeftApplication,
 }
 
+/// What a terminal came to.
+#[derive(Drop)]
+pub enum LeftStep {
+    /// The left side goes on.
+    Goes,
+    /// This is the whole left side.
+    Ends(RawPat),
+    /// No left side goes on so.
+    Refuses,
+}
+
+// A binder read as a pattern.
+fn binder_pattern(binder: Option<Listed<u8>>) -> RawPat
+    ensures { written_pattern result ≡ binder_pattern binder }
+{
+    match binder {
+        Some(name) => RawPat::Name(name),
+        None => RawPat::Wild,
+    }
+}
+
+// An atom behind what has been read of its application.
+fn applied_to(alloc: Global, f: Option<RawPat>, p: RawPat) -> Result<RawPat, NoMemory>
+    ensures { IfOk result (λ q. written_pattern q
+        ≡ pattern_applied_to (maybe_pattern f) (written_pattern p)) }
+{
+    match f {
+        Some(f) => {
+            let f = Box::new(alloc, f)?;
+            Ok(RawPat::App(f, Box::new(alloc, p)?))
+        }
+        None => Ok(p),
+    }
+}
+
 fn bare(alloc: Global, binder: Option<Listed<u8>>, p: RawPat) -> Result<RawPat, NoMemory>
     ensures { IfOk result (λ q. written_pattern q ≡ pattern_bare binder (written_pattern p)) }
 {
-    let p = Box::new(alloc, p)?;
-    Ok(RawPat::Abs(binder, p))
-}
-
-// A pattern under these binders.
-#[tactic(auto, using(crate::proofs::Pushed::under_more))]
-fn under(alloc: Global, binders: Listed<Option<Listed<u8>>>, p: RawPat) -> Result<RawPat, NoMemory>
-    ensures { IfOk result (λ q. written_pattern q
-        ≡ under_binders (plain_binders binders) (written_pattern p)) }
-{
-    let mut binders = binders;
-    let mut pattern = p;
-    while let Some(binder) = binders.pop() {
-        pattern = bare(alloc, binder, pattern)?;
-    }
-    Ok(pattern)
+    Ok(RawPat::Abs(binder, Box::new(alloc, p)?))
 }
 
 impl LeftSoFar {
@@ -62,7 +87,7 @@ impl LeftSoFar {
     {
         LeftSoFar {
             frames: Listed::new(alloc),
-            application: LeftApplication::Due,
+            application: LeftApplication::Reading(None),
         }
     }
 
@@ -73,54 +98,25 @@ impl LeftSoFar {
         let mut frames = replace(&mut self.frames, Listed::new(alloc)).into_vec();
         frames.clear();
         self.frames = Listed::from_vec(frames);
-        self.application = LeftApplication::Due;
+        self.application = LeftApplication::Reading(None);
     }
 
-    /// The level within the brackets.
-    pub fn depth(&self) -> u64
-        ensures { result ≡ pattern_depth (plain_left self.now).frames }
-    {
-        match self.frames.as_slice().split_last() {
-            Some((frame, _)) => frame.level,
-            None => 0,
-        }
-    }
-
-    /// The atoms of the innermost application.
-    pub fn atoms(&self) -> u64
-        ensures { result ≡ pattern_atoms (plain_left self.now).application }
-    {
-        self.application.atoms()
-    }
-
-    /// The number of the argument that a terminal begins, from 1; 0 where it begins none.
-    pub fn argument(&self, x: &Terminal) -> u64
-        ensures { result ≡ pattern_argument (plain_left self.now) x.now }
-    {
-        match x {
-            Terminal::Name(_) => self.application.atoms(),
-            Terminal::Wildcard => self.application.atoms(),
-            Terminal::Qualified(_, _) => self.application.atoms(),
-            Terminal::Sign(Sign::OpenBracket) => self.application.atoms(),
-            _ => 0,
-        }
-    }
-
-    /// Takes a terminal that is in no guard, and says whether the left side can go on so.
-    pub fn next(&mut self, alloc: Global, x: Terminal) -> Result<bool, NoMemory>
-        ensures { IfOk result (λ goes. changed goes (plain_left self.new)
-            ≡ pattern_next (plain_left self.old) x) }
+    /// Takes a terminal that is in no guard.
+    pub fn next(&mut self, alloc: Global, x: Terminal) -> Result<LeftStep, NoMemory>
+        ensures { IfOk result (λ step. plain_left_step step self.new
+            ≡ left_next (plain_left self.old) x) }
     {
         match x {
             Terminal::Name(n) => self.binder(alloc, Some(n))?,
             Terminal::Wildcard => self.binder(alloc, None)?,
             Terminal::Qualified(m, n) => self.atom(alloc, RawPat::Qualified(m, n))?,
-            Terminal::Sign(Sign::OpenBracket) => self.open(alloc)?,
-            Terminal::Sign(Sign::CloseBracket) => return self.close(alloc),
+            Terminal::Sign(Sign::OpenBracket) => self.open()?,
+            Terminal::Sign(Sign::CloseBracket) => return self.end(alloc, Sign::CloseBracket),
             Terminal::Sign(Sign::DoubleArrow) => return self.bind(),
-            _ => return Ok(false),
+            Terminal::Sign(Sign::LongArrow) => return self.end(alloc, Sign::LongArrow),
+            _ => return Ok(LeftStep::Refuses),
         }
-        Ok(true)
+        Ok(LeftStep::Goes)
     }
 
     /// Another atom.
@@ -128,97 +124,120 @@ impl LeftSoFar {
         ensures { OnOk result (plain_left self.new
             ≡ with_atom (plain_left self.old) (written_pattern p)) }
     {
-        self.application.more(alloc, p)
-    }
-
-    fn binder(&mut self, alloc: Global, binder: Option<Listed<u8>>) -> Result<(), NoMemory>
-        ensures { OnOk result (plain_left self.new ≡ with_binder (plain_left self.old) binder) }
-    {
-        self.application.binder(alloc, binder)
-    }
-
-    fn open(&mut self, alloc: Global) -> Result<(), NoMemory>
-        ensures { OnOk result (plain_left self.new ≡ pattern_opened (plain_left self.old)) }
-    {
-        let level = next(self.depth())?;
-        let before = replace(&mut self.application, LeftApplication::Due);
-        self.frames.push(PatternFrame {
-            level,
-            before,
-            binders: Listed::new(alloc),
-        })?;
+        let f = self.taken();
+        self.application = LeftApplication::Reading(Some(applied_to(alloc, f, p)?));
         Ok(())
     }
 
-    #[tactic(auto, using(crate::proofs::Pushed::closed_goes, crate::proofs::Pushed::closed_none))]
-    fn close(&mut self, alloc: Global) -> Result<bool, NoMemory>
-        ensures { IfOk result (λ goes. changed goes (plain_left self.new)
-            ≡ pattern_closed (plain_left self.old).frames
-            (left_pattern (plain_left self.old).application)) }
+    // What has been read of the application, taken out.
+    fn taken(&mut self) -> Option<RawPat>
+        ensures value { maybe_pattern result ≡ left_read (plain_left self.old).application }
+        ensures frames { self.new.frames ≡ self.old.frames }
+        ensures after { self.new.application ≡ LeftApplication.Reading None }
     {
-        let last = replace(&mut self.application, LeftApplication::Due).pattern();
-        match (self.frames.pop(), last) {
-            (Some(frame), Some(p)) => {
-                let PatternFrame {
-                    level: _,
-                    before,
-                    binders,
-                } = frame;
-                let p = under(alloc, binders, p)?;
-                self.application = before;
-                self.atom(alloc, p)?;
-                Ok(true)
+        match replace(&mut self.application, LeftApplication::Reading(None)) {
+            LeftApplication::Reading(f) => f,
+            LeftApplication::Bindable(binder) => Some(binder_pattern(binder)),
+        }
+    }
+
+    // A name or a wildcard.
+    fn binder(&mut self, alloc: Global, binder: Option<Listed<u8>>) -> Result<(), NoMemory>
+        ensures { OnOk result (plain_left self.new ≡ record {
+          frames = (plain_left self.old).frames;
+          application = application_bound (plain_left self.old).application binder;
+        }) }
+    {
+        match self.application {
+            LeftApplication::Reading(None) => {
+                self.application = LeftApplication::Bindable(binder);
+                Ok(())
             }
-            _ => Ok(false),
+            _ => self.atom(alloc, binder_pattern(binder)),
         }
     }
 
-    // A binder in brackets.
-    fn bind(&mut self) -> Result<bool, NoMemory>
-        ensures { IfOk result (λ goes. changed goes (plain_left self.new)
-            ≡ pattern_bound (plain_left self.old).frames (plain_left self.old).application) }
+    #[tactic(auto, using(crate::proofs::Stacked::pushed))]
+    fn open(&mut self) -> Result<(), NoMemory>
+        ensures { OnOk result (plain_left self.new ≡ record {
+          frames = plain.pattern_bracket (left_read (plain_left self.old).application)
+              ∷ (plain_left self.old).frames;
+          application = plain.pattern_reading None;
+        }) }
     {
-        match replace(&mut self.application, LeftApplication::Due) {
-            LeftApplication::Bindable(binder) => self.bind_in(binder),
-            LeftApplication::Due => Ok(false),
-            LeftApplication::Applied(_, _) => Ok(false),
+        let f = self.taken();
+        self.frames.push(PatternFrame::Bracket(f))?;
+        Ok(())
+    }
+
+    // A sign that ends an application.
+    fn end(&mut self, alloc: Global, sign: Sign) -> Result<LeftStep, NoMemory>
+        ensures { IfOk result (λ step. plain_left_step step self.new
+            ≡ end_left (plain_left self.old).frames
+            (left_read (plain_left self.old).application) sign) }
+    {
+        match self.taken() {
+            Some(p) => self.unwind(alloc, p, sign),
+            None => Ok(LeftStep::Refuses),
         }
     }
 
-    // This binder in the innermost bracket; a pattern is due behind it.
-    #[tactic(auto, using(crate::proofs::Pushed::bound_goes))]
-    fn bind_in(&mut self, binder: Option<Listed<u8>>) -> Result<bool, NoMemory>
-        ensures { IfOk result (λ goes. changed goes (plain_left self.new)
-            ≡ pattern_bound (plain_left self.old).frames (plain.pattern_bindable binder)) }
+    // The sign behind a pattern in its frames.
+    #[tactic(auto, using(crate::proofs::Stacked::left_wrap, crate::proofs::Stacked::left_bracket))]
+    fn unwind(&mut self, alloc: Global, p: RawPat, sign: Sign) -> Result<LeftStep, NoMemory>
+        ensures { IfOk result (λ step. plain_left_step step self.new
+            ≡ left_ended (plain_left self.old).frames (written_pattern p) sign) }
     {
-        self.application = LeftApplication::Due;
-        let Some(frame) = self.frames.pop() else {
-            return Ok(false);
-        };
-        let PatternFrame {
-            level,
-            before,
-            mut binders,
-        } = frame;
-        let level = next(level)?;
-        binders.push(binder)?;
-        self.frames.push(PatternFrame {
-            level,
-            before,
-            binders,
-        })?;
-        Ok(true)
+        let mut pattern = p;
+        while let Some(frame) = self.frames.pop() {
+            match frame {
+                PatternFrame::Bare(binder) => pattern = bare(alloc, binder, pattern)?,
+                PatternFrame::Bracket(f) => return self.close(alloc, f, pattern, sign),
+            }
+        }
+        match sign {
+            Sign::LongArrow => Ok(LeftStep::Ends(pattern)),
+            _ => Ok(LeftStep::Refuses),
+        }
     }
 
-    /// The left side, where it may end here.
-    #[tactic(auto, using(crate::proofs::Pushed::done_inside))]
-    pub fn done(&mut self) -> Option<RawPat>
-        ensures { maybe_pattern result ≡ pattern_done (plain_left self.old) }
+    // The bracket around a pattern, and the sign behind the pattern.
+    fn close(
+        &mut self,
+        alloc: Global,
+        f: Option<RawPat>,
+        p: RawPat,
+        sign: Sign,
+    ) -> Result<LeftStep, NoMemory>
+        ensures { IfOk result (λ step. plain_left_step step self.new
+            ≡ pattern_bracket_ended (plain_left self.old).frames (maybe_pattern f)
+            (written_pattern p) sign) }
     {
-        let last = replace(&mut self.application, LeftApplication::Due);
-        match self.frames.pop() {
-            None => last.pattern(),
-            Some(_) => None,
+        match sign {
+            Sign::CloseBracket => {
+                self.application = LeftApplication::Reading(Some(applied_to(alloc, f, p)?));
+                Ok(LeftStep::Goes)
+            }
+            _ => Ok(LeftStep::Refuses),
+        }
+    }
+
+    // A binder in brackets; a pattern is due behind it.
+    #[tactic(auto, using(crate::proofs::Stacked::bound_goes))]
+    fn bind(&mut self) -> Result<LeftStep, NoMemory>
+        ensures { IfOk result (λ step. plain_left_step step self.new
+            ≡ left_bound (plain_left self.old).frames (plain_left self.old).application) }
+    {
+        match replace(&mut self.application, LeftApplication::Reading(None)) {
+            LeftApplication::Bindable(binder) => {
+                let Some(frame) = self.frames.pop() else {
+                    return Ok(LeftStep::Refuses);
+                };
+                self.frames.push(frame)?;
+                self.frames.push(PatternFrame::Bare(binder))?;
+                Ok(LeftStep::Goes)
+            }
+            LeftApplication::Reading(_) => Ok(LeftStep::Refuses),
         }
     }
 }

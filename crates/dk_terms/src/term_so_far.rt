@@ -1,120 +1,173 @@
 //! Terms, one terminal at a time.
-ghost use Rattle.std.specs.Prelude.{◌≡◌, IfOk};
-ghost use Rattle.dk_terms.specs.Parsing.{application_ended, application_binder, application_more, depth, framed, in_bracket, in_frames, next_arrow, next_close, next_close_domain, next_colon, next_double_arrow, next_open, takes, takes_atom, term_argument, term_done, term_due, term_next, unwound, unwound_all};
-ghost use Rattle.dk_terms.specs.Views.{changed, plain_frame, plain_frames, plain_application, plain_term};
+ghost use Rattle.std.specs.Prelude.{◌≡◌, ◌∷◌, IfOk, Some};
+ghost use Rattle.dk_terms.specs.Parsing.{applied_to, arrow_next, atom_next, binder_next, binder_term, bracket_ended, colon_next, domain_closed, double_arrow_next, end_next, ended, framed, open_next, reading, term_due, term_next, within};
+ghost use Rattle.dk_terms.specs.Views.{plain_application, plain_frame, plain_role, plain_term, plain_term_step, wrapped};
 ghost use Rattle.dk_terms.specs.RawViews.{maybe_written, written};
 ghost use Rattle.dk_terms.specs.Written.{written_qualified};
 
-use crate::RawTerm;
-use crate::frames::{Application, Around, Frame, Role, binder_term};
-use crate::raw::RawQualified;
+use crate::raw::{RawBare, RawBinding, RawQualified};
 use crate::terminal::Terminal;
+use crate::{RawPair, RawTerm};
 use dk_lexer::Sign;
 use dk_model::{Listed, NoMemory};
 use std::alloc::Global;
 use std::mem::replace;
 
+/// Where an application stands.
+#[derive(Drop)]
+pub enum Role {
+    /// At the front of a term.
+    Front,
+    /// As the domain of a binder. None is the wildcard.
+    Domain(Option<Listed<u8>>),
+}
+
+/// What has been read of an application and before it.
+#[derive(Drop)]
+pub enum Application {
+    /// Nothing, or some atoms.
+    Reading(Role, Option<RawTerm>),
+    /// A name or a wildcard at the front of a term: a binder or the first atom.
+    Bindable(Option<Listed<u8>>),
+    /// A binder and its domain in brackets: an arrow is due.
+    Bracketed(Option<Listed<u8>>, RawTerm),
+}
+
+/// What makes a longer term of the one behind it.
+#[derive(Drop)]
+pub enum Wrap {
+    /// `A ->`.
+    Arrow(RawTerm),
+    /// `x : A ->`.
+    Product(Option<Listed<u8>>, RawTerm),
+    /// `x =>`.
+    Bare(Option<Listed<u8>>),
+    /// `x : A =>`.
+    Annotated(Option<Listed<u8>>, RawTerm),
+}
+
+/// What waits for a term.
+#[derive(Drop)]
+pub enum Frame {
+    /// An open bracket, and what stood before it.
+    Bracket(Role, Option<RawTerm>),
+    Wraps(Wrap),
+}
+
+// A binder read as a term.
+fn binder_term(binder: Option<Listed<u8>>) -> RawTerm
+    ensures { written result ≡ binder_term binder }
+{
+    match binder {
+        Some(name) => RawTerm::Name(name),
+        None => RawTerm::Wild,
+    }
+}
+
+// An atom behind what has been read of its application.
+fn applied_to(alloc: Global, first: Option<RawTerm>, second: RawTerm) -> Result<RawTerm, NoMemory>
+    ensures { IfOk result (λ t. written t ≡ applied_to (maybe_written first) (written second)) }
+{
+    match first {
+        Some(first) => {
+            let pair = RawPair { first, second };
+            Ok(RawTerm::App(Box::new(alloc, pair)?))
+        }
+        None => Ok(second),
+    }
+}
+
+impl Wrap {
+    /// The longer term.
+    pub fn around(self, alloc: Global, b: RawTerm) -> Result<RawTerm, NoMemory>
+        ensures { IfOk result (λ t. written t ≡ wrapped self (written b)) }
+    {
+        match self {
+            Wrap::Arrow(first) => {
+                let second = b;
+                let pair = RawPair { first, second };
+                Ok(RawTerm::Arrow(Box::new(alloc, pair)?))
+            }
+            Wrap::Product(binder, a) => {
+                let it = RawBinding {
+                    binder,
+                    domain: a,
+                    body: b,
+                };
+                Ok(RawTerm::Prod(Box::new(alloc, it)?))
+            }
+            Wrap::Bare(binder) => {
+                let it = RawBare { binder, body: b };
+                Ok(RawTerm::Bare(Box::new(alloc, it)?))
+            }
+            Wrap::Annotated(binder, a) => {
+                let it = RawBinding {
+                    binder,
+                    domain: a,
+                    body: b,
+                };
+                Ok(RawTerm::Annotated(Box::new(alloc, it)?))
+            }
+        }
+    }
+}
+
 /// A term that has begun.
 #[derive(Drop)]
 pub struct TermSoFar {
-    // The level that it began on.
-    level: u64,
     // What waits for its parts, the outermost first.
     frames: Listed<Frame>,
     application: Application,
 }
 
+/// What a terminal came to.
+#[derive(Drop)]
+pub enum TermStep {
+    /// The term goes on.
+    Goes,
+    /// This is the whole term, and this sign stands behind it.
+    Ends(RawTerm, Sign),
+    /// No term goes on so.
+    Refuses,
+}
+
 impl TermSoFar {
-    /// A term that begins on level 0.
+    /// Before the first terminal.
     pub fn new(alloc: Global) -> TermSoFar
-        ensures { plain_term result ≡ term_due 0 }
+        ensures { plain_term result ≡ term_due }
     {
         TermSoFar {
-            level: 0,
             frames: Listed::new(alloc),
-            application: Application::Due(Role::Front),
+            application: Application::Reading(Role::Front, None),
         }
     }
 
-    /// Begins anew, on this level.
-    pub fn begin(&mut self, alloc: Global, level: u64)
-        ensures { plain_term self.new ≡ term_due level }
+    /// Begins anew.
+    pub fn begin(&mut self, alloc: Global)
+        ensures { plain_term self.new ≡ term_due }
     {
         let mut frames = replace(&mut self.frames, Listed::new(alloc)).into_vec();
         frames.clear();
-        self.level = level;
         self.frames = Listed::from_vec(frames);
-        self.application = Application::Due(Role::Front);
+        self.application = Application::Reading(Role::Front, None);
     }
 
-    /// The level within the frames.
-    #[tactic(auto, using(crate::proofs::Pushed::depth_counted))]
-    pub fn depth(&self) -> Result<u64, NoMemory>
-        ensures { IfOk result (λ level. level ≡ depth (plain_term self.now).frames) }
-    {
-        self.level
-            .checked_add(self.frames.len() as u64)
-            .ok_or(NoMemory)
-    }
-
-    /// Whether this is a terminal of a term; a bracket that closes is one where one is open.
-    pub fn takes(&self, x: &Terminal) -> bool
-        ensures { result ≡ takes (plain_term self.now) x.now }
-    {
-        match x {
-            Terminal::Name(_) => true,
-            Terminal::Wildcard => true,
-            Terminal::Qualified(_, _) => true,
-            Terminal::Star => true,
-            Terminal::Sign(Sign::OpenBracket) => true,
-            Terminal::Sign(Sign::CloseBracket) => self.in_bracket(),
-            Terminal::Sign(Sign::Colon) => true,
-            Terminal::Sign(Sign::Arrow) => true,
-            Terminal::Sign(Sign::DoubleArrow) => true,
-            _ => false,
-        }
-    }
-
-    /// The number of the argument that a terminal begins, from 1; 0 where it begins none.
-    pub fn argument(&self, x: &Terminal) -> u64
-        ensures { result ≡ term_argument (plain_term self.now) x.now }
-    {
-        match x {
-            Terminal::Name(_) => self.application.atoms(),
-            Terminal::Wildcard => self.application.atoms(),
-            Terminal::Qualified(_, _) => self.application.atoms(),
-            Terminal::Star => self.application.atoms(),
-            Terminal::Sign(Sign::OpenBracket) => self.application.atoms(),
-            _ => 0,
-        }
-    }
-
-    /// Takes a terminal, and says whether the term can go on so.
-    pub fn next(&mut self, alloc: Global, x: Terminal) -> Result<bool, NoMemory>
-        ensures { IfOk result (λ goes. changed goes (plain_term self.new)
+    /// Takes a terminal.
+    pub fn next(&mut self, alloc: Global, x: Terminal) -> Result<TermStep, NoMemory>
+        ensures { IfOk result (λ step. plain_term_step step self.new
             ≡ term_next (plain_term self.old) x) }
     {
         match x {
             Terminal::Name(n) => self.binder(alloc, Some(n)),
             Terminal::Wildcard => self.binder(alloc, None),
-            Terminal::Qualified(m, n) => self.qualified(alloc, m, n),
+            Terminal::Qualified(module_name, name) => self.qualified(alloc, module_name, name),
             Terminal::Star => self.atom(alloc, RawTerm::Star),
             Terminal::Sign(Sign::OpenBracket) => self.open(),
-            Terminal::Sign(Sign::CloseBracket) => self.close(alloc),
             Terminal::Sign(Sign::Colon) => Ok(self.colon()),
             Terminal::Sign(Sign::Arrow) => self.arrow(),
             Terminal::Sign(Sign::DoubleArrow) => self.double_arrow(),
-            _ => Ok(false),
-        }
-    }
-
-    /// The term, where it may end here.
-    pub fn done(&mut self, alloc: Global) -> Result<Option<RawTerm>, NoMemory>
-        ensures { IfOk result (λ term. maybe_written term ≡ term_done (plain_term self.old)) }
-    {
-        match self.taken().term() {
-            Some(a) => self.unwind_all(alloc, a),
-            None => Ok(None),
+            Terminal::Sign(sign) => self.end(alloc, sign),
+            _ => Ok(TermStep::Refuses),
         }
     }
 
@@ -122,188 +175,219 @@ impl TermSoFar {
     fn taken(&mut self) -> Application
         ensures value { result ≡ self.old.application }
         ensures frames { self.new.frames ≡ self.old.frames }
-        ensures level { self.new.level ≡ self.old.level }
     {
-        replace(&mut self.application, Application::Due(Role::Front))
+        replace(
+            &mut self.application,
+            Application::Reading(Role::Front, None),
+        )
     }
 
-    // A name or a wildcard.
-    #[tactic(auto, using(crate::proofs::Pushed::application_framed))]
-    fn binder(&mut self, alloc: Global, binder: Option<Listed<u8>>) -> Result<bool, NoMemory>
-        ensures { IfOk result (λ goes. changed goes (plain_term self.new)
-            ≡ in_frames (plain_term self.old).frames
-            (application_binder (plain_term self.old).application binder)) }
+    // Goes on behind this application.
+    fn within(&mut self, application: Application) -> TermStep
+        ensures { plain_term_step result self.new
+            ≡ within (plain_term self.old).frames (plain_application application) }
     {
-        self.application.binder(alloc, binder)
-    }
-
-    // Another atom.
-    #[tactic(auto, using(crate::proofs::Pushed::application_framed))]
-    fn atom(&mut self, alloc: Global, a: RawTerm) -> Result<bool, NoMemory>
-        ensures { IfOk result (λ goes. changed goes (plain_term self.new)
-            ≡ in_frames (plain_term self.old).frames
-            (application_more (plain_term self.old).application (written a))) }
-    {
-        self.application.more(alloc, a)
+        self.application = application;
+        TermStep::Goes
     }
 
     // Puts a frame on; a term is due in it.
-    #[tactic(auto, using(crate::proofs::Pushed::frame_pushed))]
-    fn framed(&mut self, frame: Frame) -> Result<bool, NoMemory>
-        ensures { IfOk result (λ goes. changed goes (plain_term self.new)
+    #[tactic(auto, using(crate::proofs::Stacked::pushed))]
+    fn framed(&mut self, frame: Frame) -> Result<TermStep, NoMemory>
+        ensures { IfOk result (λ step. plain_term_step step self.new
             ≡ framed (plain_frame frame) (plain_term self.old).frames) }
     {
         self.frames.push(frame)?;
-        self.application = Application::Due(Role::Front);
-        Ok(true)
+        Ok(self.within(Application::Reading(Role::Front, None)))
     }
 
-    // A qualified name.
+    // An atom behind what has been read of its application.
+    fn applied(
+        &mut self,
+        alloc: Global,
+        role: Role,
+        f: Option<RawTerm>,
+        a: RawTerm,
+    ) -> Result<TermStep, NoMemory>
+        ensures { IfOk result (λ step. plain_term_step step self.new
+            ≡ within (plain_term self.old).frames
+            (reading (plain_role role) (Some (applied_to (maybe_written f) (written a))))) }
+    {
+        let a = applied_to(alloc, f, a)?;
+        Ok(self.within(Application::Reading(role, Some(a))))
+    }
+
+    // Another atom.
+    fn atom(&mut self, alloc: Global, a: RawTerm) -> Result<TermStep, NoMemory>
+        ensures { IfOk result (λ step. plain_term_step step self.new
+            ≡ atom_next (plain_term self.old).frames (plain_term self.old).application
+            (written a)) }
+    {
+        match self.taken() {
+            Application::Reading(role, f) => self.applied(alloc, role, f, a),
+            Application::Bindable(v) => self.applied(alloc, Role::Front, Some(binder_term(v)), a),
+            Application::Bracketed(_, _) => Ok(TermStep::Refuses),
+        }
+    }
+
     fn qualified(
         &mut self,
         alloc: Global,
         module_name: Listed<u8>,
         name: Listed<u8>,
-    ) -> Result<bool, NoMemory>
-        ensures { IfOk result (λ goes. changed goes (plain_term self.new)
-            ≡ in_frames (plain_term self.old).frames
-            (application_more (plain_term self.old).application
-            (written_qualified module_name name))) }
+    ) -> Result<TermStep, NoMemory>
+        ensures { IfOk result (λ step. plain_term_step step self.new
+            ≡ atom_next (plain_term self.old).frames (plain_term self.old).application
+            (written_qualified module_name name)) }
     {
         let it = Box::new(alloc, RawQualified { module_name, name })?;
         self.atom(alloc, RawTerm::Qualified(it))
     }
 
-    fn open(&mut self) -> Result<bool, NoMemory>
-        ensures { IfOk result (λ goes. changed goes (plain_term self.new)
-            ≡ next_open (takes_atom (plain_term self.old).application)
-            (plain_term self.old).frames (plain_term self.old).application) }
+    // A name or a wildcard.
+    fn binder(&mut self, alloc: Global, binder: Option<Listed<u8>>) -> Result<TermStep, NoMemory>
+        ensures { IfOk result (λ step. plain_term_step step self.new
+            ≡ binder_next (plain_term self.old).frames (plain_term self.old).application binder) }
     {
-        match self.taken() {
-            Application::Bracketed(_, _) => Ok(false),
-            application => self.framed(Frame::Bracket(application)),
+        match self.application {
+            Application::Reading(Role::Front, None) => {
+                Ok(self.within(Application::Bindable(binder)))
+            }
+            _ => self.atom(alloc, binder_term(binder)),
         }
     }
 
-    fn close(&mut self, alloc: Global) -> Result<bool, NoMemory>
-        ensures { IfOk result (λ goes. changed goes (plain_term self.new)
-            ≡ next_close (plain_term self.old).frames (plain_term self.old).application) }
+    fn open(&mut self) -> Result<TermStep, NoMemory>
+        ensures { IfOk result (λ step. plain_term_step step self.new
+            ≡ open_next (plain_term self.old).frames (plain_term self.old).application) }
     {
         match self.taken() {
-            Application::Applied(role, a, _) => match role {
-                Role::Domain(binder) => Ok(self.close_domain(binder, a)),
-                Role::Front => self.unwind(alloc, a),
+            Application::Reading(role, f) => self.framed(Frame::Bracket(role, f)),
+            Application::Bindable(v) => {
+                self.framed(Frame::Bracket(Role::Front, Some(binder_term(v))))
+            }
+            Application::Bracketed(_, _) => Ok(TermStep::Refuses),
+        }
+    }
+
+    fn colon(&mut self) -> TermStep
+        ensures { plain_term_step result self.new
+            ≡ colon_next (plain_term self.old).frames (plain_term self.old).application }
+    {
+        match self.taken() {
+            Application::Bindable(v) => self.within(Application::Reading(Role::Domain(v), None)),
+            _ => TermStep::Refuses,
+        }
+    }
+
+    fn arrow(&mut self) -> Result<TermStep, NoMemory>
+        ensures { IfOk result (λ step. plain_term_step step self.new
+            ≡ arrow_next (plain_term self.old).frames (plain_term self.old).application) }
+    {
+        match self.taken() {
+            Application::Bindable(v) => self.framed(Frame::Wraps(Wrap::Arrow(binder_term(v)))),
+            Application::Reading(role, read) => match (role, read) {
+                (Role::Front, Some(a)) => self.framed(Frame::Wraps(Wrap::Arrow(a))),
+                (Role::Domain(v), Some(a)) => self.framed(Frame::Wraps(Wrap::Product(v, a))),
+                (_, None) => Ok(TermStep::Refuses),
             },
-            Application::Bindable(binder) => self.unwind(alloc, binder_term(binder)),
-            _ => Ok(false),
+            Application::Bracketed(v, a) => self.framed(Frame::Wraps(Wrap::Product(v, a))),
+        }
+    }
+
+    fn double_arrow(&mut self) -> Result<TermStep, NoMemory>
+        ensures { IfOk result (λ step. plain_term_step step self.new
+            ≡ double_arrow_next (plain_term self.old).frames (plain_term self.old).application) }
+    {
+        match self.taken() {
+            Application::Bindable(v) => self.framed(Frame::Wraps(Wrap::Bare(v))),
+            Application::Reading(role, read) => match (role, read) {
+                (Role::Domain(v), Some(a)) => self.framed(Frame::Wraps(Wrap::Annotated(v, a))),
+                _ => Ok(TermStep::Refuses),
+            },
+            Application::Bracketed(_, _) => Ok(TermStep::Refuses),
+        }
+    }
+
+    // A sign that ends an application.
+    fn end(&mut self, alloc: Global, sign: Sign) -> Result<TermStep, NoMemory>
+        ensures { IfOk result (λ step. plain_term_step step self.new
+            ≡ end_next (plain_term self.old).frames (plain_term self.old).application sign) }
+    {
+        match self.taken() {
+            Application::Bindable(v) => self.unwind(alloc, binder_term(v), sign),
+            Application::Reading(role, read) => match (role, read) {
+                (Role::Front, Some(a)) => self.unwind(alloc, a, sign),
+                (Role::Domain(v), Some(a)) => Ok(self.close_domain(v, a, sign)),
+                (_, None) => Ok(TermStep::Refuses),
+            },
+            Application::Bracketed(_, _) => Ok(TermStep::Refuses),
         }
     }
 
     // A binder and its domain in brackets, at the front of a term.
-    #[tactic(auto, using(crate::proofs::Pushed::domain_closed, crate::proofs::Pushed::domain_refused))]
-    fn close_domain(&mut self, binder: Option<Listed<u8>>, a: RawTerm) -> bool
-        ensures { changed result (plain_term self.new)
-            ≡ next_close_domain (plain_term self.old).frames binder (written a) }
+    #[tactic(auto, using(crate::proofs::Stacked::domain_popped))]
+    fn close_domain(&mut self, binder: Option<Listed<u8>>, a: RawTerm, sign: Sign) -> TermStep
+        ensures { plain_term_step result self.new
+            ≡ domain_closed (plain_term self.old).frames binder (written a) sign }
     {
-        let Some(frame) = self.frames.pop() else {
-            return false;
-        };
-        if !frame.opens_domain() {
-            return false;
-        }
-        self.application = Application::Bracketed(binder, a);
-        true
-    }
-
-    fn colon(&mut self) -> bool
-        ensures { changed result (plain_term self.new)
-            ≡ next_colon (plain_term self.old).frames (plain_term self.old).application }
-    {
-        match self.taken() {
-            Application::Bindable(binder) => {
-                self.application = Application::Due(Role::Domain(binder));
-                true
-            }
-            _ => false,
+        match self.frames.pop() {
+            Some(frame) => self.close_front(frame, binder, a, sign),
+            None => TermStep::Refuses,
         }
     }
 
-    fn arrow(&mut self) -> Result<bool, NoMemory>
-        ensures { IfOk result (λ goes. changed goes (plain_term self.new)
-            ≡ next_arrow (plain_term self.old).frames (plain_term self.old).application) }
+    fn close_front(
+        &mut self,
+        frame: Frame,
+        binder: Option<Listed<u8>>,
+        a: RawTerm,
+        sign: Sign,
+    ) -> TermStep
+        ensures { plain_term_step result self.new ≡ domain_closed
+            (plain_frame frame ∷ (plain_term self.old).frames) binder (written a) sign }
     {
-        match self.taken() {
-            Application::Bindable(binder) => self.framed(Frame::Arrow(binder_term(binder))),
-            Application::Applied(role, a, _) => match role {
-                Role::Front => self.framed(Frame::Arrow(a)),
-                Role::Domain(binder) => self.framed(Frame::Product(binder, a)),
+        match frame {
+            Frame::Bracket(Role::Front, None) => match sign {
+                Sign::CloseBracket => self.within(Application::Bracketed(binder, a)),
+                _ => TermStep::Refuses,
             },
-            Application::Bracketed(binder, a) => self.framed(Frame::Product(binder, a)),
-            Application::Due(_) => Ok(false),
+            _ => TermStep::Refuses,
         }
     }
 
-    fn double_arrow(&mut self) -> Result<bool, NoMemory>
-        ensures { IfOk result (λ goes. changed goes (plain_term self.new)
-            ≡ next_double_arrow (plain_term self.old).frames (plain_term self.old).application) }
-    {
-        match self.taken() {
-            Application::Bindable(binder) => self.framed(Frame::Bare(binder)),
-            Application::Applied(role, a, _) => match role {
-                Role::Domain(binder) => self.framed(Frame::Annotated(binder, a)),
-                Role::Front => Ok(false),
-            },
-            _ => Ok(false),
-        }
-    }
-
-    // Whether a bracket is open; the innermost frames are asked first.
-    #[tactic(auto, using(crate::proofs::Pushed::bracket_found, crate::proofs::Pushed::bracket_outer))]
-    fn in_bracket(&self) -> bool
-        ensures { result ≡ in_bracket (plain_term self.now).frames }
-    {
-        let mut frames = self.frames.as_slice();
-        while let Some((frame, outer)) = frames.split_last() {
-            if frame.is_bracket() {
-                return true;
-            }
-            frames = outer;
-        }
-        false
-    }
-
-    // Closes the innermost bracket behind a term.
-    #[tactic(auto, using(crate::proofs::Pushed::unwound_more, crate::proofs::Pushed::unwound_closed))]
-    fn unwind(&mut self, alloc: Global, a: RawTerm) -> Result<bool, NoMemory>
-        ensures { IfOk result (λ goes. changed goes (plain_term self.new)
-            ≡ unwound (plain_term self.old).frames (written a)) }
+    // The sign behind a term in its frames.
+    #[tactic(auto, using(crate::proofs::Stacked::ended_wrap, crate::proofs::Stacked::ended_bracket))]
+    fn unwind(&mut self, alloc: Global, a: RawTerm, sign: Sign) -> Result<TermStep, NoMemory>
+        ensures { IfOk result (λ step. plain_term_step step self.new
+            ≡ ended (plain_term self.old).frames (written a) sign) }
     {
         let mut term = a;
         while let Some(frame) = self.frames.pop() {
-            match frame.around(alloc, term)? {
-                Around::Term(longer) => term = longer,
-                Around::Bracket(application, last) => {
-                    self.application = application;
-                    return self.atom(alloc, last);
-                }
+            match frame {
+                Frame::Wraps(wrap) => term = wrap.around(alloc, term)?,
+                Frame::Bracket(role, f) => return self.close(alloc, role, f, term, sign),
             }
         }
-        Ok(false)
+        Ok(TermStep::Ends(term, sign))
     }
 
-    // The whole term behind its last part, where no bracket is open.
-    #[tactic(auto, using(crate::proofs::Pushed::all_more, crate::proofs::Pushed::all_closed))]
-    fn unwind_all(&mut self, alloc: Global, a: RawTerm) -> Result<Option<RawTerm>, NoMemory>
-        ensures { IfOk result (λ term. maybe_written term
-            ≡ unwound_all (plain_term self.old).frames (written a)) }
+    // The bracket around a term, and the sign behind the term.
+    fn close(
+        &mut self,
+        alloc: Global,
+        role: Role,
+        f: Option<RawTerm>,
+        a: RawTerm,
+        sign: Sign,
+    ) -> Result<TermStep, NoMemory>
+        ensures { IfOk result (λ step. plain_term_step step self.new
+            ≡ bracket_ended (plain_term self.old).frames (plain_role role) (maybe_written f)
+            (written a) sign) }
     {
-        let mut term = a;
-        while let Some(frame) = self.frames.pop() {
-            match frame.around(alloc, term)? {
-                Around::Term(longer) => term = longer,
-                Around::Bracket(_, _) => return Ok(None),
-            }
+        match sign {
+            Sign::CloseBracket => self.applied(alloc, role, f, a),
+            _ => Ok(TermStep::Refuses),
         }
-        Ok(Some(term))
     }
 }

@@ -2,15 +2,15 @@
 use Rattle.std.proofs.Common.{ℕ, suc, zero, ◌+◌, ◌<◌, Bool, true, false, List, [], ◌∷◌, ◌++◌, length, drop, nat_le, ◌==◌, if◌then◌else◌, sym, subst, arith, Option, Some, None, unwrap_or}
 use Rattle.std.specs.Prelude.{nat_lt, min}
 use Rattle.dk_model.specs.declared.code.Code.{Code}
-use Rattle.dk_model.specs.declared.code.Code.TheVariants.{E03, E04, E07}
+use Rattle.dk_model.specs.declared.code.Code.TheVariants.{E03, E07}
 use Rattle.dk_model.specs.declared.limits.Limits.{Limits}
 use Rattle.dk_lexer.specs.declared.place.Place.{Place}
 use Rattle.dk_lexer.specs.declared.token.Token.{Token}
 use Rattle.dk_lexer.specs.Spelling.{Spelling, blank, token, run_and_dot, wrong, comment_open, unsettled, late, kind_of, spelled}
 use Rattle.dk_lexer.specs.Tokens.{Bound, Ending, Lexed, Setting, at_end, behind, begin_of, bound, broken, by_bound, command_after, dot_at, fault_at, gives, input_limit, late_bound, next_line as line_after, nothing_at, outcome, outcome_at, token_at, tokens, tokens_from, whole, within}
-use Rattle.dk_terms.specs.declared.terminal.Terminal.{Terminal}
-use Rattle.dk_terms.specs.declared.terminal.Terminal.TheVariants as terminal
-use Rattle.dk_parser.specs.Parsing.{Answer, CommandSoFar, Advance, Parsing, answered, commands_from, ends, goes, more, parsing_from, advanced, refuses, started, turn, turn_by_fault, turn_by_step, turn_by_terminal, turn_refused}
+use Rattle.dk_parser.specs.Groups.{load}
+use Rattle.dk_parser.specs.Levels.{standing_behind}
+use Rattle.dk_parser.specs.Parsing.{Answer, Advance, Parsing, answered, begun_by, begun_line, commands_from, ends, goes, parsing_from, advanced, refusal, refuses, started, turn, turn_by_fault, turn_by_step}
 use Rattle.dk_terms.specs.Terminals.{terminal_of}
 use Rattle.dk_parser.specs.Written.{WrittenCommand}
 use Rattle.file_report.specs.Memory.{IsNextLine, next_line, reading_at}
@@ -95,43 +95,48 @@ unwrapped : (begun : Option ℕ) (place : ℕ) → BegunHasLine begun → 0 < pl
 unwrapped None place h some = some
 unwrapped (Some line) place h some = h
 
+abbrev FaultHasLine : Option (ℕ × Code) → Type 0
+FaultHasLine None = Unit {0}
+FaultHasLine (Some (line, code)) = 0 < line
+
+abbrev HasLine : Parsing → Type 0
+HasLine s = BegunHasLine s.begun × FaultHasLine s.fault
+
 -- behind a token
 record TurnHasLine (s : Parsing) (answer : Answer) : Type 0 where
-  begun : BegunHasLine s.begun
+  state : HasLine s
   commands : CommandsHaveLines (answered answer)
 
-by_levels : (b : Bool) (s : Parsing) (line : ℕ) (part : CommandSoFar) → 0 < line →
-    TurnHasLine (if b then turn_refused s line E04 else record { state = record s { begun = Some line; part = part }; answer = more }).state
-    (if b then turn_refused s line E04 else record { state = record s { begun = Some line; part = part }; answer = more }).answer
-by_levels true s line part some = record { begun = some; commands = tt }
-by_levels false s line part some = record { begun = some; commands = tt }
+by_step : (s : Parsing) (line : ℕ) (code : Code) (deep : Bool) (p : Advance) → HasLine s → 0 < line → TurnHasLine (turn_by_step s line code deep p).state (turn_by_step s line code deep p).answer
+by_step s line code true (goes part) h some = record { state = (h.0, some); commands = tt }
+by_step s line code true (ends form) h some = record { state = (h.0, some); commands = tt }
+by_step s line code false (goes part) h some = record { state = (some, h.1); commands = tt }
+by_step s line code false (ends form) h some = record { state = (tt, h.1); commands = (some, tt) }
+by_step s line code deep refuses h some = record { state = (h.0, some); commands = tt }
 
-by_step : (s : Parsing) (line : ℕ) (p : Advance) → 0 < line → TurnHasLine (turn_by_step s line p).state (turn_by_step s line p).answer
-by_step s line (goes made part) some = by_levels (nat_lt s.limits.levels made) s line part some
-by_step s line (ends form) some = record { begun = tt; commands = (some, tt) }
-by_step s line refuses some = record { begun = some; commands = tt }
-
-by_terminal : (s : Parsing) (line : ℕ) (x : Terminal) → 0 < line → TurnHasLine (turn_by_terminal s line x).state (turn_by_terminal s line x).answer
-by_terminal s line terminal.Profile some = record { begun = some; commands = tt }
-by_terminal s line x some = by_step s line (advanced s.part x) some
-
-by_fault : (f : Option Code) (s : Parsing) (t : Token) → BegunHasLine s.begun → 0 < t.line → TurnHasLine (turn_by_fault f s t).state (turn_by_fault f s t).answer
-by_fault (Some code) s t begun some = record { begun = begun; commands = tt }
-by_fault None s t begun some = by_terminal s (unwrap_or s.begun t.line) (terminal_of t) (unwrapped s.begun t.line begun some)
+by_fault : (f : Option (ℕ × Code)) (s : Parsing) (t : Token) → HasLine s → 0 < t.line → TurnHasLine (turn_by_fault f s t).state (turn_by_fault f s t).answer
+by_fault (Some (line, code)) s t h some = record { state = h; commands = tt }
+by_fault None s t h some =
+    let x = terminal_of t in
+    by_step (record s { standing = standing_behind s.standing x }) (unwrap_or s.begun t.line) (refusal x) (nat_lt s.limits.levels (load s.standing x)) (advanced s.part x) h (unwrapped s.begun t.line h.0 some)
 
 both : (xs ys : List WrittenCommand) → CommandsHaveLines xs → CommandsHaveLines ys → CommandsHaveLines (xs ++ ys)
 both [] ys h k = k
 both (x ∷ xs) ys h k = (h.0, both xs ys h.1 k)
 
-commands_lines : (s : Parsing) (ts : List Token) → BegunHasLine s.begun → HaveLines ts → CommandsHaveLines (commands_from s ts)
-commands_lines s [] begun h = tt
-commands_lines s (t ∷ ts) begun h =
-    let turned = by_fault s.fault s t begun h.0 in
-    both (answered (turn s t).answer) (commands_from (turn s t).state ts) turned.commands (commands_lines (turn s t).state ts turned.begun h.1)
+commands_lines : (s : Parsing) (ts : List Token) → HasLine s → HaveLines ts → CommandsHaveLines (commands_from s ts)
+commands_lines s [] has h = tt
+commands_lines s (t ∷ ts) has h =
+    let turned = by_fault s.fault s t has h.0 in
+    both (answered (turn s t).answer) (commands_from (turn s t).state ts) turned.commands (commands_lines (turn s t).state ts turned.state h.1)
 
-begun_line : (s : Parsing) (ts : List Token) → BegunHasLine s.begun → HaveLines ts → BegunHasLine (parsing_from s ts).begun
-begun_line s [] begun h = begun
-begun_line s (t ∷ ts) begun h = begun_line (turn s t).state ts (by_fault s.fault s t begun h.0).begun h.1
+by_begun : (f : Option (ℕ × Code)) (begun : Option ℕ) → BegunHasLine begun → FaultHasLine f → BegunHasLine (begun_by f begun)
+by_begun None begun h k = h
+by_begun (Some (line, code)) begun h k = k
+
+begun_lines : (s : Parsing) (ts : List Token) → HasLine s → HaveLines ts → BegunHasLine (begun_line (parsing_from s ts))
+begun_lines s [] has h = by_begun s.fault s.begun has.0 has.1
+begun_lines s (t ∷ ts) has h = begun_lines (turn s t).state ts (by_fault s.fault s t has h.0).state h.1
 
 -- ---- the next line
 
@@ -150,6 +155,6 @@ next_line_positive limits bytes ending count line next =
     let lines = all_lines limits next.given next.ending in
     subst (λ l. 0 < l) (sym next.line_is)
     (next_some (drop count (reading_at limits next.given next.ending).commands) (reading_at limits next.given next.ending).begun (tokens limits next.given broken).line
-    (dropped count (reading_at limits next.given next.ending).commands (commands_lines (started limits) ts tt lines.0))
-    (begun_line (started limits) ts tt lines.0)
+    (dropped count (reading_at limits next.given next.ending).commands (commands_lines (started limits) ts (tt, tt) lines.0))
+    (begun_lines (started limits) ts (tt, tt) lines.0)
     (all_lines limits next.given broken).1)
