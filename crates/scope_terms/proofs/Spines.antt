@@ -5,12 +5,10 @@ use Rattle.dk_model.specs.Trees.{Tree, apply}
 use Rattle.dk_parser.specs.RawViews.{written}
 use Rattle.dk_parser.specs.Written.{Written, written_apply}
 use Rattle.dk_terms.specs.declared.raw.RawTerm.{RawTerm}
-use Rattle.scope_terms.specs.Scopes.{term_of}
-use Rattle.scope_terms.specs.Binding.{binders}
 use Rattle.dk_model.specs.declared.code.Fault.{Fault}
 use Rattle.scope_terms.specs.Scopes.{Scoping, scoped, both}
 use Rattle.scope_terms.specs.Answers.{IsFaultOf}
-use Rattle.scope_terms.specs.Meanings.{term_sense}
+use Rattle.scope_terms.specs.Meanings.{term_sense, written_sense}
 use Rattle.scope_terms.specs.Spines.{applied, written_references, size, total_size, spine_sense}
 use Rattle.scope_terms.specs.declared.binders.Binders.{Binders}
 use Rattle.scope_terms.specs.declared.meaning.Scope.{Scope}
@@ -37,18 +35,18 @@ module _ (scope : Scope) (bound : Binders) where
   spine_fault s (x ∷ rs) e is = both_first apply (spine s rs) (term_sense scope bound x.now) e (spine_fault s rs e is)
 
   -- the scoping of what is written, argument by argument
-  spine_written : (w : Written) (rs : List (Bor RawTerm)) → term_of scope.names.now scope.variables.now (binders bound) (applied w (written_references rs)) ≡ spine (term_of scope.names.now scope.variables.now (binders bound) w) rs
+  spine_written : (w : Written) (rs : List (Bor RawTerm)) → written_sense scope bound (applied w (written_references rs)) ≡ spine (written_sense scope bound w) rs
   spine_written w [] = refl
   spine_written w (x ∷ rs) = ap (λ (u : Scoping Tree). both apply u (term_sense scope bound x.now)) (spine_written w rs)
 
   -- the head is scoped
-  pub spine_begun : (raw head : RawTerm) (rs : List (Bor RawTerm)) (t : Tree) → applied (written head) (written_references rs) ≡ written raw → term_sense scope bound head ≡ scoped t → spine (scoped t) rs ≡ term_sense scope bound raw
-  spine_begun raw head rs t whole is =
-      ap (λ (s : Scoping Tree). spine s rs) (sym is) ∙ sym (spine_written (written head) rs) ∙ ap (term_of scope.names.now scope.variables.now (binders bound)) whole
+  pub spine_begun : (all : Written) (head : RawTerm) (rs : List (Bor RawTerm)) (t : Tree) → applied (written head) (written_references rs) ≡ all → term_sense scope bound head ≡ scoped t → spine (scoped t) rs ≡ written_sense scope bound all
+  spine_begun all head rs t whole is =
+      ap (λ (s : Scoping Tree). spine s rs) (sym is) ∙ sym (spine_written (written head) rs) ∙ ap (written_sense scope bound) whole
 
-  pub spine_head_fault : (raw head : RawTerm) (rs : List (Bor RawTerm)) (e : Fault) → applied (written head) (written_references rs) ≡ written raw → IsFaultOf (term_sense scope bound head) e → IsFaultOf (term_sense scope bound raw) e
-  spine_head_fault raw head rs e whole is =
-      subst (λ (s : Scoping Tree). IsFaultOf s e) (sym (spine_written (written head) rs) ∙ ap (term_of scope.names.now scope.variables.now (binders bound)) whole) (spine_fault (term_sense scope bound head) rs e is)
+  pub spine_head_fault : (all : Written) (head : RawTerm) (rs : List (Bor RawTerm)) (e : Fault) → applied (written head) (written_references rs) ≡ all → IsFaultOf (term_sense scope bound head) e → IsFaultOf (written_sense scope bound all) e
+  spine_head_fault all head rs e whole is =
+      subst (λ (s : Scoping Tree). IsFaultOf s e) (sym (spine_written (written head) rs) ∙ ap (written_sense scope bound) whole) (spine_fault (term_sense scope bound head) rs e is)
 
   -- an argument more is scoped
   pub spine_further : (all : Scoping Tree) (t a u : Tree) (rs : List (Bor RawTerm)) (r : Bor RawTerm) → spine (scoped t) (rs ++ r ∷ []) ≡ all → term_sense scope bound r.now ≡ scoped a → u ≡ apply t a → spine (scoped u) rs ≡ all

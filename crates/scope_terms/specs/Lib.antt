@@ -3,3 +3,4 @@ pub mod Answers
 pub mod Meanings
 pub mod Spines
 pub mod Binding
+pub mod Hashing

@@ -1,9 +1,12 @@
 -- For proofs: what the code holds as plain data, and its scoping.
-use Rattle.std.specs.Prelude.{ℕ, Option, List, [], ◌∷◌, map}
+use Rattle.std.specs.Prelude.{ℕ, Option, List, [], map}
+use Rattle.std.specs.Option.{option_map}
+use Rattle.std.specs.Borrow.{Bor}
 use Rattle.dk_model.specs.Trees.{Tree}
 use Rattle.dk_model.specs.Scoping.{PlainLeft, PlainScopedRule, PlainCommand, plain_scoped_rule}
 use Rattle.dk_model.specs.declared.scoped.ScopedRule.{ScopedRule}
 use Rattle.dk_parser.specs.RawViews.{written, maybe_written, written_pattern, written_param, written_note, written_rule, written_form}
+use Rattle.dk_parser.specs.Written.{Written, written_apply, written_product, written_bare, written_annotated}
 use Rattle.dk_parser.specs.declared.raw.Raw.{Raw}
 use Rattle.dk_terms.specs.declared.raw.RawTerm.{RawTerm}
 use Rattle.dk_terms.specs.declared.raw.RawPat.{RawPat}
@@ -17,6 +20,7 @@ use Rattle.scope_terms.specs.declared.binders.Binders.{Binders}
 use Rattle.scope_terms.specs.Binding.{binders}
 use Rattle.scope_terms.specs.declared.rule.ScopedContext.{ScopedContext}
 use Rattle.scope_terms.specs.declared.meaning.Scope.{Scope}
+use Rattle.scope_terms.specs.declared.meaning.Scope.TheVariants.{Symbols, Rule}
 use Rattle.scope_terms.specs.declared.meaning.Named.{Named}
 use Rattle.scope_terms.specs.declared.meaning.Named.TheVariants.{Variable, RuleVariable, Symbol, Unknown}
 
@@ -31,9 +35,25 @@ declaration d = record { typ = maybe_tree d.typ; body = maybe_tree d.body }
 
 -- ---- the scoping of what the parser gives
 
+-- the symbols of a place, and its rule variables, of which a declaration has none
+abbrev pub symbols_of : Scope → Numbered
+symbols_of (Symbols symbols) = symbols.now
+symbols_of (Rule symbols variables) = symbols.now
+
+abbrev pub rule_variables : Scope → Numbered
+rule_variables (Symbols symbols) = no_names
+rule_variables (Rule symbols variables) = variables.now
+
+-- what a name means that no binder has; that no rule variable has either
+abbrev pub free_sense : Scope → List ℕ → Meaning
+free_sense scope x = meaning_of (symbols_of scope) (rule_variables scope) [] x
+
+abbrev pub symbol_sense : Numbered → List ℕ → Meaning
+symbol_sense symbols x = meaning_of symbols no_names [] x
+
 -- what the name means under these binders
 abbrev pub sense : Scope → Binders → List ℕ → Meaning
-sense scope bound x = meaning_of scope.names.now scope.variables.now (binders bound) x
+sense scope bound x = meaning_of (symbols_of scope) (rule_variables scope) (binders bound) x
 
 -- the term, the left side that the name stands for
 abbrev pub named_term : Scope → Binders → List ℕ → Scoping Tree
@@ -42,18 +62,37 @@ named_term scope bound x = meant_term (sense scope bound x)
 abbrev pub named_left : Scope → Binders → List ℕ → Scoping PlainLeft
 named_left scope bound x = meant_left (sense scope bound x)
 
+abbrev pub binder : Option (Bor (List ℕ)) → Binder
+binder x = option_map (λ y. y.now) x
+
+abbrev pub written_sense : Scope → Binders → Written → Scoping Tree
+written_sense scope bound w = term_of (symbols_of scope) (rule_variables scope) (binders bound) w
+
 abbrev pub term_sense : Scope → Binders → RawTerm → Scoping Tree
-term_sense scope bound t = term_of scope.names.now scope.variables.now (binders bound) (written t)
+term_sense scope bound t = written_sense scope bound (written t)
+
+-- an application, a product, an abstraction by its parts
+abbrev pub application_sense : Scope → Binders → RawTerm → RawTerm → Scoping Tree
+application_sense scope bound f a = written_sense scope bound (written_apply (written f) (written a))
+
+abbrev pub product_sense : Scope → Binders → Option (Bor (List ℕ)) → RawTerm → RawTerm → Scoping Tree
+product_sense scope bound x a b = written_sense scope bound (written_product (binder x) (written a) (written b))
+
+abbrev pub bare_sense : Scope → Binders → Option (Bor (List ℕ)) → RawTerm → Scoping Tree
+bare_sense scope bound x b = written_sense scope bound (written_bare (binder x) (written b))
+
+abbrev pub annotated_sense : Scope → Binders → Option (Bor (List ℕ)) → RawTerm → RawTerm → Scoping Tree
+annotated_sense scope bound x a b = written_sense scope bound (written_annotated (binder x) (written a) (written b))
 
 abbrev pub maybe_sense : Scope → Binders → Option RawTerm → Scoping (Option Tree)
-maybe_sense scope bound t = maybe_term_of scope.names.now scope.variables.now (binders bound) (maybe_written t)
+maybe_sense scope bound t = maybe_term_of (symbols_of scope) (rule_variables scope) (binders bound) (maybe_written t)
 
 abbrev pub left_sense : Scope → Binders → RawPat → Scoping PlainLeft
-left_sense scope bound p = left_of scope.names.now scope.variables.now (binders bound) (written_pattern p)
+left_sense scope bound p = left_of (symbols_of scope) (rule_variables scope) (binders bound) (written_pattern p)
 
 -- the type and the body under these parameters
 abbrev pub declaring : Scope → Binders → List RawParam → Option RawTerm → Option RawTerm → Scoping Declaration
-declaring scope bound params typ body = declaration_of scope.names.now (binders bound) (map written_param params) (maybe_written typ) (maybe_written body)
+declaring scope bound params typ body = declaration_of (symbols_of scope) (binders bound) (map written_param params) (maybe_written typ) (maybe_written body)
 
 -- the annotations of a context
 abbrev pub noted : ScopedContext → List (Option Tree)

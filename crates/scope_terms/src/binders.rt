@@ -4,7 +4,7 @@
 //! isn't looked for: most names are symbols. A command may have a thousand binders, so each name has one of sixteen classes,
 //! and each binder a link to the next one of its class: the first of the class is come to one by one, and from there on
 //! about one in sixteen is looked at.
-ghost use Rattle.std.specs.Prelude.{◌≡◌, ◌+◌, ◌∷◌, ◌↔◌, IsTrue, IfOk, None, Some};
+ghost use Rattle.std.specs.Prelude.{◌≡◌, ◌+◌, ◌∷◌, ◌↔◌, ℕ, IsTrue, IfOk, None, Some, false};
 ghost use Rattle.std.specs.Option.{option_map};
 ghost use Rattle.scope_terms.specs.Scopes.{binds, number_from};
 ghost use Rattle.scope_terms.specs.Binding.{AreTold, IsIn, IsTold, MayBe, Widens, binders, class_of, first_byte, LeadsTo};
@@ -212,13 +212,25 @@ fn may_be(name: &[u8], spans: &Spans) -> bool
     is_in(name.len(), spans.lengths) && is_in(first_byte(name), spans.firsts)
 }
 
+/// Whether a name may be among those of these binders.
+fn may_be_bound<'a>(name: &[u8], bound: &'a Binders<'a>) -> bool
+    requires { IsTold bound.now }
+    ensures { result ≡ false →
+        (n : ℕ) → number_from n (binds name.now) (binders bound.now) ≡ None }
+{
+    match bound {
+        Binders::Outermost => false,
+        Binders::Named { spans, .. } => may_be(name, spans),
+        Binders::Unnamed(_, outer) => may_be_bound(name, *outer),
+    }
+}
+
 /// The number of the innermost binder so spelt.
-#[tactic(auto, using(crate::proofs::Binding::number_absent))]
 pub(crate) fn variable<'a>(bound: &'a Binders<'a>, name: &[u8]) -> Result<Option<u64>, NoMemory>
     requires { IsTold bound.now }
     ensures { IfOk result (λ found. found ≡ number_from 0 (binds name.now) (binders bound.now)) }
 {
-    if may_be(name, &spans_of(bound)) {
+    if may_be_bound(name, bound) {
         number_among(bound, name, class_of(name))
     } else {
         Ok(None)

@@ -5,7 +5,7 @@ ghost use Rattle.dk_model.specs.declared.code.Fault.TheVariants.{NoMemory};
 ghost use Rattle.scope_terms.specs.Scopes.{no_names, scoped, with_parameter};
 ghost use Rattle.scope_terms.specs.Answers.{IsFaultOf};
 ghost use Rattle.scope_terms.specs.Binding.{IsTold};
-ghost use Rattle.scope_terms.specs.Meanings.{declaration, declaring, term_sense};
+ghost use Rattle.scope_terms.specs.Meanings.{declaration, declaring, rule_variables, term_sense};
 
 use crate::binders::{Binders, under};
 use crate::meaning::Scope;
@@ -63,7 +63,7 @@ pub(crate) fn declaration_at<'a>(
     bound: &'a Binders<'a>,
 ) -> Result<TypeAndBody, Fault>
     requires told { IsTold bound.now }
-    requires none { scope.now.variables.now ≡ no_names }
+    requires none { rule_variables scope.now ≡ no_names }
     ensures ok { IfOk result
         (λ d. declaring scope.now bound.now params.now typ.now body.now ≡ scoped (declaration d)) }
     ensures refused { IfErr result

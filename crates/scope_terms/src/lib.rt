@@ -6,6 +6,7 @@
 
 mod binders;
 mod declaration;
+mod hashing;
 pub mod laws;
 mod left;
 mod meaning;

@@ -1,17 +1,20 @@
 //! What a name means at a place of a command.
 ghost use Rattle.std.specs.Prelude.{◌≡◌, IfOk};
 ghost use Rattle.scope_terms.specs.Binding.{IsTold};
-ghost use Rattle.scope_terms.specs.Meanings.{meaning, sense};
+ghost use Rattle.scope_terms.specs.Meanings.{meaning, sense, free_sense, symbol_sense};
 
 use crate::Names;
 use crate::binders::{Binders, variable};
 use dk_model::NoMemory;
 
-/// What names may mean beside binders: the symbols, and the rule variables of the rule.
+/// What names may mean beside binders: the symbols, and in a rule its variables.
 #[derive(Clone, Copy)]
-pub(crate) struct Scope<'a> {
-    pub names: &'a Names,
-    pub variables: &'a Names,
+pub(crate) enum Scope<'a> {
+    Symbols(&'a Names),
+    Rule {
+        symbols: &'a Names,
+        variables: &'a Names,
+    },
 }
 
 /// What a name means.
@@ -35,11 +38,28 @@ pub(crate) fn look_up<'a>(
     if let Some(number) = variable(bound, name)? {
         return Ok(Named::Variable(number));
     }
-    if let Some(number) = scope.variables.number(name) {
-        return Ok(Named::RuleVariable(number));
+    Ok(free(scope, name))
+}
+
+/// What a name that no binder has means.
+fn free(scope: &Scope, name: &[u8]) -> Named
+    ensures { meaning result ≡ free_sense scope.now name.now }
+{
+    match scope {
+        Scope::Symbols(symbols) => symbol(*symbols, name),
+        Scope::Rule { symbols, variables } => match variables.number(name) {
+            Some(number) => Named::RuleVariable(number),
+            None => symbol(*symbols, name),
+        },
     }
-    match scope.names.number(name) {
-        Some(number) => Ok(Named::Symbol(number)),
-        None => Ok(Named::Unknown),
+}
+
+/// What a name means that no rule variable has either.
+fn symbol(symbols: &Names, name: &[u8]) -> Named
+    ensures { meaning result ≡ symbol_sense symbols.now name.now }
+{
+    match symbols.number(name) {
+        Some(number) => Named::Symbol(number),
+        None => Named::Unknown,
     }
 }

@@ -8,6 +8,7 @@ ghost use Rattle.scope_terms.specs.Meanings.{scoping_of};
 
 use crate::binders::Binders;
 use crate::declaration::{TypeAndBody, declaration_at};
+use crate::hashing::NameHasher;
 use crate::meaning::Scope;
 use crate::rule::rules_at;
 use dk_model::{Code, Fault, Listed, NoMemory, Scoped};
@@ -22,7 +23,7 @@ pub type ScopeFault = Fault;
 /// The names that the accepted commands declare, each with the number of its command.
 #[derive(Drop)]
 pub struct Names {
-    numbers: IndexMap<Vec<u8>, u32>,
+    numbers: IndexMap<Vec<u8>, u32, NameHasher>,
     count: u32,
 }
 
@@ -42,7 +43,7 @@ impl Names {
         ensures { IfOk result (λ names. names ≡ no_names) }
     {
         Ok(Names {
-            numbers: IndexMap::new(alloc),
+            numbers: IndexMap::with_hasher(alloc, NameHasher::new()),
             count: 0,
         })
     }
@@ -83,11 +84,7 @@ impl Names {
                 if self.has(name) {
                     return Err(Fault::Refused(Code::E11));
                 }
-                let none = Names::new(alloc)?;
-                let scope = Scope {
-                    names: self,
-                    variables: &none,
-                };
+                let scope = Scope::Symbols(self);
                 let TypeAndBody { typ, body } = declaration_at(
                     alloc,
                     &scope,

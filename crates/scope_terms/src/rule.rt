@@ -33,8 +33,8 @@ fn context_at(alloc: Global, context: &[RawNote], names: &Names) -> Result<Scope
         if variables.has(&entry.name) {
             return Err(Fault::Refused(Code::E13));
         }
-        let scope = Scope {
-            names,
+        let scope = Scope::Rule {
+            symbols: names,
             variables: &variables,
         };
         let note = maybe_term_at(alloc, &scope, &entry.note, &Binders::Outermost)?;
@@ -53,8 +53,8 @@ fn rule_at(alloc: Global, rule: &RawRule, names: &Names) -> Result<ScopedRule, F
     ensures refused { IfErr result (IsFaultOf (rule_sense names.now rule.now)) }
 {
     let ScopedContext { variables, notes } = context_at(alloc, rule.context.as_slice(), names)?;
-    let scope = Scope {
-        names,
+    let scope = Scope::Rule {
+        symbols: names,
         variables: &variables,
     };
     let left = left_at(alloc, &scope, &rule.left, &Binders::Outermost)?;

@@ -7,7 +7,7 @@ ghost use Rattle.dk_parser.specs.Written.{written_apply};
 ghost use Rattle.scope_terms.specs.Scopes.{scoped};
 ghost use Rattle.scope_terms.specs.Answers.{IsFaultOf};
 ghost use Rattle.scope_terms.specs.Binding.{IsTold};
-ghost use Rattle.scope_terms.specs.Meanings.{named_term, term_sense, maybe_sense};
+ghost use Rattle.scope_terms.specs.Meanings.{named_term, term_sense, maybe_sense, application_sense, product_sense, bare_sense, annotated_sense};
 ghost use Rattle.scope_terms.specs.Spines.{applied, written_references, size, total_size};
 
 use crate::binders::{Binders, under};
@@ -79,7 +79,7 @@ fn is_application(it: &RawTerm) -> bool {
 
 /// The term under these binders, or its first code. It nests with brackets and binders, and with no more than three of the
 /// arguments of an application.
-#[tactic(auto, using(crate::proofs::Stages::one_scoped, crate::proofs::Stages::one_fault, crate::proofs::Stages::both_scoped, crate::proofs::Stages::both_first, crate::proofs::Stages::both_second, crate::proofs::Spines::total_pushed, crate::proofs::Spines::spine_begun, crate::proofs::Spines::spine_head_fault, crate::proofs::Spines::spine_further, crate::proofs::Spines::spine_argument_fault))]
+#[cycle(scoping)]
 pub(crate) fn term_at<'a>(
     alloc: Global,
     scope: &Scope,
@@ -95,45 +95,152 @@ pub(crate) fn term_at<'a>(
         RawTerm::Qualified(_) => Err(Fault::Refused(Code::E10)),
         RawTerm::Star => Ok(Term::Star),
         RawTerm::Wild => Err(Fault::Refused(Code::E12)),
-        RawTerm::App(pair) if !is_long(&pair.first) => {
-            let f = term_at(alloc, scope, &pair.first, bound)?;
-            let a = term_at(alloc, scope, &pair.second, bound)?;
-            Ok(make_app(alloc, f, a)?)
-        }
         RawTerm::App(pair) => {
-            let (head, arguments) = spine(alloc, &pair.first, &pair.second)?;
-            let mut arguments = arguments;
-            let mut whole = term_at(alloc, scope, head, bound)?;
-            while let Some(argument) = arguments.pop() {
-                let argument = term_at(alloc, scope, argument, bound)?;
-                whole = make_app(alloc, whole, argument)?;
+            if is_long(&pair.first) {
+                spine_at(alloc, scope, &pair.first, &pair.second, bound)
+            } else {
+                application_at(alloc, scope, &pair.first, &pair.second, bound)
             }
-            Ok(whole)
         }
-        RawTerm::Arrow(pair) => {
-            let a = term_at(alloc, scope, &pair.first, bound)?;
-            let under = under(None, bound)?;
-            let b = term_at(alloc, scope, &pair.second, &under)?;
-            Ok(make_product(alloc, a, b)?)
+        RawTerm::Arrow(pair) => product_at(alloc, scope, None, &pair.first, &pair.second, bound),
+        RawTerm::Prod(it) => {
+            product_at(
+                alloc,
+                scope,
+                it.binder.as_ref(),
+                &it.domain,
+                &it.body,
+                bound,
+            )
         }
-        RawTerm::Prod(binding) => {
-            let a = term_at(alloc, scope, &binding.domain, bound)?;
-            let under = under(binding.binder.as_ref(), bound)?;
-            let b = term_at(alloc, scope, &binding.body, &under)?;
-            Ok(make_product(alloc, a, b)?)
-        }
-        RawTerm::Bare(bare) => {
-            let under = under(bare.binder.as_ref(), bound)?;
-            let b = term_at(alloc, scope, &bare.body, &under)?;
-            Ok(make_bare(alloc, b)?)
-        }
-        RawTerm::Annotated(binding) => {
-            let a = term_at(alloc, scope, &binding.domain, bound)?;
-            let under = under(binding.binder.as_ref(), bound)?;
-            let b = term_at(alloc, scope, &binding.body, &under)?;
-            Ok(make_annotated(alloc, a, b)?)
+        RawTerm::Bare(it) => bare_at(alloc, scope, it.binder.as_ref(), &it.body, bound),
+        RawTerm::Annotated(it) => {
+            annotated_at(
+                alloc,
+                scope,
+                it.binder.as_ref(),
+                &it.domain,
+                &it.body,
+                bound,
+            )
         }
     }
+}
+
+/// `f a`.
+#[cycle(scoping)]
+#[inline(never)]
+#[tactic(auto, using(crate::proofs::Stages::both_scoped, crate::proofs::Stages::both_first, crate::proofs::Stages::both_second))]
+fn application_at<'a>(
+    alloc: Global,
+    scope: &Scope,
+    f: &'a RawTerm,
+    a: &'a RawTerm,
+    bound: &'a Binders<'a>,
+) -> Result<Term, Fault>
+    requires told { IsTold bound.now }
+    ensures ok { IfOk result
+        (λ t. application_sense scope.now bound.now f.now a.now ≡ scoped (tree t)) }
+    ensures refused { IfErr result (IsFaultOf (application_sense scope.now bound.now f.now a.now)) }
+{
+    let f = term_at(alloc, scope, f, bound)?;
+    let a = term_at(alloc, scope, a, bound)?;
+    Ok(make_app(alloc, f, a)?)
+}
+
+/// The same, argument by argument.
+#[cycle(scoping)]
+#[inline(never)]
+#[tactic(auto, using(crate::proofs::Stages::both_scoped, crate::proofs::Stages::both_first, crate::proofs::Stages::both_second, crate::proofs::Spines::total_pushed, crate::proofs::Spines::spine_begun, crate::proofs::Spines::spine_head_fault, crate::proofs::Spines::spine_further, crate::proofs::Spines::spine_argument_fault))]
+fn spine_at<'a>(
+    alloc: Global,
+    scope: &Scope,
+    f: &'a RawTerm,
+    a: &'a RawTerm,
+    bound: &'a Binders<'a>,
+) -> Result<Term, Fault>
+    requires told { IsTold bound.now }
+    ensures ok { IfOk result
+        (λ t. application_sense scope.now bound.now f.now a.now ≡ scoped (tree t)) }
+    ensures refused { IfErr result (IsFaultOf (application_sense scope.now bound.now f.now a.now)) }
+{
+    let (head, arguments) = spine(alloc, f, a)?;
+    let mut arguments = arguments;
+    let mut whole = term_at(alloc, scope, head, bound)?;
+    while let Some(argument) = arguments.pop() {
+        let argument = term_at(alloc, scope, argument, bound)?;
+        whole = make_app(alloc, whole, argument)?;
+    }
+    Ok(whole)
+}
+
+/// `x : a -> b`, and `a -> b` where there is no `x`.
+#[cycle(scoping)]
+#[inline(never)]
+#[tactic(auto, using(crate::proofs::Stages::both_scoped, crate::proofs::Stages::both_first, crate::proofs::Stages::both_second))]
+fn product_at<'a>(
+    alloc: Global,
+    scope: &Scope,
+    x: Option<&'a Listed<u8>>,
+    a: &'a RawTerm,
+    b: &'a RawTerm,
+    bound: &'a Binders<'a>,
+) -> Result<Term, Fault>
+    requires told { IsTold bound.now }
+    ensures ok { IfOk result
+        (λ t. product_sense scope.now bound.now x.entry a.now b.now ≡ scoped (tree t)) }
+    ensures refused { IfErr result
+        (IsFaultOf (product_sense scope.now bound.now x.entry a.now b.now)) }
+{
+    let a = term_at(alloc, scope, a, bound)?;
+    let under = under(x, bound)?;
+    let b = term_at(alloc, scope, b, &under)?;
+    Ok(make_product(alloc, a, b)?)
+}
+
+/// `x => b`.
+#[cycle(scoping)]
+#[inline(never)]
+#[tactic(auto, using(crate::proofs::Stages::one_scoped, crate::proofs::Stages::one_fault))]
+fn bare_at<'a>(
+    alloc: Global,
+    scope: &Scope,
+    x: Option<&'a Listed<u8>>,
+    b: &'a RawTerm,
+    bound: &'a Binders<'a>,
+) -> Result<Term, Fault>
+    requires told { IsTold bound.now }
+    ensures ok { IfOk result
+        (λ t. bare_sense scope.now bound.now x.entry b.now ≡ scoped (tree t)) }
+    ensures refused { IfErr result (IsFaultOf (bare_sense scope.now bound.now x.entry b.now)) }
+{
+    let under = under(x, bound)?;
+    let b = term_at(alloc, scope, b, &under)?;
+    Ok(make_bare(alloc, b)?)
+}
+
+/// `x : a => b`.
+#[cycle(scoping)]
+#[inline(never)]
+#[tactic(auto, using(crate::proofs::Stages::both_scoped, crate::proofs::Stages::both_first, crate::proofs::Stages::both_second))]
+fn annotated_at<'a>(
+    alloc: Global,
+    scope: &Scope,
+    x: Option<&'a Listed<u8>>,
+    a: &'a RawTerm,
+    b: &'a RawTerm,
+    bound: &'a Binders<'a>,
+) -> Result<Term, Fault>
+    requires told { IsTold bound.now }
+    ensures ok { IfOk result
+        (λ t. annotated_sense scope.now bound.now x.entry a.now b.now ≡ scoped (tree t)) }
+    ensures refused { IfErr result
+        (IsFaultOf (annotated_sense scope.now bound.now x.entry a.now b.now)) }
+{
+    let a = term_at(alloc, scope, a, bound)?;
+    let under = under(x, bound)?;
+    let b = term_at(alloc, scope, b, &under)?;
+    Ok(make_annotated(alloc, a, b)?)
 }
 
 /// The term where there is one.
