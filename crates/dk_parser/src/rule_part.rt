@@ -224,8 +224,8 @@ impl CommandSoFar {
         right: RawTerm,
         sign: Sign,
     ) -> Result<Advance, NoMemory>
-        ensures { IfOk result (λ step. plain_step step self.new ≡ behind_rule
-            (with_rule (plain_rule_head self.old.rules) (written_pattern left) (written right)) sign) }
+        ensures { IfOk result (λ step. plain_step step self.new ≡ behind_rule (with_rule
+            (plain_rule_head self.old.rules) (written_pattern left) (written right)) sign) }
     {
         self.rules.rule(alloc, left, right)?;
         self.behind_rule(alloc, sign)

@@ -11,8 +11,8 @@ pub data Role : Type 0 where
   at_front : Role
   domain : Option (List ℕ) → Role
 
--- what has been read of an application and what stands before it: nothing or some atoms; a name or a wildcard at the front of a
--- term, which is a binder or else the first atom; or a binder and its domain in brackets, behind which an arrow is due
+-- what has been read of an application and what stands before it: nothing or some atoms; a name or a wildcard at the
+-- front of a term, a binder or else the first atom; or a binder and its domain in brackets, behind which an arrow is due
 pub data Application : Type 0 where
   reading : Role → Option Written → Application
   bindable : Option (List ℕ) → Application
@@ -122,7 +122,7 @@ term_next p (terminal.Sign sign.DoubleArrow) = double_arrow_next p.frames p.appl
 term_next p (terminal.Sign s) = end_next p.frames p.application s
 term_next p x = term_refuses
 
--- what has been read of an application of patterns: nothing or some atoms; or a name or a wildcard, a binder or else the first atom
+-- what has been read of an application of patterns: nothing or some atoms; or a binder or else the first atom
 pub data LeftApplication : Type 0 where
   pattern_reading : Option WrittenPattern → LeftApplication
   pattern_bindable : Option (List ℕ) → LeftApplication
