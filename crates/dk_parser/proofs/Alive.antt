@@ -7,7 +7,7 @@ use Rattle.dk_lexer.specs.declared.token.Sign.{Sign}
 use Rattle.dk_lexer.specs.declared.token.Sign.TheVariants as sign
 use Rattle.dk_terms.specs.declared.terminal.Terminal.{Terminal}
 use Rattle.dk_terms.specs.declared.terminal.Terminal.TheVariants as terminal
-use Rattle.dk_terms.specs.Parsing.{at_front, domain, Application, reading, bindable, bracketed, Frame, bracket_frame, wrapping, TermSoFar, binder_term, applied_to, ended, PatternFrame, pattern_bracket, pattern_wrapping, LeftApplication, pattern_reading, pattern_bindable, LeftSoFar, left_ended, binder_pattern, left_read, pattern_applied_to, end_left}
+use Rattle.dk_terms.specs.Parsing.{at_front, domain, Application, reading, bindable, bracketed, Frame, bracket_frame, wrapping, binder_term, applied_to, ended, PatternFrame, pattern_bracket, pattern_wrapping, LeftApplication, pattern_reading, pattern_bindable, LeftSoFar, left_ended, binder_pattern, left_read, pattern_applied_to, end_left}
 use Rattle.dk_parser.specs.Written.{Written, written_star, written_product, WrittenParam, WrittenPattern, pattern_wild, pattern_guard, WrittenForm, written_declare, written_rules}
 use Rattle.dk_parser.specs.Grammar.{colon, dot, arrow, open_square, close_square, close_brace, rule}
 use Rattle.dk_parser.specs.Parsing.{Head, with_param, RuleHead, with_entry, Purpose, as_param, as_type, as_body, as_entry, as_guard, as_right, CommandSoFar, command_due, name_due, head_due, binder_due, binder_colon_due, rule_name_due, rule_brace_due, square_due, context_due, entry_due, entry_named, in_left, in_term, in_term_by, in_left_by, in_left_next, Advance, goes, advanced}

@@ -7,9 +7,9 @@ use Rattle.dk_lexer.specs.declared.token.Sign.{Sign}
 use Rattle.dk_lexer.specs.declared.token.Sign.TheVariants as sign
 use Rattle.dk_terms.specs.declared.terminal.Terminal.{Terminal}
 use Rattle.dk_terms.specs.declared.terminal.Terminal.TheVariants as terminal
-use Rattle.dk_terms.specs.Parsing.{Role, at_front, domain, Application, reading, bindable, Frame, bracket_frame, wrapping, TermSoFar, term_due, TermStep, binder_term, applied_to, end_next, term_next, PatternFrame, pattern_bracket, pattern_wrapping, LeftApplication, pattern_reading, pattern_bindable, LeftSoFar, left_due, binder_pattern, left_read, pattern_applied_to}
+use Rattle.dk_terms.specs.Parsing.{Role, at_front, domain, Application, reading, bindable, Frame, bracket_frame, wrapping, TermSoFar, term_due, TermStep, binder_term, applied_to, end_next, term_next, PatternFrame, pattern_bracket, pattern_wrapping, LeftApplication, pattern_reading, pattern_bindable, left_due, binder_pattern, left_read, pattern_applied_to}
 use Rattle.dk_parser.specs.Written.{Written, written_arrow, written_product, written_bare, written_annotated, WrittenPattern, pattern_guard, pattern_bare, WrittenParam, WrittenNote, WrittenRule, WrittenForm, written_declare, written_rules}
-use Rattle.dk_parser.specs.Grammar.{colon, arrow, double_arrow, open_bracket, close_bracket, open_brace, close_brace, long_arrow, SpellsBinder, spells_binder, spells_no_binder, SpellsAtom, spells_name, spells_qualified, spells_star, spells_wildcard, spells_brackets, SpellsApplication, spells_head, spells_applied, SpellsTerm, spells_application, spells_arrow, spells_product, spells_bracketed_product, spells_bare, spells_annotated, SpellsPatternAtom, spells_pattern_name, spells_pattern_qualified, spells_pattern_wildcard, spells_guard, spells_pattern_brackets, SpellsPatternApplication, spells_pattern_head, spells_pattern_applied, SpellsPattern, spells_pattern_application, spells_pattern_bare, defined, dot, open_square, close_square, comma, param, entry, rule, SpellsParams, spells_no_params, spells_params, SpellsEntry, spells_entry, spells_typed_entry, SpellsEntries, spells_last_entry, spells_more_entries, SpellsContext, spells_no_context, spells_context, spells_no_rule_name, spells_rule_name, spells_qualified_rule_name, SpellsRule, spells_rule, SpellsRules, spells_last_rule, spells_more_rules, SpellsForm, spells_static, spells_definable, spells_definition, spells_typed_definition, spells_theorem, spells_rules}
+use Rattle.dk_parser.specs.Grammar.{colon, arrow, double_arrow, open_bracket, close_bracket, open_brace, close_brace, long_arrow, SpellsBinder, spells_binder, spells_no_binder, SpellsAtom, spells_name, spells_qualified, spells_star, spells_wildcard, spells_brackets, SpellsApplication, spells_head, spells_applied, SpellsTerm, spells_application, spells_arrow, spells_product, spells_bracketed_product, spells_bare, spells_annotated, SpellsPatternAtom, spells_pattern_name, spells_pattern_qualified, spells_pattern_wildcard, spells_guard, spells_pattern_brackets, SpellsPatternApplication, spells_pattern_head, spells_pattern_applied, SpellsPattern, spells_pattern_application, spells_pattern_bare, defined, dot, open_square, close_square, comma, param, rule, SpellsParams, spells_no_params, spells_params, SpellsEntry, spells_entry, spells_typed_entry, SpellsEntries, spells_last_entry, spells_more_entries, SpellsContext, spells_no_context, spells_context, spells_no_rule_name, spells_rule_name, spells_qualified_rule_name, SpellsRule, spells_rule, SpellsRules, spells_last_rule, spells_more_rules, SpellsForm, spells_static, spells_definable, spells_definition, spells_typed_definition, spells_theorem, spells_rules}
 use Rattle.dk_parser.specs.Parsing.{Purpose, as_guard, as_right, RuleHead, CommandSoFar, in_left, in_term, in_term_by, behind_term, Head, with_entry, as_param, as_type, as_body, as_entry, command_due, head_due, binder_due, binder_colon_due, rule_name_due, rule_brace_due, context_due, entry_due, entry_named, Advance, goes, behind_entry, behind_rule, named_next, advanced, ends, refuses}
 
 -- the part after these terminals, or the form and what is behind it, or no command

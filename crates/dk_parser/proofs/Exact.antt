@@ -1,5 +1,5 @@
 -- Reading is exact: what the parser makes of a list of tokens is its one reading.
-use Rattle.std.proofs.Common.{◌≡◌, ℕ, ◌<◌, ◌≤◌, Bool, true, false, List, [], ◌∷◌, ◌++◌, refl, sym, ap, ◌∙◌, subst, append_assoc, inl, inr, append-nil}
+use Rattle.std.proofs.Common.{◌≡◌, ℕ, ◌≤◌, Bool, true, false, List, [], ◌∷◌, ◌++◌, refl, sym, ap, ◌∙◌, subst, append_assoc, inl, inr, append-nil}
 use Rattle.std.proofs.lemmas.Bool.{le-ltb, lt-ltb, ltb-false, ltb-true}
 use Rattle.std.specs.Prelude.{Option, Some, None, IsSome, unwrap_or, nat_lt, ◌⊎◌}
 use Rattle.dk_model.specs.declared.code.Code.{Code}
@@ -12,7 +12,7 @@ use Rattle.dk_terms.specs.Terminals.{terminal_of}
 use Rattle.dk_parser.specs.Written.{WrittenForm, WrittenCommand}
 use Rattle.dk_parser.specs.Grammar.{SpellsForm, terminals, first_line, Spells, Begins, IsBegun}
 use Rattle.dk_parser.specs.Levels.{Standing, at_start, standing_behind, standing_from, standing, level_or_argument, IsWithin}
-use Rattle.dk_parser.specs.Parsing.{CommandSoFar, command_due, Advance, goes, ends, refuses, advanced, Parsing, started, refused, Turn, turn, turn_by_step, turn_by_fault, refusal, parsing_from, answered, commands_from}
+use Rattle.dk_parser.specs.Parsing.{CommandSoFar, command_due, Advance, goes, ends, refuses, advanced, Parsing, started, Turn, turn, turn_by_step, turn_by_fault, refusal, parsing_from, answered, commands_from}
 use Rattle.dk_parser.specs.Reading.{IsFault, IsFront, TokenReading, with_command, Reads, reads_nothing, reads_front, reads_fault, reads_command}
 use Rattle.dk_parser.specs.Steps.{reading_at, read_tokens, Extends}
 use Rattle.dk_parser.proofs.Complete.{no_append, Run, going, ended, stuck, run_by, run, Ends, run_next, run_step, front_goes, complete}

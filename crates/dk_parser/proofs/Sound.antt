@@ -1,5 +1,5 @@
 -- What is read is spelt so.
-use Rattle.std.proofs.Common.{◌≡◌, ℕ, List, [], ◌∷◌, ◌++◌, refl, sym, ap, ◌∙◌, subst, append_assoc, append-nil}
+use Rattle.std.proofs.Common.{◌≡◌, ℕ, List, [], ◌∷◌, ◌++◌, sym, ap, ◌∙◌, subst, append_assoc, append-nil}
 use Rattle.std.specs.Prelude.{Option, Some, None}
 use Rattle.dk_model.specs.declared.signature.SymSort.{SymSort}
 use Rattle.dk_model.specs.declared.signature.SymSort.TheVariants.{Static, Definable, Theorem}
@@ -10,7 +10,7 @@ use Rattle.dk_terms.specs.declared.terminal.Terminal.TheVariants as terminal
 use Rattle.dk_terms.specs.Parsing.{TermSoFar, term_due, TermStep, term_goes, term_ends, term_refuses, term_next, LeftSoFar, left_due, LeftStep, left_goes, left_ends, left_refuses, left_next, with_atom}
 use Rattle.dk_parser.specs.Written.{Written, WrittenParam, WrittenPattern, pattern_guard, WrittenNote, WrittenRule, WrittenForm, written_declare}
 use Rattle.dk_parser.specs.Grammar.{colon, defined, dot, open_bracket, close_bracket, open_square, close_square, open_brace, close_brace, comma, long_arrow, param, entry, rule, SpellsBinder, spells_binder, spells_no_binder, SpellsTerm, SpellsPatternApplication, spells_guard, SpellsParams, spells_no_params, spells_params, SpellsEntry, spells_entry, spells_typed_entry, SpellsEntries, spells_last_entry, spells_more_entries, SpellsContext, spells_no_context, spells_context, SpellsRuleName, spells_no_rule_name, spells_rule_name, spells_qualified_rule_name, SpellsRule, spells_rule, SpellsRules, spells_last_rule, spells_more_rules, SpellsForm, spells_static, spells_definable, spells_definition, spells_typed_definition, spells_theorem, spells_rules}
-use Rattle.dk_parser.specs.Parsing.{Head, with_param, RuleHead, no_rules, with_entry, with_rule, Purpose, as_param, as_type, as_body, as_entry, as_guard, as_right, CommandSoFar, command_due, name_due, head_due, binder_due, binder_colon_due, rule_name_due, rule_brace_due, square_due, context_due, entry_due, entry_named, in_left, in_term, Advance, goes, ends, refuses, behind_entry, behind_rule, behind_term, in_term_by, head_next, named_next, in_left_by, in_left_next, dot_behind_type, body_behind_type, body_behind_head, advanced}
+use Rattle.dk_parser.specs.Parsing.{Head, RuleHead, with_entry, Purpose, as_param, as_type, as_body, as_entry, as_guard, as_right, CommandSoFar, command_due, name_due, head_due, binder_due, binder_colon_due, rule_name_due, rule_brace_due, square_due, context_due, entry_due, entry_named, in_left, in_term, Advance, goes, ends, refuses, behind_entry, behind_rule, behind_term, in_term_by, head_next, named_next, in_left_by, in_left_next, dot_behind_type, body_behind_type, advanced}
 use Rattle.dk_parser.proofs.Complete.{ended, run, run_by, Ends}
 use Rattle.dk_parser.proofs.SoundTerms.{within_lists, nested_lists, ReachedTerm, nothing_reached, MadeTerm, term_made, ReachedLeft, left_reached_nothing, left_atom_reached, MadeLeft, left_made}
 

@@ -4,9 +4,7 @@ use Rattle.dk_model.specs.declared.code.Fault.{Fault}
 use Rattle.dk_model.specs.declared.code.Fault.TheVariants as fault
 use Rattle.dk_model.specs.declared.limits.Limits.{Limits}
 use Rattle.dk_lexer.specs.declared.token.Token.{Token}
-use Rattle.dk_terms.specs.declared.term_so_far.TermSoFar.{TermSoFar}
 use Rattle.dk_parser.specs.declared.declare_part.Head.{Head}
-use Rattle.dk_terms.specs.declared.left_so_far.LeftSoFar.{LeftSoFar}
 use Rattle.dk_parser.specs.declared.rule_part.RuleHead.{RuleHead}
 use Rattle.dk_parser.specs.declared.command_so_far.Purpose.{Purpose}
 use Rattle.dk_parser.specs.declared.command_so_far.Purpose.TheVariants as purpose
