@@ -19,8 +19,9 @@ use std::mem;
 use std::sync::{Arc, Wait};
 use ticket_slot::Slot;
 
-/// How many answered jobs are kept for the reader at most.
-const MOST_SPENT: usize = 64;
+/// How many answered jobs are kept for the reader at most: more than a worker answers between two of its sleeps where the
+/// reader is the slower one.
+const MOST_SPENT: usize = 256;
 
 /// A board that the reader and the workers share. Contracts see the identity that its passes carry.
 pub struct Board<C: Checker> {

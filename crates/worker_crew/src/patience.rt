@@ -1,25 +1,19 @@
 //! How long a worker that found nothing to claim leaves the board alone.
 use std::sync::Wait;
 use std::sync::atomic::AtomicU64;
-use std::thread;
 use std::time::Duration;
-
-/// After a rest of so many yields it sleeps.
-const MOST_YIELDS: u32 = 16;
 
 /// The first sleep and the longest, in microseconds.
 const FIRST_SLEEP: u64 = 50;
 
 const LONGEST_SLEEP: u64 = 1000;
 
-/// What a worker waits before it asks the board again. The first worker stays near the board. Each further one is wanted
-/// only where jobs pile up, and what it costs the others to find nothing is more than what it brings to find something
-/// soon; so it sleeps its longest at once (docs/board-lock.md).
+/// What a worker waits before it asks the board again. The first worker sleeps for as long as some jobs take to come. Each
+/// further one is wanted only where jobs pile up, and what it costs the others to find nothing is more than what it brings
+/// to find something soon; so it sleeps its longest at once (docs/board-lock.md).
 #[derive(Drop)]
 pub struct Patience {
-    // How many times it yields at its next rest.
-    yields: u32,
-    // How many microseconds it sleeps once it has yielded enough.
+    // How many microseconds the next sleep takes.
     sleep: u64,
     // What it sleeps on. No other thread has it, so nothing ends a sleep but its time.
     own: AtomicU64,
@@ -28,29 +22,20 @@ pub struct Patience {
 impl Patience {
     /// That of the worker of this number, from 1, as it comes from a task.
     pub fn of(worker: u32) -> Patience {
-        let (yields, sleep) = if worker <= 1 {
-            (1, FIRST_SLEEP)
-        } else {
-            (MOST_YIELDS + 1, LONGEST_SLEEP)
-        };
         Patience {
-            yields,
-            sleep,
+            sleep: if worker <= 1 {
+                FIRST_SLEEP
+            } else {
+                LONGEST_SLEEP
+            },
             own: AtomicU64::new(0),
         }
     }
 
-    /// Lets other threads run, and twice as long the next time, up to the longest sleep.
+    /// Sleeps, and twice as long the next time, up to the longest sleep.
     pub fn rest<R: Wait>(&mut self, rt: &R) {
-        if self.yields > MOST_YIELDS {
-            self.own
-                .park_timeout(rt, 0, Duration::from_micros(self.sleep));
-            self.sleep = self.sleep.saturating_mul(2).min(LONGEST_SLEEP);
-            return;
-        }
-        for _ in 0..self.yields {
-            thread::yield_now();
-        }
-        self.yields *= 2;
+        self.own
+            .park_timeout(rt, 0, Duration::from_micros(self.sleep));
+        self.sleep = self.sleep.saturating_mul(2).min(LONGEST_SLEEP);
     }
 }
