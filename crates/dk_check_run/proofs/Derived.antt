@@ -1,8 +1,9 @@
 -- Where a file is accepted, each command has a derivation over the commands before it.
-use Rattle.std.proofs.Common.{◌≡◌, ℕ, ◌+◌, Bool, true, false, List, [], ◌∷◌, ◌++◌, refl, sym, ap, subst, ◌∙◌, arith}
+use Rattle.std.proofs.Common.{◌≡◌, ℕ, ◌+◌, Bool, true, false, List, [], ◌∷◌, ◌++◌, refl, sym, subst, ◌∙◌, arith}
+use Rattle.std.proofs.lemmas.List.{append-nil}
 use Rattle.std.specs.Prelude.{Option, Some, if◌then◌else◌, nat_le}
 use Rattle.dk_model.specs.Scoping.{PlainCommand}
-use Rattle.dk_model.specs.Signatures.{PlainEntry, PlainSignature}
+use Rattle.dk_model.specs.Signatures.{PlainSignature}
 use Rattle.dk_model.specs.Verdicts.{entry_of, inferred_type}
 use Rattle.dk_model.specs.declared.code.Code.TheVariants.{E08}
 use Rattle.dk_model.specs.declared.code.Verdict.{Verdict}
@@ -35,12 +36,8 @@ scoped_derives S budget T (scoped command) same formed e =
     subst (λ (U : PlainSignature). HasDerivation U command) (sym same)
     (accepted_derives S (whnf_reduces S numbered) (normal_reduces S numbered) (comparison_joins S numbered) (formed_plain S formed) command budget e)
 
-append_none : (xs : List PlainEntry) → xs ++ [] ≡ xs
-append_none [] = refl
-append_none (x ∷ xs) = ap (λ ys. x ∷ ys) (append_none xs)
-
 formed_after : (S : PlainSignature) (budget : ℕ) (s : Scoping PlainCommand) → IsSignature S → IsSignature (S ++ scoped_entry S budget s)
-formed_after S budget (refused code) formed = subst IsSignature (sym (append_none S)) formed
+formed_after S budget (refused code) formed = subst IsSignature (sym (append-nil S)) formed
 formed_after S budget (scoped c) formed = formed_more S (entry_of S c (inferred_type S c budget)) formed (command_entry S formed c budget)
 
 -- below the limit of commands
