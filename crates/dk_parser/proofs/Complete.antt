@@ -10,7 +10,7 @@ use Rattle.dk_terms.specs.declared.terminal.Terminal.TheVariants as terminal
 use Rattle.dk_terms.specs.Parsing.{Role, at_front, domain, Application, reading, bindable, Frame, bracket_frame, wrapping, TermSoFar, term_due, TermStep, binder_term, applied_to, end_next, term_next, PatternFrame, pattern_bracket, pattern_wrapping, LeftApplication, pattern_reading, pattern_bindable, left_due, binder_pattern, left_read, pattern_applied_to}
 use Rattle.dk_parser.specs.Written.{Written, written_arrow, written_product, written_bare, written_annotated, WrittenPattern, pattern_guard, pattern_bare, WrittenParam, WrittenNote, WrittenRule, WrittenForm, written_declare, written_rules}
 use Rattle.dk_parser.specs.Grammar.{colon, arrow, double_arrow, open_bracket, close_bracket, open_brace, close_brace, long_arrow, SpellsBinder, spells_binder, spells_no_binder, SpellsAtom, spells_name, spells_qualified, spells_star, spells_wildcard, spells_brackets, SpellsApplication, spells_head, spells_applied, SpellsTerm, spells_application, spells_arrow, spells_product, spells_bracketed_product, spells_bare, spells_annotated, SpellsPatternAtom, spells_pattern_name, spells_pattern_qualified, spells_pattern_wildcard, spells_guard, spells_pattern_brackets, SpellsPatternApplication, spells_pattern_head, spells_pattern_applied, SpellsPattern, spells_pattern_application, spells_pattern_bare, defined, dot, open_square, close_square, comma, param, rule, SpellsParams, spells_no_params, spells_params, SpellsEntry, spells_entry, spells_typed_entry, SpellsEntries, spells_last_entry, spells_more_entries, SpellsContext, spells_no_context, spells_context, spells_no_rule_name, spells_rule_name, spells_qualified_rule_name, SpellsRule, spells_rule, SpellsRules, spells_last_rule, spells_more_rules, SpellsForm, spells_static, spells_definable, spells_definition, spells_typed_definition, spells_theorem, spells_rules}
-use Rattle.dk_parser.specs.Parsing.{Purpose, as_guard, as_right, RuleHead, CommandSoFar, in_left, in_term, in_term_by, behind_term, Head, with_entry, as_param, as_type, as_body, as_entry, command_due, head_due, binder_due, binder_colon_due, rule_name_due, rule_brace_due, context_due, entry_due, entry_named, Advance, goes, behind_entry, behind_rule, named_next, advanced, ends, refuses}
+use Rattle.dk_parser.specs.Parsing.{Purpose, as_guard, as_right, RuleHead, CommandSoFar, in_left, in_term, in_term_by, behind_term, Head, with_entry, as_param, as_type, as_body, as_entry, command_due, head_due, binder_due, binder_colon_due, rule_name_due, square_due, context_due, entry_due, entry_named, Advance, goes, behind_entry, named_next, advanced, ends, refuses}
 
 -- the part after these terminals, or the form and what is behind it, or no command
 pub data Run : Type 0 where
@@ -93,11 +93,8 @@ module _ (purpose : Purpose) where
 
   atom_follows : {ys : List Terminal} {a : Written} → SpellsAtom ys a → (role : Role) (zs : List Terminal) → Follows role (ys ++ zs)
   atom_follows k (domain w) zs = tt
-  atom_follows spells_name at_front zs = λ fs v. refl
-  atom_follows spells_qualified at_front zs = λ fs v. refl
-  atom_follows spells_star at_front zs = λ fs v. refl
-  atom_follows spells_wildcard at_front zs = λ fs v. refl
   atom_follows (spells_brackets k) at_front zs = λ fs v. refl
+  atom_follows k at_front zs = λ fs v. refl
 
   abbrev AtomRuns : List Terminal → Written → Type 0
   AtomRuns ys a = (fs : List Frame) (role : Role) (o : Option Written) (zs : List Terminal) → Follows role zs → run (at fs (reading role o)) (ys ++ zs) ≡ run (at fs (reading role (Some (applied_to o a)))) zs
@@ -109,12 +106,9 @@ module _ (purpose : Purpose) where
   TermRuns xs a = (fs : List Frame) (e : Sign) (rest : List Terminal) → Enders e → run (at fs (reading at_front None)) (xs ++ terminal.Sign e ∷ rest) ≡ run (at fs (reading at_front (Some a))) (terminal.Sign e ∷ rest)
 
   binder_runs : {x : Terminal} {v : Option (List ℕ)} → SpellsBinder x v → AtomRuns (x ∷ []) (binder_term v)
-  binder_runs spells_binder fs (domain w) o zs h = refl
-  binder_runs spells_binder fs at_front (Some f) zs h = refl
   binder_runs (spells_binder {n}) fs at_front None zs h = h fs (Some n)
-  binder_runs spells_no_binder fs (domain w) o zs h = refl
-  binder_runs spells_no_binder fs at_front (Some f) zs h = refl
   binder_runs spells_no_binder fs at_front None zs h = h fs None
+  binder_runs b fs role o zs h = refl
 
   -- a term goes into what makes a longer one of it
   wrapped_runs : (ys : List Terminal) (b : Written) → TermRuns ys b → (g : Written → Written) (fs : List Frame) (e : Sign) (rest : List Terminal) → Enders e → run (at (wrapping g ∷ fs) (reading at_front None)) (ys ++ terminal.Sign e ∷ rest) ≡ run (at fs (reading at_front (Some (g b)))) (terminal.Sign e ∷ rest)
@@ -188,11 +182,8 @@ module _ (h : RuleHead) where
       ∙ term_complete (as_guard h (record { frames = fs; application = s })) k sign.CloseBrace zs (λ p. refl)
 
   pattern_follows : {ys : List Terminal} {p : WrittenPattern} → SpellsPatternAtom ys p → (zs : List Terminal) → PatternFollows (ys ++ zs)
-  pattern_follows spells_pattern_name zs = λ fs v. refl
-  pattern_follows spells_pattern_qualified zs = λ fs v. refl
-  pattern_follows spells_pattern_wildcard zs = λ fs v. refl
   pattern_follows (spells_guard k) zs = λ fs v. guard_runs k fs (pattern_bindable v) zs ∙ sym (guard_runs k fs (pattern_reading (Some (binder_pattern v))) zs)
-  pattern_follows (spells_pattern_brackets k) zs = λ fs v. refl
+  pattern_follows k zs = λ fs v. refl
 
   abbrev PatternAtomRuns : List Terminal → WrittenPattern → Type 0
   PatternAtomRuns ys p = (fs : List PatternFrame) (o : Option WrittenPattern) (zs : List Terminal) → PatternFollows zs → run (left_at fs (pattern_reading o)) (ys ++ zs) ≡ run (left_at fs (pattern_reading (Some (pattern_applied_to o p)))) zs
@@ -209,10 +200,9 @@ module _ (h : RuleHead) where
   bound_step spells_no_binder f fs zs = refl
 
   pattern_binder_runs : {x : Terminal} {v : Option (List ℕ)} → SpellsBinder x v → PatternAtomRuns (x ∷ []) (binder_pattern v)
-  pattern_binder_runs spells_binder fs (Some f) zs j = refl
   pattern_binder_runs (spells_binder {n}) fs None zs j = j fs (Some n)
-  pattern_binder_runs spells_no_binder fs (Some f) zs j = refl
   pattern_binder_runs spells_no_binder fs None zs j = j fs None
+  pattern_binder_runs b fs o zs j = refl
 
   mutual
     pattern_atom_runs : {ys : List Terminal} {p : WrittenPattern} → SpellsPatternAtom ys p → PatternAtomRuns ys p
@@ -283,89 +273,72 @@ entries_complete p rules before t (spells_more_entries {xs} {ys} {e} {es} s k) r
     ∙ entries_complete (entry_due (rule_head rules (before ++ e ∷ []))) rules (before ++ e ∷ []) (λ n rest. refl) k rest
     ∙ ap (λ fs. run (in_left (rule_head rules fs) left_due) rest) (append_assoc before (e ∷ []) es)
 
--- a context, read from behind its first bracket
-record ContextRun (rules : List WrittenRule) (cs : List Terminal) (es : List WrittenNote) : Type 0 where
-  pub us : List Terminal
-  pub is : cs ≡ open_square ∷ us
-  pub runs : (rest : List Terminal) → run (context_due (rule_head rules [])) (us ++ rest) ≡ run (in_left (rule_head rules es) left_due) rest
+-- a context may begin here
+abbrev TakesContext : CommandSoFar → List WrittenRule → Type 0
+TakesContext p rules = (rest : List Terminal) → run p (open_square ∷ rest) ≡ run (context_due (rule_head rules [])) rest
 
-context_complete : (rules : List WrittenRule) {cs : List Terminal} {es : List WrittenNote} → SpellsContext cs es → ContextRun rules cs es
-context_complete rules spells_no_context = record { us = close_square ∷ []; is = refl; runs = λ rest. refl }
-context_complete rules (spells_context {xs} k) = record {
-  us = xs ++ close_square ∷ [];
-  is = refl;
-  runs = λ rest. ap (run (context_due (rule_head rules []))) (append_assoc xs (close_square ∷ []) rest) ∙ entries_complete (context_due (rule_head rules [])) rules [] (λ n rest. refl) k rest;
-}
+context_complete : (p : CommandSoFar) (rules : List WrittenRule) {cs : List Terminal} {es : List WrittenNote} → TakesContext p rules → SpellsContext cs es → (rest : List Terminal) → run p (cs ++ rest) ≡ run (in_left (rule_head rules es) left_due) rest
+context_complete p rules t spells_no_context rest = t (close_square ∷ rest)
+context_complete p rules t (spells_context {xs} k) rest =
+    t ((xs ++ close_square ∷ []) ++ rest)
+    ∙ ap (run (context_due (rule_head rules []))) (append_assoc xs (close_square ∷ []) rest)
+    ∙ entries_complete (context_due (rule_head rules [])) rules [] (λ n rest. refl) k rest
 
 -- Rules
 
--- rules behind these rules, by the sign that they begin with, and these terminals behind them
-record RulesRun (done : List WrittenRule) (xs behind : List Terminal) (result : Run) : Type 0 where
-  pub first : Sign
-  pub us : List Terminal
-  pub is : xs ≡ terminal.Sign first ∷ us
-  pub enders : Enders first
-  pub begins : advanced command_due (terminal.Sign first) ≡ behind_rule (rule_head [] []) first
-  pub runs : run_by (behind_rule (rule_head done []) first) (λ q. run q (us ++ behind)) (us ++ behind) ≡ result
+-- a rule may begin here
+abbrev TakesRule : CommandSoFar → List WrittenRule → Type 0
+TakesRule p rules = TakesContext p rules × ((rest : List Terminal) → run p (open_brace ∷ rest) ≡ run (rule_name_due (rule_head rules [])) rest)
 
--- the sign behind a rule
-abbrev behind_rules : List WrittenRule → Sign → List Terminal → Run
-behind_rules rules e rest = run_by (behind_rule (rule_head rules []) e) (λ q. run q rest) rest
+-- behind these rules and the right side of this one
+abbrev behind : List WrittenRule → WrittenRule → CommandSoFar
+behind rules r = at (as_right (rule_head rules r.context) r.left) [] (reading at_front (Some r.right))
 
-rule_lists : (us ys zs more : List Terminal) → (us ++ (ys ++ long_arrow ∷ zs)) ++ more ≡ us ++ (ys ++ long_arrow ∷ (zs ++ more))
-rule_lists us ys zs more = simp append_assoc
+rule_lists : (cs ys zs more : List Terminal) → (cs ++ (ys ++ long_arrow ∷ zs)) ++ more ≡ cs ++ (ys ++ long_arrow ∷ (zs ++ more))
+rule_lists cs ys zs more = simp append_assoc
 
 -- a rule from its context on
-body_run : (rules : List WrittenRule) {cs ys zs : List Terminal} {es : List WrittenNote} {l : WrittenPattern} {r : Written} (c : ContextRun rules cs es) → SpellsPatternApplication ys l → SpellsTerm zs r → (e : Sign) (rest : List Terminal) → Enders e →
-    run (context_due (rule_head rules [])) ((c.us ++ (ys ++ long_arrow ∷ zs)) ++ terminal.Sign e ∷ rest) ≡ behind_rules (rules ++ rule es l r ∷ []) e rest
-body_run rules {ys = ys} {zs = zs} {es = es} {l = l} c k t e rest enders =
-    ap (run (context_due (rule_head rules []))) (rule_lists c.us ys zs (terminal.Sign e ∷ rest))
-    ∙ c.runs (ys ++ long_arrow ∷ (zs ++ terminal.Sign e ∷ rest))
+body_runs : (p : CommandSoFar) (rules : List WrittenRule) {cs ys zs : List Terminal} {es : List WrittenNote} {l : WrittenPattern} {r : Written} → TakesContext p rules → SpellsContext cs es → SpellsPatternApplication ys l → SpellsTerm zs r → (e : Sign) (rest : List Terminal) → Enders e →
+    run p ((cs ++ (ys ++ long_arrow ∷ zs)) ++ terminal.Sign e ∷ rest) ≡ run (behind rules (rule es l r)) (terminal.Sign e ∷ rest)
+body_runs p rules {cs} {ys} {zs} {es} {l} t c k r e rest enders =
+    ap (run p) (rule_lists cs ys zs (terminal.Sign e ∷ rest))
+    ∙ context_complete p rules t c (ys ++ long_arrow ∷ (zs ++ terminal.Sign e ∷ rest))
     ∙ left_complete (rule_head rules es) k (zs ++ terminal.Sign e ∷ rest)
-    ∙ term_complete (as_right (rule_head rules es) l) t e rest enders
+    ∙ term_runs (as_right (rule_head rules es) l) r [] e rest enders
 
-named_complete : (rules : List WrittenRule) {cs ys zs : List Terminal} {es : List WrittenNote} {l : WrittenPattern} {r : Written} (n : Terminal) → ((h : RuleHead) → advanced (rule_name_due h) n ≡ goes (rule_brace_due h)) → SpellsContext cs es → SpellsPatternApplication ys l → SpellsTerm zs r → (e : Sign) (rest : List Terminal) → Enders e
-    → RulesRun rules (open_brace ∷ n ∷ close_brace ∷ (cs ++ (ys ++ long_arrow ∷ zs))) (terminal.Sign e ∷ rest) (behind_rules (rules ++ rule es l r ∷ []) e rest)
-named_complete rules {ys = ys} {zs = zs} n named c k t e rest enders =
-    let cs = context_complete rules c in
-    let us = close_brace ∷ open_square ∷ (cs.us ++ (ys ++ long_arrow ∷ zs)) in
-    record {
-      first = sign.OpenBrace;
-      us = n ∷ us;
-      is = ap (λ us. open_brace ∷ n ∷ close_brace ∷ (us ++ (ys ++ long_arrow ∷ zs))) cs.is;
-      enders = λ p. refl;
-      begins = refl;
-      runs = ap (λ (a : Advance). run_by a (λ q. run q (us ++ terminal.Sign e ∷ rest)) (us ++ terminal.Sign e ∷ rest)) (named (rule_head rules [])) ∙ body_run rules cs k t e rest enders;
-    }
+rule_runs : (p : CommandSoFar) (rules : List WrittenRule) {xs : List Terminal} {r : WrittenRule} → TakesRule p rules → SpellsRule xs r → (e : Sign) (rest : List Terminal) → Enders e → run p (xs ++ terminal.Sign e ∷ rest) ≡ run (behind rules r) (terminal.Sign e ∷ rest)
+rule_runs p rules t (spells_rule spells_no_rule_name c k r) e rest enders = body_runs p rules t.0 c k r e rest enders
+rule_runs p rules t (spells_rule {xs} {ys} {zs} (spells_rule_name {n}) c k r) e rest enders =
+    t.1 (terminal.Name n ∷ close_brace ∷ ((xs ++ (ys ++ long_arrow ∷ zs)) ++ terminal.Sign e ∷ rest))
+    ∙ body_runs (square_due (rule_head rules [])) rules (λ rest. refl) c k r e rest enders
+rule_runs p rules t (spells_rule {xs} {ys} {zs} (spells_qualified_rule_name {m} {n}) c k r) e rest enders =
+    t.1 (terminal.Qualified m n ∷ close_brace ∷ ((xs ++ (ys ++ long_arrow ∷ zs)) ++ terminal.Sign e ∷ rest))
+    ∙ body_runs (square_due (rule_head rules [])) rules (λ rest. refl) c k r e rest enders
 
-rule_complete : (rules : List WrittenRule) {xs : List Terminal} {r : WrittenRule} → SpellsRule xs r → (e : Sign) (rest : List Terminal) → Enders e → RulesRun rules xs (terminal.Sign e ∷ rest) (behind_rules (rules ++ r ∷ []) e rest)
-rule_complete rules (spells_rule {xs} {ys} {zs} spells_no_rule_name c k t) e rest enders =
-    let cs = context_complete rules c in
-    record { first = sign.OpenSquare; us = cs.us ++ (ys ++ long_arrow ∷ zs); is = ap (λ us. us ++ (ys ++ long_arrow ∷ zs)) cs.is; enders = λ p. refl; begins = refl; runs = body_run rules cs k t e rest enders }
-rule_complete rules (spells_rule (spells_rule_name {n}) c k t) e rest enders = named_complete rules (terminal.Name n) (λ h. refl) c k t e rest enders
-rule_complete rules (spells_rule (spells_qualified_rule_name {m} {n}) c k t) e rest enders = named_complete rules (terminal.Qualified m n) (λ h. refl) c k t e rest enders
+-- a list begins with a sign that ends an application
+abbrev BeginsBySign : List Terminal → Type 0
+BeginsBySign xs = (s : Sign) × (us : List Terminal) × Enders s × (xs ≡ terminal.Sign s ∷ us)
 
-rules_complete : (done : List WrittenRule) {xs : List Terminal} {rs : List WrittenRule} → SpellsRules xs rs → RulesRun done xs (dot ∷ []) (ended (written_rules (done ++ rs)) [])
-rules_complete done (spells_last_rule s) = rule_complete done s sign.Dot [] (λ p. refl)
-rules_complete done (spells_more_rules {xs} {ys} {r} {rs} s k) =
-    let later = rules_complete (done ++ r ∷ []) k in
-    let one = rule_complete done s later.first (later.us ++ dot ∷ []) later.enders in
-    let lists : (one.us ++ ys) ++ dot ∷ [] ≡ one.us ++ terminal.Sign later.first ∷ (later.us ++ dot ∷ []) = append_assoc one.us ys (dot ∷ []) ∙ ap (λ us. one.us ++ (us ++ dot ∷ [])) later.is in
-    record {
-      first = one.first;
-      us = one.us ++ ys;
-      is = ap (λ us. us ++ ys) one.is;
-      enders = one.enders;
-      begins = one.begins;
-      runs = ap (λ us. run_by (behind_rule (rule_head done []) one.first) (λ q. run q us) us) lists ∙ one.runs ∙ later.runs ∙ ap (λ qs. ended (written_rules qs) []) (append_assoc done (r ∷ []) rs);
-    }
+rule_begins : {xs : List Terminal} {r : WrittenRule} → SpellsRule xs r → BeginsBySign xs
+rule_begins (spells_rule spells_no_rule_name spells_no_context k t) = (sign.OpenSquare, _, λ p. refl, refl)
+rule_begins (spells_rule spells_no_rule_name (spells_context c) k t) = (sign.OpenSquare, _, λ p. refl, refl)
+rule_begins (spells_rule name c k t) = (sign.OpenBrace, _, λ p. refl, refl)
 
-rules_ended : {xs : List Terminal} {rs : List WrittenRule} → SpellsRules xs rs → Ends command_due (xs ++ dot ∷ []) (written_rules rs)
-rules_ended k =
-    let r = rules_complete [] k in
-    ap (λ us. run command_due (us ++ dot ∷ [])) r.is
-    ∙ ap (λ (s : Advance). run_by s (λ q. run q (r.us ++ dot ∷ [])) (r.us ++ dot ∷ [])) r.begins
-    ∙ r.runs
+rules_begin : {xs : List Terminal} {rs : List WrittenRule} → SpellsRules xs rs → BeginsBySign xs
+rules_begin (spells_last_rule s) = rule_begins s
+rules_begin (spells_more_rules {ys = ys} s k) =
+    let b = rule_begins s in
+    (b.0, b.1 ++ ys, b.2, ap (λ us. us ++ ys) b.3)
+
+rules_complete : (p : CommandSoFar) (done : List WrittenRule) {xs : List Terminal} {rs : List WrittenRule} → TakesRule p done → SpellsRules xs rs → Ends p (xs ++ dot ∷ []) (written_rules (done ++ rs))
+rules_complete p done t (spells_last_rule s) = rule_runs p done t s sign.Dot [] (λ p. refl)
+rules_complete p done t (spells_more_rules {xs} {ys} {r} {rs} s k) =
+    let b = rules_begin k in
+    ap (run p) (append_assoc xs ys (dot ∷ []) ∙ ap (λ us. xs ++ (us ++ dot ∷ [])) b.3)
+    ∙ rule_runs p done t s b.0 (b.1 ++ dot ∷ []) b.2
+    ∙ ap (λ us. run (behind done r) (us ++ dot ∷ [])) (sym b.3)
+    ∙ rules_complete (behind done r) (done ++ r ∷ []) (λ rest. refl, λ rest. refl) k
+    ∙ ap (λ rs. ended (written_rules rs) []) (append_assoc done (r ∷ []) rs)
 
 -- Commands
 
@@ -385,4 +358,4 @@ complete (spells_theorem {n} {xs} {ys} {zs} {ps} {a} h k j) =
     params_complete Theorem n [] h (colon ∷ (ys ++ defined ∷ (zs ++ dot ∷ [])))
     ∙ term_complete (as_type (head_of Theorem n ps)) k sign.Defined (zs ++ dot ∷ []) (λ p. refl)
     ∙ body_complete (head_of Theorem n ps) (Some a) j
-complete (spells_rules k) = rules_ended k
+complete (spells_rules k) = rules_complete command_due [] (λ rest. refl, λ rest. refl) k

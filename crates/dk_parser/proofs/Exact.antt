@@ -1,6 +1,7 @@
 -- Reading is exact: what the parser makes of a list of tokens is its one reading.
 use Rattle.std.proofs.Common.{◌≡◌, ℕ, ◌≤◌, Bool, true, false, List, [], ◌∷◌, ◌++◌, refl, sym, ap, ◌∙◌, subst, append_assoc, inl, inr, append-nil}
 use Rattle.std.proofs.lemmas.Bool.{le-ltb, lt-ltb, ltb-false, ltb-true}
+use Rattle.std.proofs.lemmas.List.{map-append}
 use Rattle.std.specs.Prelude.{Option, Some, None, IsSome, unwrap_or, nat_lt, ◌⊎◌}
 use Rattle.dk_model.specs.declared.code.Code.{Code}
 use Rattle.dk_model.specs.declared.code.Code.TheVariants.{E02, E04, E06}
@@ -22,10 +23,6 @@ use Rattle.dk_parser.proofs.Turns.{no_fault, parsing_append, commands_append}
 
 -- Lists
 
-terminals_append : (ts us : List Token) → terminals (ts ++ us) ≡ terminals ts ++ terminals us
-terminals_append [] us = refl
-terminals_append (t ∷ ts) us = ap (λ xs. terminal_of t ∷ xs) (terminals_append ts us)
-
 -- a terminal of a list with one terminal more is the last one, or one of the list without it
 last_split : (xs front rest : List Terminal) (x y : Terminal) → xs ++ x ∷ [] ≡ front ++ y ∷ rest → ((front ≡ xs) × (y ≡ x)) ⊎ ((zs : List Terminal) × (xs ≡ front ++ y ∷ zs))
 last_split [] [] rest x y e =
@@ -43,7 +40,7 @@ last_split (z ∷ xs) (f ∷ front) rest x y e =
     elim (last_split xs front rest x y tail) [ inl h ↦ inl (cc (head, h.0), h.1) | inr h ↦ inr (h.0, cc (head, h.1)) ]
 
 within_more : (limit : ℕ) (front : List Token) (t : Token) → IsWithin limit (terminals front) → level_or_argument (terminals front) (terminal_of t) ≤ limit → IsWithin limit (terminals (front ++ t ∷ []))
-within_more limit front t h k = subst (IsWithin limit) (sym (terminals_append front (t ∷ []))) (λ xs rest y e.
+within_more limit front t h k = subst (IsWithin limit) (sym (map-append terminal_of front (t ∷ []))) (λ xs rest y e.
     elim (last_split (terminals front) xs rest (terminal_of t) y e) [
       | inl f ↦ subst (λ zs. level_or_argument zs y ≤ limit) (sym f.0) (subst (λ z. level_or_argument (terminals front) z ≤ limit) (sym f.1) k)
       | inr f ↦ h xs f.0 y f.1
@@ -64,7 +61,7 @@ begun_by xs (y ∷ rest) p form is e = (y, rest, form, sound (xs ++ y ∷ rest) 
 front_ok : (limits : Limits) (front : List Token) (p : CommandSoFar) → LeadsTo front p → IsWithin limits.levels (terminals front) → IsFront limits front
 front_ok limits front p is w =
     let a = alive p in
-    record { begun = begun_by (terminals front) a.0 p a.1 is a.2; within = w }
+    record { begun = begun_by (terminals front) a.rest p a.form is a.runs; within = w }
 
 -- a step that refuses nothing
 abbrev Takes : Advance → Type 0
@@ -74,7 +71,7 @@ Takes a = Unit {0}
 takes_begins : (a : Advance) (xs : List Terminal) (p : CommandSoFar) (x : Terminal) → run command_due xs ≡ going p → advanced p x ≡ a → Takes a → Begins (xs ++ x ∷ [])
 takes_begins (goes q) xs p x is e h =
     let a = alive q in
-    (a.0, a.1, sound ((xs ++ x ∷ []) ++ a.0) a.1 (run_next command_due q (xs ++ x ∷ []) a.0 (run_step command_due p (goes q) xs x [] is e) ∙ a.2))
+    (a.rest, a.form, sound ((xs ++ x ∷ []) ++ a.rest) a.form (run_next command_due q (xs ++ x ∷ []) a.rest (run_step command_due p (goes q) xs x [] is e) ∙ a.runs))
 takes_begins (ends form) xs p x is e h =
     ([], form, subst (λ ys. SpellsForm ys form) (sym (append-nil (xs ++ x ∷ []))) (sound (xs ++ x ∷ []) form (run_step command_due p (ends form) xs x [] is e)))
 takes_begins refuses xs p x is e h = absurd h
@@ -99,17 +96,15 @@ module _ (limits : Limits) where
       → ((f : List Token) (q : CommandSoFar) → LeadsTo f q → IsWithin limits.levels (terminals f) → HasReading (f ++ us)) → HasReading (front ++ t ∷ us)
   has_step refuses deep front p t us is w e d later =
       (_, reads_fault {front = front} {code = refusal (terminal_of t)} t us (front_ok limits front p is w) (refused_fault limits (terminals front) (terminal_of t) (refused_begins (terminals front) p (terminal_of t) is e)))
-  has_step (goes q) true front p t us is w e d later =
-      (_, reads_fault {front = front} {code = E04} t us (front_ok limits front p is w) (takes_begins (goes q) (terminals front) p (terminal_of t) is e tt, ltb-true _ _ d))
-  has_step (ends form) true front p t us is w e d later =
-      (_, reads_fault {front = front} {code = E04} t us (front_ok limits front p is w) (takes_begins (ends form) (terminals front) p (terminal_of t) is e tt, ltb-true _ _ d))
+  has_step a true front p t us is w e d later =
+      (_, reads_fault {front = front} {code = E04} t us (front_ok limits front p is w) (takes_begins a (terminals front) p (terminal_of t) is e tt, ltb-true _ _ d))
   has_step (goes q) false front p t us is w e d later =
-      let next : LeadsTo (front ++ t ∷ []) q = ap (run command_due) (terminals_append front (t ∷ [])) ∙ run_step command_due p (goes q) (terminals front) (terminal_of t) [] is e in
+      let next : LeadsTo (front ++ t ∷ []) q = ap (run command_due) (map-append terminal_of front (t ∷ [])) ∙ run_step command_due p (goes q) (terminals front) (terminal_of t) [] is e in
       let r = later (front ++ t ∷ []) q next (within_more limits.levels front t w (ltb-false _ _ d)) in
       (r.0, subst (λ ts. Reads limits ts r.0) (append_assoc front (t ∷ []) us) r.1)
   has_step (ends form) false front p t us is w e d later =
       let r = later [] command_due refl (within_nothing limits.levels) in
-      let spelt : SpellsForm (terminals (front ++ t ∷ [])) form = subst (λ xs. SpellsForm xs form) (sym (terminals_append front (t ∷ []))) (sound (terminals front ++ terminal_of t ∷ []) form (run_step command_due p (ends form) (terminals front) (terminal_of t) [] is e)) in (
+      let spelt : SpellsForm (terminals (front ++ t ∷ [])) form = subst (λ xs. SpellsForm xs form) (sym (map-append terminal_of front (t ∷ []))) (sound (terminals front ++ terminal_of t ∷ []) form (run_step command_due p (ends form) (terminals front) (terminal_of t) [] is e)) in (
         _,
         subst (λ ts. Reads limits ts (with_command (record { line = first_line (front ++ t ∷ []); form = form }) r.0)) (append_assoc front (t ∷ []) us)
             (reads_command (record { line = refl; form = spelt }) (within_more limits.levels front t w (ltb-false _ _ d)) r.1),
@@ -181,7 +176,7 @@ module _ (limits : Limits) where
   state_on : (front : List Token) (q : CommandSoFar) (t : Token) → (turn_of front q t (first_line (front ++ t ∷ [])) E02 false (goes q)).state ≡ state_at (front ++ t ∷ []) q
   state_on front q t =
       ap (λ begun. record { limits = limits; begun = begun; standing = standing_behind (standing (terminals front)) (terminal_of t); part = q; fault = None }) (begun_of front t)
-      ∙ ap (λ st. record { limits = limits; begun = first_begun (front ++ t ∷ []); standing = st; part = q; fault = None }) (sym (ap standing (terminals_append front (t ∷ [])) ∙ standing_more at_start (terminals front) (terminal_of t)))
+      ∙ ap (λ st. record { limits = limits; begun = first_begun (front ++ t ∷ []); standing = st; part = q; fault = None }) (sym (ap standing (map-append terminal_of front (t ∷ [])) ∙ standing_more at_start (terminals front) (terminal_of t)))
 
   goes_read : (front : List Token) (p q : CommandSoFar) (t : Token) (ts : List Token) → advanced p (terminal_of t) ≡ goes q → nat_lt limits.levels (level_or_argument (terminals front) (terminal_of t)) ≡ false → read_from (state_at front p) (t ∷ ts) ≡ read_from (state_at (front ++ t ∷ []) q) ts
   goes_read front p q t ts e d =
@@ -215,7 +210,7 @@ module _ (limits : Limits) where
   walk [] front rest p whole w = ap (λ ts. read_from (state_at ts p) rest) (sym (append-nil front))
   walk (t ∷ us) front rest p whole w =
       let lists : (front ++ t ∷ []) ++ us ≡ front ++ t ∷ us = append_assoc front (t ∷ []) us in
-      walk_step (advanced p (terminal_of t)) front us rest p t refl whole (le-ltb _ _ (w (terminals front) (terminals us) (terminal_of t) (terminals_append front (t ∷ us))))
+      walk_step (advanced p (terminal_of t)) front us rest p t refl whole (le-ltb _ _ (w (terminals front) (terminals us) (terminal_of t) (map-append terminal_of front (t ∷ us))))
       (λ q ok. walk us (front ++ t ∷ []) rest q ok (subst (λ ts. IsWithin limits.levels (terminals ts)) (sym lists) w) ∙ ap (λ ts. read_of (run q (terminals us)) ts rest) lists)
 
   -- a list of tokens from its first one on
@@ -236,17 +231,13 @@ module _ (limits : Limits) where
 
   deep_read : (a : Advance) (front : List Token) (p : CommandSoFar) (t : Token) (ts : List Token) → advanced p (terminal_of t) ≡ a → Begins (terminals front ++ terminal_of t ∷ []) → LeadsTo front p → nat_lt limits.levels (level_or_argument (terminals front) (terminal_of t)) ≡ true → read_from (state_at front p) (t ∷ ts) ≡ fault_reading (first_line (front ++ t ∷ [])) E04
   deep_read refuses front p t ts e b is d = absurd (refused_begins (terminals front) p (terminal_of t) is e b)
-  deep_read (goes q) front p t ts e b is d =
-      let s : Turn = turn_of front p t (first_line (front ++ t ∷ [])) (refusal (terminal_of t)) true (goes q) in
-      read_by (state_at front p) t ts s (turn_is front p t true (goes q) d e) ∙ faulty s.state (first_line (front ++ t ∷ [])) E04 [] ts refl
-  deep_read (ends form) front p t ts e b is d =
-      let s : Turn = turn_of front p t (first_line (front ++ t ∷ [])) (refusal (terminal_of t)) true (ends form) in
-      read_by (state_at front p) t ts s (turn_is front p t true (ends form) d e) ∙ faulty s.state (first_line (front ++ t ∷ [])) E04 [] ts refl
+  deep_read a front p t ts e b is d =
+      let s : Turn = turn_of front p t (first_line (front ++ t ∷ [])) (refusal (terminal_of t)) true a in
+      read_by (state_at front p) t ts s (turn_is front p t true a d e) ∙ faulty s.state (first_line (front ++ t ∷ [])) E04 [] ts refl
 
   refuses_step : (a : Advance) (xs : List Terminal) (p : CommandSoFar) (x : Terminal) → run command_due xs ≡ going p → (Begins (xs ++ x ∷ []) → ⊥) → advanced p x ≡ a → advanced p x ≡ refuses
   refuses_step refuses xs p x is n e = e
-  refuses_step (goes q) xs p x is n e = absurd (n (takes_begins (goes q) xs p x is e tt))
-  refuses_step (ends form) xs p x is n e = absurd (n (takes_begins (ends form) xs p x is e tt))
+  refuses_step a xs p x is n e = absurd (n (takes_begins a xs p x is e tt))
 
   fault_read : (code : Code) (front : List Token) (p : CommandSoFar) (t : Token) (rest : List Token) → LeadsTo front p → IsFault limits (terminals front) (terminal_of t) code → read_from (state_at front p) (t ∷ rest) ≡ fault_reading (first_line (front ++ t ∷ [])) code
   fault_read E06 front p t rest is h = refuse_read front p t rest E06 (ap (advanced p) h ∙ profile_refused p) (ap refusal h)

@@ -13,7 +13,7 @@ use Rattle.dk_parser.specs.Written.{WrittenCommand}
 use Rattle.dk_parser.specs.RawViews.{written_command}
 use Rattle.dk_parser.specs.Groups.{load}
 use Rattle.dk_parser.specs.Levels.{standing_behind}
-use Rattle.dk_parser.specs.Parsing.{Advance, goes, ends, refuses, advanced, Parsing, started, begun_by, Answer, more, command, refused, Turn, turn, turn_by_step, turn_by_fault, refusal, parsing_from, parsing_after, answered, commands_from}
+use Rattle.dk_parser.specs.Parsing.{Advance, refuses, advanced, Parsing, started, begun_by, Answer, more, command, refused, Turn, turn, turn_by_step, turn_by_fault, refusal, parsing_from, parsing_after, answered, commands_from}
 use Rattle.dk_parser.specs.Reading.{TokenReading}
 use Rattle.dk_parser.specs.Steps.{read_tokens, reading_at, GoesOn, AddsCommand, AddsFault, AddsStep, Answers}
 use Rattle.dk_parser.specs.Views.{CameTo}
@@ -39,11 +39,9 @@ no_fault None e h = cc
 no_fault (Some fault) e h = cc
 
 says_step : (old s : Parsing) (line : ℕ) (code : Code) (deep : Bool) (a : Advance) → old.fault ≡ None → s.fault ≡ None → Says (turn_by_step s line code deep a).answer old (turn_by_step s line code deep a).state
-says_step old s line code true (goes part) e f = (line, refl, λ h. absurd (no_fault old.fault e h))
-says_step old s line code true (ends form) e f = (line, refl, λ h. absurd (no_fault old.fault e h))
-says_step old s line code false (goes part) e f = (e, f, refl)
-says_step old s line code false (ends form) e f = (e, f, refl)
 says_step old s line code deep refuses e f = (line, refl, λ h. absurd (no_fault old.fault e h))
+says_step old s line code true a e f = (line, refl, λ h. absurd (no_fault old.fault e h))
+says_step old s line code false a e f = (e, f, refl)
 
 says_fault : (f : Option (ℕ × Code)) (s : Parsing) (t : Token) → s.fault ≡ f → Says (turn_by_fault f s t).answer s (turn_by_fault f s t).state
 says_fault (Some (line, code)) s t e = (line, e, λ h. refl)
@@ -105,10 +103,9 @@ module _ (limits : Limits) (ts : List Token) (t : Token) where
   adds_came (Err fault.NoMemory) n h = tt
 
   after_came : (r : Result Step Fault) (n : Parsing) → CameTo now r n → Answers r (n ≡ parsing_after limits (ts ++ t ∷ []))
-  after_came (Ok step.More) n h = h.0 ∙ sym (parsing_append (started limits) ts (t ∷ []))
-  after_came (Ok (step.Command raw)) n h = h.0 ∙ sym (parsing_append (started limits) ts (t ∷ []))
-  after_came (Err (fault.Refused code)) n h = h.0 ∙ sym (parsing_append (started limits) ts (t ∷ []))
   after_came (Err fault.NoMemory) n h = tt
+  after_came (Ok step.More) n h = h.0 ∙ sym (parsing_append (started limits) ts (t ∷ []))
+  after_came r n h = h.0 ∙ sym (parsing_append (started limits) ts (t ∷ []))
 
   -- what a turn says of the reading
   pub turn_adds : (s n : Parsing) (r : Result Step Fault) → CameTo (turn s t) r n → s ≡ parsing_after limits ts → AddsStep (read_tokens limits ts) r (read_tokens limits (ts ++ t ∷ []))

@@ -9,7 +9,7 @@ ghost use Rattle.dk_parser.specs.RawViews.{written, written_form};
 
 use crate::declare_part::Head;
 use crate::rule_part::RuleHead;
-use crate::{Raw, RawForm};
+use crate::{Raw, RawForm, RawParam};
 use dk_lexer::Sign;
 use dk_model::{Listed, NoMemory, SymSort};
 use dk_terms::{LeftSoFar, RawPat, RawTerm, TermSoFar, TermStep, Terminal};
@@ -110,28 +110,41 @@ impl CommandSoFar {
         }
     }
 
+    // What is due and the terminal, as in `advanced`.
     fn part_next(&mut self, alloc: Global, x: Terminal) -> Result<Advance, NoMemory>
         ensures { IfOk result (λ step. plain_step step self.new
             ≡ advanced (plain_command self.old) x) }
     {
-        match replace(&mut self.due, Due::Command) {
-            Due::Command => Ok(self.command_next(alloc, x)),
-            Due::Name(sort) => Ok(self.name_next(alloc, sort, x)),
-            Due::Head => Ok(self.head_next(alloc, x)),
-            Due::Binder => Ok(self.binder_next(x)),
-            Due::BinderColon(binder) => Ok(self.binder_colon_next(alloc, binder, x)),
-            Due::RuleName => Ok(self.rule_name_next(x)),
-            Due::RuleBrace => Ok(self.rule_brace_next(x)),
-            Due::Square => Ok(self.square_next(x)),
-            Due::Context => Ok(self.context_next(alloc, x)),
-            Due::Entry => Ok(self.entry_next(x)),
-            Due::EntryNamed(name) => self.named_next(alloc, name, x),
-            Due::Left => self.left_next(alloc, x),
-            Due::Term(purpose) => {
-                self.due = Due::Term(purpose);
-                self.term_next(alloc, x)
+        match (replace(&mut self.due, Due::Command), x) {
+            (Due::Command, x) => Ok(self.command_next(alloc, x)),
+            (Due::Name(sort), Terminal::Name(name)) => Ok(self.named(alloc, sort, name)),
+            (Due::Head, x) => Ok(self.head_next(alloc, x)),
+            (Due::Binder, Terminal::Name(name)) => Ok(self.goes(Due::BinderColon(Some(name)))),
+            (Due::Binder, Terminal::Wildcard) => Ok(self.goes(Due::BinderColon(None))),
+            (Due::BinderColon(binder), Terminal::Sign(Sign::Colon)) => {
+                Ok(self.goes_into(alloc, Purpose::Param(binder)))
             }
+            (Due::RuleName, Terminal::Name(_)) => Ok(self.goes(Due::RuleBrace)),
+            (Due::RuleName, Terminal::Qualified(_, _)) => Ok(self.goes(Due::RuleBrace)),
+            (Due::RuleBrace, Terminal::Sign(Sign::CloseBrace)) => Ok(self.goes(Due::Square)),
+            (Due::Square, Terminal::Sign(Sign::OpenSquare)) => Ok(self.goes(Due::Context)),
+            (Due::Context, Terminal::Sign(Sign::CloseSquare)) => Ok(self.left_due(alloc)),
+            (Due::Context, Terminal::Name(name)) => Ok(self.goes(Due::EntryNamed(name))),
+            (Due::Entry, Terminal::Name(name)) => Ok(self.goes(Due::EntryNamed(name))),
+            (Due::EntryNamed(name), x) => self.named_next(alloc, name, x),
+            (Due::Left, x) => self.left_next(alloc, x),
+            (Due::Term(purpose), x) => self.in_term(alloc, purpose, x),
+            _ => Ok(Advance::Refuses),
         }
+    }
+
+    // A terminal where a term for this is due.
+    fn in_term(&mut self, alloc: Global, purpose: Purpose, x: Terminal) -> Result<Advance, NoMemory>
+        ensures { IfOk result (λ step. plain_step step self.new ≡ in_term_by
+            (plain_purpose self.old purpose) (term_next (plain_term self.old.term) x)) }
+    {
+        self.due = Due::Term(purpose);
+        self.term_next(alloc, x)
     }
 
     // Goes on where this is due.
@@ -185,20 +198,11 @@ impl CommandSoFar {
     {
         match self.term.next(alloc, x)? {
             TermStep::Goes => Ok(Advance::Goes),
-            TermStep::Ends(term, sign) => self.term_end(alloc, term, sign),
+            TermStep::Ends(term, sign) => match replace(&mut self.due, Due::Command) {
+                Due::Term(purpose) => self.behind_term(alloc, purpose, term, sign),
+                _ => Ok(Advance::Refuses),
+            },
             TermStep::Refuses => Ok(Advance::Refuses),
-        }
-    }
-
-    // A sign behind the term that is due.
-    fn term_end(&mut self, alloc: Global, term: RawTerm, sign: Sign) -> Result<Advance, NoMemory>
-        ensures { IfOk result (λ step. (purpose : Purpose) → self.old.due ≡ Due.Term purpose →
-            plain_step step self.new
-            ≡ behind_term (plain_purpose self.old purpose) (written term) sign) }
-    {
-        match replace(&mut self.due, Due::Command) {
-            Due::Term(purpose) => self.behind_term(alloc, purpose, term, sign),
-            _ => Ok(Advance::Refuses),
         }
     }
 
@@ -213,13 +217,21 @@ impl CommandSoFar {
         ensures { IfOk result (λ step. plain_step step self.new
             ≡ behind_term (plain_purpose self.old purpose) (written term) sign) }
     {
-        match purpose {
-            Purpose::Param(binder) => self.param_read(binder, term, sign),
-            Purpose::Type => self.type_read(alloc, term, sign),
-            Purpose::Body(typ) => self.body_read(alloc, typ, term, sign),
-            Purpose::Entry(name) => self.entry_read(alloc, name, Some(term), sign),
-            Purpose::Guard => self.guard_read(alloc, term, sign),
-            Purpose::Right(left) => self.rule_read(alloc, left, term, sign),
+        match (purpose, sign) {
+            (Purpose::Param(binder), Sign::CloseBracket) => {
+                self.head.params.push(RawParam { binder, typ: term })?;
+                Ok(self.goes(Due::Head))
+            }
+            (Purpose::Type, Sign::Dot) => self.dot_behind_type(alloc, term),
+            (Purpose::Type, Sign::Defined) => Ok(self.body_behind_type(alloc, term)),
+            (Purpose::Body(typ), Sign::Dot) => self.declares(alloc, typ, Some(term)),
+            (Purpose::Entry(name), sign) => self.entry_read(alloc, name, Some(term), sign),
+            (Purpose::Guard, Sign::CloseBrace) => {
+                self.left.atom(alloc, RawPat::Guard(term))?;
+                Ok(self.goes(Due::Left))
+            }
+            (Purpose::Right(left), sign) => self.rule_read(alloc, left, term, sign),
+            _ => Ok(Advance::Refuses),
         }
     }
 }

@@ -74,12 +74,6 @@ fn applied_to(alloc: Global, f: Option<RawPat>, p: RawPat) -> Result<RawPat, NoM
     }
 }
 
-fn bare(alloc: Global, binder: Option<Listed<u8>>, p: RawPat) -> Result<RawPat, NoMemory>
-    ensures { IfOk result (λ q. written_pattern q ≡ pattern_bare binder (written_pattern p)) }
-{
-    Ok(RawPat::Abs(binder, Box::new(alloc, p)?))
-}
-
 impl LeftSoFar {
     /// Before the first terminal.
     pub fn new(alloc: Global) -> LeftSoFar
@@ -191,7 +185,7 @@ impl LeftSoFar {
         let mut pattern = p;
         while let Some(frame) = self.frames.pop() {
             match frame {
-                PatternFrame::Bare(binder) => pattern = bare(alloc, binder, pattern)?,
+                PatternFrame::Bare(v) => pattern = RawPat::Abs(v, Box::new(alloc, pattern)?),
                 PatternFrame::Bracket(f) => return self.close(alloc, f, pattern, sign),
             }
         }

@@ -3,7 +3,6 @@ ghost use Rattle.std.specs.Prelude.{◌≡◌, ◌∷◌, IfOk, Some};
 ghost use Rattle.dk_terms.specs.Parsing.{applied_to, arrow_next, atom_next, binder_next, binder_term, bracket_ended, colon_next, domain_closed, double_arrow_next, end_next, ended, framed, open_next, reading, term_due, term_next, within};
 ghost use Rattle.dk_terms.specs.Views.{plain_application, plain_frame, plain_role, plain_term, plain_term_step, wrapped};
 ghost use Rattle.dk_terms.specs.RawViews.{maybe_written, written};
-ghost use Rattle.dk_terms.specs.Written.{written_qualified};
 
 use crate::raw::{RawBare, RawBinding, RawQualified};
 use crate::terminal::Terminal;
@@ -160,7 +159,10 @@ impl TermSoFar {
         match x {
             Terminal::Name(n) => self.binder(alloc, Some(n)),
             Terminal::Wildcard => self.binder(alloc, None),
-            Terminal::Qualified(module_name, name) => self.qualified(alloc, module_name, name),
+            Terminal::Qualified(module_name, name) => {
+                let it = RawQualified { module_name, name };
+                self.atom(alloc, RawTerm::Qualified(Box::new(alloc, it)?))
+            }
             Terminal::Star => self.atom(alloc, RawTerm::Star),
             Terminal::Sign(Sign::OpenBracket) => self.open(),
             Terminal::Sign(Sign::Colon) => Ok(self.colon()),
@@ -228,20 +230,6 @@ impl TermSoFar {
             Application::Bindable(v) => self.applied(alloc, Role::Front, Some(binder_term(v)), a),
             Application::Bracketed(_, _) => Ok(TermStep::Refuses),
         }
-    }
-
-    fn qualified(
-        &mut self,
-        alloc: Global,
-        module_name: Listed<u8>,
-        name: Listed<u8>,
-    ) -> Result<TermStep, NoMemory>
-        ensures { IfOk result (λ step. plain_term_step step self.new
-            ≡ atom_next (plain_term self.old).frames (plain_term self.old).application
-            (written_qualified module_name name)) }
-    {
-        let it = Box::new(alloc, RawQualified { module_name, name })?;
-        self.atom(alloc, RawTerm::Qualified(it))
     }
 
     // A name or a wildcard.
