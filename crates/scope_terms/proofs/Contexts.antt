@@ -1,17 +1,25 @@
 -- The context of a rule, entry by entry.
-use Rattle.std.proofs.Common.{◌≡◌, ◌∙◌, ap, sym, subst, ℕ, ◌+◌, ◌<◌, Bool, false, List, [], ◌∷◌, ◌++◌, length, map, drop, get_or, is_some, if◌then◌else◌, refl, arith}
+use Rattle.std.proofs.Common.{◌≡◌, ◌∙◌, ap, sym, subst, ℕ, ◌+◌, ◌<◌, Bool, true, false, not, List, [], ◌∷◌, ◌++◌, length, map, drop, get_or, is_some, if◌then◌else◌, refl, arith}
 use Rattle.std.specs.Prelude.{Option}
 use Rattle.std.proofs.lemmas.List.{at_drop_more, map-append}
 use Rattle.dk_model.specs.Trees.{Tree}
 use Rattle.dk_model.specs.Signatures.{maybe_tree}
 use Rattle.dk_model.specs.declared.term.Term.{Term}
 use Rattle.dk_model.specs.declared.code.Code.TheVariants.{E13}
+use Rattle.dk_model.specs.declared.code.Fault.{Fault}
+use Rattle.dk_model.specs.declared.code.Fault.TheVariants.{Refused}
 use Rattle.dk_model.specs.Scoping.{PlainLeft, PlainScopedRule}
 use Rattle.dk_parser.specs.Written.{WrittenNote, WrittenRule}
 use Rattle.dk_parser.specs.RawViews.{written_note}
 use Rattle.dk_parser.specs.declared.raw.RawNote.{RawNote}
 use Rattle.scope_terms.specs.Scopes.{Numbered, no_names, term_of, left_of, rule_of, Scoping, scoped, refused, both, number_of, with_name, maybe_term_of, notes_of, variables_of}
-use Rattle.scope_terms.proofs.Stages.{behind, behind_more, both_scoped}
+use Rattle.scope_terms.specs.Answers.{IsFaultOf}
+use Rattle.scope_terms.proofs.Stages.{behind, behind_more, both_scoped, both_first, one_fault, first_of}
+
+-- what was added was new
+pub new_before : (added there : Bool) → added ≡ not there → added ≡ true → there ≡ false
+new_before added true is was = let e : false ≡ true = sym is ∙ was in cc
+new_before added false is was = refl
 
 module _ (names before after : Numbered) (context : List RawNote) (i : ℕ) (e : RawNote) (lt : i < length context) (is : e ≡ get_or context i e) (added : after ≡ with_name before e.name) where
   -- one more rule variable
@@ -34,6 +42,19 @@ module _ (names before after : Numbered) (context : List RawNote) (i : ℕ) (e :
       ∙ behind_more first (maybe_tree n) (rest (with_name before e.name))
       ∙ ap (λ v. behind (first ++ maybe_tree n ∷ []) (rest v)) (sym added)
       ∙ ap (λ xs. behind xs (rest after)) (sym (ap (λ ts. map maybe_tree ts) push ∙ map-append maybe_tree done (n ∷ [])))
+
+-- the first fault at an entry whose annotation has this one: its name stands before
+pub notes_fault : (names before : Numbered) (context : List RawNote) (i : ℕ) (e : RawNote) → i < length context → e ≡ get_or context i e → (whole : Scoping (List (Option Tree))) (done : List (Option Term)) (fault first : Fault) → whole ≡ behind (map maybe_tree done) (notes_of names before (map written_note (drop i context))) → IsFaultOf (maybe_term_of names before [] (written_note e).note) fault → first ≡ (if is_some (number_of before e.name) then Refused E13 else fault) → IsFaultOf whole first
+notes_fault names before context i e lt is whole done fault first at note which =
+    let into : List (Option Tree) → List (Option Tree) = λ xs. map maybe_tree done ++ xs in
+    let here : Scoping (Option Tree) = maybe_term_of names before [] (written_note e).note in
+    let rest : Scoping (List (Option Tree)) = notes_of names (with_name before e.name) (map written_note (drop (i + 1) context)) in
+    let both_of : Scoping (List (Option Tree)) = both (λ x xs. x ∷ xs) here rest in
+    let there : Bool = is_some (number_of before e.name) in
+    let now = at ∙ at_drop_more (λ ns. behind (map maybe_tree done) (notes_of names before (map written_note ns))) context i e lt
+    ∙ ap (λ (x : RawNote). behind (map maybe_tree done) (notes_of names before (written_note x ∷ map written_note (drop (i + 1) context)))) (sym is) in
+    let faulty : IsFaultOf (if there then refused E13 else both_of) first = subst (λ (f : Fault). IsFaultOf (if there then refused E13 else both_of) f) (sym which) (first_of there E13 both_of fault (both_first (λ x xs. x ∷ xs) here rest fault note)) in
+    subst (λ (s : Scoping (List (Option Tree))). IsFaultOf s first) (sym now) (one_fault into (if there then refused E13 else both_of) first faulty)
 
 -- each entry takes one number
 pub count_variables : (before : Numbered) (es : List WrittenNote) → (variables_of before es).count ≡ before.count + length es

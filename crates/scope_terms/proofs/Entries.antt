@@ -18,8 +18,12 @@ module _ {A B X : Type 0} (f : A → B) where
 
 -- an insertion of a key whose name is new adds that name with its number
 module _ {K S : Type 0} (f : K → Spelling) (m : IndexMap K ℕ S) (key : K) (n : ℕ) where
-  abbrev seen : List (K × ℕ) → ℕ → Numbered
+  abbrev pub seen : List (K × ℕ) → ℕ → Numbered
   seen es count = record { numbers = map (named f) es; count = count }
+
+  -- the number of a name is what the map has at its key
+  pub known : (names : Numbered) (x : Spelling) → seen m.entries n ≡ names → f key ≡ x → number_of names x ≡ lookup (λ a. same_spelling (f key) (f a)) m.entries
+  known names x view is = rw (← view) (rw (← is) (lookup-map f (same_spelling (f key)) m.entries))
 
   pub added : (names : Numbered) (x : Spelling) (new : List (K × ℕ)) → seen m.entries n ≡ names → number_of names x ≡ None → f key ≡ x → new ≡ insert_entry (λ a b. same_spelling (f a) (f b)) m.entries key n → seen new (n + 1) ≡ with_name names x
   added names x new view none is inserted =

@@ -2,6 +2,7 @@ pub mod Entries
 pub mod Numbers
 pub mod Stages
 pub mod Contexts
+pub mod Declarations
 pub mod Rows
 pub mod Spines
 pub mod PatternSpines

@@ -1,6 +1,7 @@
 -- Scoping of two parts, one after the other.
-use Rattle.std.proofs.Common.{◌≡◌, ap, ◌∙◌, sym, refl, List, [], ◌∷◌, ◌++◌}
+use Rattle.std.proofs.Common.{◌≡◌, ap, ◌∙◌, sym, refl, Bool, true, false, if◌then◌else◌, List, [], ◌∷◌, ◌++◌}
 use Rattle.std.proofs.lemmas.List.{append_assoc}
+use Rattle.dk_model.specs.declared.code.Code.{Code}
 use Rattle.dk_model.specs.declared.code.Fault.{Fault}
 use Rattle.dk_model.specs.declared.code.Fault.TheVariants.{Refused, NoMemory}
 use Rattle.scope_terms.specs.Scopes.{Scoping, scoped, refused, one, both}
@@ -23,6 +24,11 @@ both_first f s t NoMemory is = tt
 pub both_second : {A B C : Type 0} (f : A → B → C) (s : Scoping A) (t : Scoping B) (a : A) (e : Fault) → s ≡ scoped a → IsFaultOf t e → IsFaultOf (both f s t) e
 both_second f s t a (Refused c) is it = ap (λ s'. both f s' t) is ∙ ap (one (f a)) it
 both_second f s t a NoMemory is it = tt
+
+-- a code that stands before
+pub first_of : {A : Type 0} (there : Bool) (c : Code) (s : Scoping A) (e : Fault) → IsFaultOf s e → IsFaultOf (if there then refused c else s) (if there then Refused c else e)
+first_of true c s e is = refl
+first_of false c s e is = is
 
 -- what is scoped twice is the same, and has no code
 pub scoped_again : {A : Type 0} (s : Scoping A) (a b : A) → s ≡ scoped a → s ≡ scoped b → b ≡ a

@@ -1,6 +1,7 @@
 //! The names that the commands so far declare.
-ghost use Rattle.std.specs.Prelude.{◌≡◌, ◌<◌, is_some, None, IfOk, IfErr, OnOk, OnErr};
+ghost use Rattle.std.specs.Prelude.{◌≡◌, ◌<◌, is_some, not, if◌then◌else◌, IfOk, IfErr, OnOk, OnErr};
 ghost use Rattle.dk_model.specs.Scoping.{plain_command};
+ghost use Rattle.dk_model.specs.declared.code.Fault.TheVariants.{Refused};
 ghost use Rattle.dk_parser.specs.RawViews.{written_form};
 ghost use Rattle.scope_terms.specs.Scopes.{no_names, number_of, with_name, names_after, scoped};
 ghost use Rattle.scope_terms.specs.Answers.{IsFaultOf};
@@ -14,6 +15,7 @@ use crate::rule::rules_at;
 use dk_model::{Code, Fault, Listed, NoMemory, Scoped};
 use dk_parser::{Raw, RawForm};
 use indexmap::IndexMap;
+use indexmap::map::Entry;
 use std::alloc::Global;
 use std::marker::Model;
 
@@ -81,19 +83,18 @@ impl Names {
                 typ,
                 body,
             } => {
-                if self.has(name) {
+                let scope = Scope::Symbols(self);
+                let params = params.as_slice();
+                let outermost = Binders::Outermost;
+                let TypeAndBody { typ, body } = match declaration_at(
+                    alloc, &scope, params, typ, body, &outermost,
+                ) {
+                    Ok(declared) => declared,
+                    Err(fault) => return Err(self.first_fault(name, Code::E11, fault)),
+                };
+                if !self.add(alloc, name)? {
                     return Err(Fault::Refused(Code::E11));
                 }
-                let scope = Scope::Symbols(self);
-                let TypeAndBody { typ, body } = declaration_at(
-                    alloc,
-                    &scope,
-                    params.as_slice(),
-                    typ,
-                    body,
-                    &Binders::Outermost,
-                )?;
-                self.add(alloc, name)?;
                 Ok(Scoped::Declare {
                     sort: *sort,
                     typ,
@@ -115,16 +116,34 @@ impl Names {
         self.number(name.as_slice()).is_some()
     }
 
-    /// Adds a name with the next number.
-    pub(crate) fn add(&mut self, alloc: Global, name: &Listed<u8>) -> Result<(), NoMemory>
-        requires new { number_of self.old name.now ≡ None }
+    /// The first fault where this one is of what stands behind the name: the code, if the name
+    /// has a number.
+    pub(crate) fn first_fault(&self, name: &Listed<u8>, code: Code, fault: Fault) -> Fault
+        ensures { result ≡ if is_some (number_of self.now name.now) then Refused code else fault }
+    {
+        if self.has(name) {
+            Fault::Refused(code)
+        } else {
+            fault
+        }
+    }
+
+    /// Adds a name with the next number, unless it has one: whether it was added.
+    pub(crate) fn add(&mut self, alloc: Global, name: &Listed<u8>) -> Result<bool, NoMemory>
         requires room { self.old.count < 4294967295 }
-        ensures ok { OnOk result (self.new ≡ with_name self.old name.now) }
+        ensures is_new { IfOk result (λ added. added ≡ not (is_some (number_of self.old name.now))) }
+        ensures ok { IfOk result
+            (λ added. self.new ≡ if added then with_name self.old name.now else self.old) }
         ensures err { OnErr result (self.new ≡ self.old) }
     {
         let spelling = name.as_slice().to_vec(alloc)?;
-        self.numbers.insert(spelling, self.count)?;
-        self.count += 1;
-        Ok(())
+        match self.numbers.entry(spelling)? {
+            Entry::Occupied(_) => Ok(false),
+            Entry::Vacant(entry) => {
+                entry.insert(self.count);
+                self.count += 1;
+                Ok(true)
+            }
+        }
     }
 }

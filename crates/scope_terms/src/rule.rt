@@ -30,19 +30,22 @@ fn context_at(alloc: Global, context: &[RawNote], names: &Names) -> Result<Scope
     let mut variables = Names::new(alloc)?;
     let mut notes = Listed::new(alloc);
     for entry in context {
-        if variables.has(&entry.name) {
-            return Err(Fault::Refused(Code::E13));
-        }
         let scope = Scope::Rule {
             symbols: names,
             variables: &variables,
         };
-        let note = maybe_term_at(alloc, &scope, &entry.note, &Binders::Outermost)?;
+        let note = match maybe_term_at(alloc, &scope, &entry.note, &Binders::Outermost) {
+            Ok(note) => note,
+            Err(fault) => return Err(variables.first_fault(&entry.name, Code::E13, fault)),
+        };
         notes.push(note)?;
         if variables.count() == u32::MAX {
             return Err(Fault::NoMemory);
         }
-        variables.add(alloc, &entry.name)?;
+        let added = variables.add(alloc, &entry.name)?;
+        if !added {
+            return Err(Fault::Refused(Code::E13));
+        }
     }
     Ok(ScopedContext { variables, notes })
 }
