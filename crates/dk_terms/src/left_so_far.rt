@@ -3,7 +3,6 @@ ghost use Rattle.std.specs.Prelude.{◌≡◌, ◌∷◌, IfOk, OnOk, Some, None
 ghost use Rattle.dk_terms.specs.Parsing.{application_bound, binder_pattern, end_left, left_bound, left_due, left_ended, left_next, left_read, pattern_applied_to, pattern_bracket_ended, with_atom};
 ghost use Rattle.dk_terms.specs.Parsing as plain;
 ghost use Rattle.dk_terms.specs.Views.{maybe_pattern, plain_left, plain_left_application, plain_left_step};
-ghost use Rattle.dk_terms.specs.Written.{pattern_bare};
 ghost use Rattle.dk_terms.specs.RawViews.{written_pattern};
 
 use crate::RawPat;

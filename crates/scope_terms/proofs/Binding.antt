@@ -1,6 +1,6 @@
 -- Looking for a binder.
-use Rattle.std.proofs.Common.{◌≡◌, ◌∙◌, ap, sym, subst, refl, ◌≢◌, ℕ, zero, suc, ◌+◌, ◌≤◌, Bool, true, false, cond, List, [], ◌∷◌, ◌++◌, length, replicate, arith}
-use Rattle.std.specs.Prelude.{Option, Some, None, IsTrue, ◌↔◌}
+use Rattle.std.proofs.Common.{◌≡◌, ◌∙◌, ap, sym, subst, refl, ◌≢◌, ℕ, zero, suc, ◌+◌, Bool, true, false, cond, List, [], ◌∷◌, ◌++◌, length, replicate, arith}
+use Rattle.std.specs.Prelude.{Some, None, IsTrue, ◌↔◌}
 use Rattle.std.specs.Cmp.Lexicographic.{bytes_decides}
 use Rattle.scope_terms.specs.Scopes.{Binder, Spelling, binds, number_from, same_spelling}
 use Rattle.scope_terms.specs.Binding.{AreTold, LeadsTo, MayBe, Widens, class_of, first_byte}

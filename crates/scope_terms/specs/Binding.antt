@@ -1,5 +1,5 @@
 -- For proofs: the binders above a place, and by what names are told from theirs.
-use Rattle.std.specs.Prelude.{ℕ, ◌+◌, ◌*◌, ◌%◌, ◌≡◌, ◌≤◌, Option, Some, None, List, [], ◌∷◌, ◌++◌, length, replicate, fold}
+use Rattle.std.specs.Prelude.{ℕ, ◌+◌, ◌*◌, ◌%◌, ◌≡◌, ◌≤◌, Some, None, List, [], ◌∷◌, ◌++◌, length, replicate, fold}
 use Rattle.scope_terms.specs.Scopes.{Binder, Spelling, binds, number_from}
 use Rattle.scope_terms.specs.declared.binders.Span.{Span}
 use Rattle.scope_terms.specs.declared.binders.Spans.{Spans}

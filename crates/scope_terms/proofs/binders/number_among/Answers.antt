@@ -1,4 +1,4 @@
-use Rattle.std.proofs.Common.{◌≡◌, ◌∙◌, ap, sym, ◌∷◌}
+use Rattle.std.proofs.Common.{◌∙◌, ap, sym, ◌∷◌}
 use Rattle.std.specs.Prelude.{Some}
 use Rattle.scope_terms.specs.Scopes.{binds, number_from}
 use Rattle.scope_terms.specs.Binding.{binders}

@@ -1,4 +1,4 @@
-use Rattle.std.proofs.Common.{◌≡◌, ◌<◌, List, [], ◌∷◌, ◌++◌, subst, arith}
+use Rattle.std.proofs.Common.{◌≡◌, ◌<◌, List, subst, arith}
 use Rattle.std.specs.Borrow.{Bor}
 use Rattle.dk_model.specs.Scoping.{plain_left}
 use Rattle.dk_parser.specs.RawViews.{written_pattern}
