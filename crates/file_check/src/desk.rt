@@ -17,6 +17,7 @@ use dk_model::{Code, Limits, Verdict};
 use dk_parser::Raw;
 use file_reader::{Halt, ReadEnd};
 use std::alloc::Global;
+use std::mem::forget;
 use std::sync::{Arc, Wait};
 use task_board::{Board, ReaderPass, SealedPass};
 use verdict_book::Titles;
@@ -124,7 +125,8 @@ impl Desk {
         }
     }
 
-    /// Seals the board once reading came to this end, and gives the titles of its jobs.
+    /// Seals the board once reading came to this end, and gives the titles of its jobs. The theory isn't let go: its memory
+    /// stays taken until the program ends.
     pub fn seal<R: Wait>(
         self,
         rt: &R,
@@ -143,8 +145,11 @@ impl Desk {
             pass,
             titles,
             end,
+            theory,
             ..
         } = self;
+        // The program ends behind the report, and the system takes all back at once; here it would go piece by piece.
+        forget(theory);
         let sealed = board.seal(rt, pass, end_by(read_end, end));
         (sealed, titles)
     }
