@@ -1,7 +1,9 @@
--- A command whose terms are stored, as plain data.
-use Rattle.std.specs.Prelude.{map}
-use Rattle.dk_model.specs.Signatures.{maybe_by}
+-- A command whose terms are stored, as plain data, and the entry that a command adds.
+use Rattle.std.specs.Prelude.{◌≡◌, Option, map}
+use Rattle.dk_model.specs.Trees.{Tree}
+use Rattle.dk_model.specs.Signatures.{PlainEntry, PlainSignature, maybe_by}
 use Rattle.dk_model.specs.Scoping.{PlainCommand, declare, rule_command, plain_scoped_rule}
+use Rattle.dk_model.specs.Verdicts.{entry_of}
 use Rattle.shared_term.specs.Storage.{stored_term}
 use Rattle.command_check.specs.declared.stored.StoredCommand.{StoredCommand}
 use Rattle.command_check.specs.declared.stored.StoredCommand.TheVariants.{Declare, Rules}
@@ -9,3 +11,9 @@ use Rattle.command_check.specs.declared.stored.StoredCommand.TheVariants.{Declar
 abbrev pub stored_command : StoredCommand → PlainCommand
 stored_command (Declare s t b) = declare s (maybe_by stored_term t) (maybe_by stored_term b)
 stored_command (Rules rs) = rule_command (map plain_scoped_rule rs)
+
+-- the entry that the command adds, over some signature and with some inferred type
+pub record IsEntryOf (c : PlainCommand) (e : PlainEntry) : Type 0 where
+  pub signature : PlainSignature
+  pub inferred : Option Tree
+  pub is : e ≡ entry_of signature c inferred

@@ -155,15 +155,15 @@ impl Theory {
             Err(Fault::NoMemory) => return Err(Verdict::Memory),
         };
         let entry = entry_after(alloc, worker, &self.version, &command, budget)?;
+        let settled = is_untyped(&command);
+        let Ok(command) = store_command(alloc, command, &entry) else {
+            return Err(Verdict::Memory);
+        };
         let Ok(before) = self.advance(alloc, entry) else {
             return Err(Verdict::Memory);
         };
         let Raw { line, form } = raw;
         let Ok(name) = shown_name(alloc, form) else {
-            return Err(Verdict::Memory);
-        };
-        let settled = is_untyped(&command);
-        let Ok(command) = store_command(alloc, command) else {
             return Err(Verdict::Memory);
         };
         let title = Title { name, line };

@@ -2,7 +2,7 @@ use Rattle.std.proofs.Common.{◌≡◌, ◌∙◌, ◌∷◌, ◌++◌, [], tru
 use Rattle.dk_model.specs.Answering.{is_untyped}
 use Rattle.dk_model.specs.Scoping.{PlainCommand, plain_command}
 use Rattle.dk_model.specs.Signatures.{PlainEntry, PlainSignature}
-use Rattle.dk_model.specs.Verdicts.{verdict_of}
+use Rattle.dk_model.specs.Verdicts.{inferred_type, verdict_of}
 use Rattle.dk_parser.specs.RawViews.{written_form}
 use Rattle.scope_terms.specs.Scopes.{Numbered, Scoping, scoped}
 use Rattle.signature_log.specs.Versions.{entries_of}
@@ -17,6 +17,11 @@ theory names signature = record { names = names; signature = signature }
 same_theory : (a b : Theory) → a.names ≡ b.names → a.signature ≡ b.signature → a ≡ b
 same_theory a b names signature =
     ap (λ (n : Numbered). theory n a.signature) names ∙ ap (theory b.names) signature
+
+pub store_command-requires : goal.store_command-requires
+store_command-requires c =
+    let S = entries_of c.args.self.now.version in
+    record { signature = S; inferred = inferred_type S (plain_command c.in-Ok.command) c.args.budget; is = c.in_ok-entry.ensures.ok }
 
 pub returns-clause-ok : goal.returns-clause-ok
 returns-clause-ok c =
