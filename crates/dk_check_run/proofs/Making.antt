@@ -1,6 +1,6 @@
 -- What the program did for `make`, clause by clause.
-use Rattle.std.proofs.Common.{◌≡◌, ◌≢◌, ◌+◌, ◌++◌, inl, inr, ℕ, Bool, true, false, List, [], length, refl, sym, ap, subst, ◌∙◌, arith}
-use Rattle.std.specs.Prelude.{Option, Some, ◌==◌, if◌then◌else◌, take}
+use Rattle.std.proofs.Common.{◌≡◌, ◌≢◌, inl, inr, ℕ, Bool, true, false, List, [], length, refl, sym, ap, subst, ◌∙◌}
+use Rattle.std.specs.Prelude.{Option, Some, ◌==◌, if◌then◌else◌}
 use Rattle.dk_io.specs.Bytes.{added}
 use Rattle.dk_model.specs.declared.limits.Limits.{Limits}
 use Rattle.dk_model.specs.declared.code.Verdict.TheVariants as verdict
@@ -12,7 +12,7 @@ use Rattle.verdict_book.specs.declared.outcome.Outcome.TheVariants.{Accepted, St
 use Rattle.file_report.specs.Histories.{Reports}
 use Rattle.dk_make.specs.Theory.{theory_of}
 use Rattle.file_check.specs.Shelves.{ShelfState}
-use Rattle.dk_check_run.specs.Answers.{Answers, ChecksTheory, asks_nothing, checked, is_at_once, made, memory_ended, text_made}
+use Rattle.dk_check_run.specs.Answers.{Answers, asks_nothing, checked, made, memory_ended, text_made}
 use Rattle.dk_check_run.specs.Run.{IsMakeDue, ReportsTheory, SinkState, WritesMakeDue, memory_at_once, memory_in_it, no_memory_for_it, of_the_theory, report_made, summary}
 use Rattle.dk_check_run.proofs.Clauses.{is_status, no_request, not_both, not_of}
 

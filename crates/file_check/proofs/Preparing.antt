@@ -1,10 +1,8 @@
 -- What is known of a command's verdict before its check.
 use Rattle.std.proofs.Common.{◌≡◌, ◌⊎◌, inl, inr, ℕ, refl, sym, ap, true, false}
-use Rattle.std.specs.Prelude.{Option, Some, None, Result, Ok, Err}
-use Rattle.dk_model.specs.Trees.{Tree}
+use Rattle.std.specs.Prelude.{Some, None, Result, Ok, Err}
 use Rattle.dk_model.specs.Scoping.{PlainCommand, declare, rule_command}
-use Rattle.dk_model.specs.Signatures.{PlainRule, PlainSignature}
-use Rattle.dk_model.specs.Shapes.{shapes_of}
+use Rattle.dk_model.specs.Signatures.{PlainSignature}
 use Rattle.dk_model.specs.Answering.{IsVerdictOrMemory, is_untyped}
 use Rattle.dk_model.specs.Verdicts.{inferred_type, rules_checked, verdict, verdict_of}
 use Rattle.dk_model.specs.declared.code.Code.{Code}

@@ -1,5 +1,5 @@
 -- For callers: what the board's book, in which the commands of a shelf's open book were checked, says of that book.
-use Rattle.std.specs.Prelude.{◌≡◌, ℕ, List, Option, Some}
+use Rattle.std.specs.Prelude.{◌≡◌, ℕ, List, Some}
 use Rattle.dk_model.specs.declared.limits.Limits.{Limits}
 use Rattle.board_core.specs.declared.event.Event.{Event}
 use Rattle.verdict_book.specs.Books.{IsReportOf}

@@ -1,4 +1,4 @@
-use Rattle.std.proofs.Common.{◌≡◌, List, ℕ, Option, map, ap, subst, sym, IfOk}
+use Rattle.std.proofs.Common.{◌≡◌, ℕ, Option, map, ap, subst, sym, IfOk}
 use Rattle.std.specs.Prelude.{Ok, Result}
 use Rattle.std.specs.String.{string_bytes}
 use Rattle.command_line.specs.Requests.{Request, request_of}

@@ -1,4 +1,3 @@
-use Rattle.std.proofs.Common.{◌≡◌, ap, length, sym, ◌∙◌}
 use Rattle.board_core.specs.Machine.{marks_of}
 use Rattle.file_check.specs.declared.judging.Bounds.{Bounds}
 use Rattle.file_check.proofs.Reporting.{as_many_titles, counts, ends, under}

@@ -1,4 +1,4 @@
-use Rattle.std.proofs.Common.{◌≡◌, ◌∙◌, [], refl, ap, subst, sym}
+use Rattle.std.proofs.Common.{◌≡◌, ◌∙◌, [], refl, ap, sym}
 use Rattle.file_report.specs.Jobs.{titles_of}
 use Rattle.file_check.specs.declared.judging.Place.{Place}
 use Rattle.file_check.specs.Jobs.{job_of}

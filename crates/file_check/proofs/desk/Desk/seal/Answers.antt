@@ -1,4 +1,4 @@
-use Rattle.std.proofs.Common.{◌≡◌, ◌∙◌, ap, subst, sym, Some}
+use Rattle.std.proofs.Common.{◌∙◌, ap, subst, sym, Some}
 use Rattle.board_core.specs.declared.event.End.{End}
 use Rattle.board_core.specs.Machine.{MayEnd}
 use Rattle.file_check.specs.Desks.{seen_at}
