@@ -12,20 +12,20 @@ goes : {A B : Type 0} (x : Judged A) (a : A) (n : ℕ) (g : A → ℕ → Judged
 goes x a n g e = ap (λ y. next y g) e
 
 module _ (S : PlainSignature) where
-  pub declared_fails : (f : TypeFault) (A : Tree) (b : Option Tree) (n : ℕ) → Fails f (sort_of S [] [] A n) → Fails f (declaration_checked S (Some A) b n)
-  declared_fails f A b n h = fails_next f (sort_of S [] [] A n) (λ s m. body_checked S A b m) h
+  pub declared_fails : (f : TypeFault) (spare : ℕ) (A : Tree) (b : Option Tree) (n : ℕ) → Fails f spare (sort_of S [] [] A n) → Fails f spare (declaration_checked S (Some A) b n)
+  declared_fails f spare A b n h = fails_next f spare (sort_of S [] [] A n) (λ s m. body_checked S A b m) h
 
   pub declared_body : (A s : Tree) (b : Option Tree) (n m : ℕ) → sort_of S [] [] A n ≡ answer s m → declaration_checked S (Some A) b n ≡ body_checked S A b m
   declared_body A s b n m e = goes (sort_of S [] [] A n) s m (λ t i. body_checked S A b i) e
 
-  pub untyped_fails : (f : TypeFault) (b : Tree) (n : ℕ) → Fails f (body_type S b n) → Fails f (declaration_checked S None (Some b) n)
-  untyped_fails f b n h = fails_next f (body_type S b n) (λ T m. answer tt m) h
+  pub untyped_fails : (f : TypeFault) (spare : ℕ) (b : Tree) (n : ℕ) → Fails f spare (body_type S b n) → Fails f spare (declaration_checked S None (Some b) n)
+  untyped_fails f spare b n h = fails_next f spare (body_type S b n) (λ T m. answer tt m) h
 
   pub untyped_given : (b T : Tree) (n m : ℕ) → body_type S b n ≡ answer T m → declaration_checked S None (Some b) n ≡ answer tt m
   untyped_given b T n m e = goes (body_type S b n) T m (λ U i. answer tt i) e
 
-  pub body_fails : (f : TypeFault) (b : Tree) (n : ℕ) → Fails f (inferred S [] [] b n) → Fails f (body_type S b n)
-  body_fails f b n h = fails_next f (inferred S [] [] b n) not_kind h
+  pub body_fails : (f : TypeFault) (spare : ℕ) (b : Tree) (n : ℕ) → Fails f spare (inferred S [] [] b n) → Fails f spare (body_type S b n)
+  body_fails f spare b n h = fails_next f spare (inferred S [] [] b n) not_kind h
 
   pub body_kind : (b T : Tree) (n m : ℕ) → inferred S [] [] b n ≡ answer T m → body_type S b n ≡ not_kind T m
   body_kind b T n m e = goes (inferred S [] [] b n) T m not_kind e

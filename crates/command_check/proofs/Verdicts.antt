@@ -4,7 +4,7 @@ use Rattle.std.specs.Prelude.{Result, Ok, Err, IfOk, IfErr}
 use Rattle.dk_model.specs.Trees.{Tree}
 use Rattle.dk_model.specs.Signatures.{PlainRule, PlainSignature}
 use Rattle.dk_model.specs.Scoping.{PlainCommand, declare, rule_command}
-use Rattle.dk_model.specs.Typing.{Judged, answer, refused, ended, next}
+use Rattle.dk_model.specs.Typing.{Judged, by_units, answer, refused, ended, next}
 use Rattle.dk_model.specs.Verdicts.{answer_of, body_type, inferred_type, rules_checked, verdict, verdict_of}
 use Rattle.dk_model.specs.Answering.{is_untyped, IsVerdictOrMemory}
 use Rattle.dk_model.specs.declared.code.Code.{Code}
@@ -27,7 +27,7 @@ pub shapes_typed : (S : PlainSignature) (due : Result (List PlainRule) Code) (rs
     → GivesFit (rules_typed S rs n) o m → GivesFit (rules_checked S due n) o m
 shapes_typed S due rs n o m e h = subst (λ (x : Judged (Unit {0})). GivesFit x o m) (flip (ap (λ (x : Result (List PlainRule) Code). rules_checked S x n) e)) h
 
-pub shapes_fail : (S : PlainSignature) (due : Result (List PlainRule) Code) (f : TypeFault) (n : ℕ) → FailsShapes due f → Fails f (rules_checked S due n)
+pub shapes_fail : (S : PlainSignature) (due : Result (List PlainRule) Code) (f : TypeFault) (n : ℕ) → FailsShapes due f → Fails f n (rules_checked S due n)
 shapes_fail S due (Refused c) n e = ap (λ (x : Result (List PlainRule) Code). rules_checked S x n) e
 shapes_fail S due Ended n e = absurd e
 shapes_fail S due NoMemory n e = tt
@@ -35,21 +35,21 @@ shapes_fail S due NoMemory n e = tt
 pub fit_verdict : {A : Type 0} (x : Judged A) (a : A) (n : ℕ) → x ≡ answer a n → verdict x ≡ Accepted
 fit_verdict x a n e = ap verdict e
 
-pub fault_due : {A : Type 0} (f : TypeFault) (x : Judged A) → Fails f x → IsVerdictOrMemory (verdict x) (fault_verdict f)
-fault_due (Refused c) x e = flip (ap verdict e)
-fault_due Ended x e = flip (ap verdict e)
-fault_due NoMemory x e = tt
+pub fault_due : {A : Type 0} (f : TypeFault) (spare : ℕ) (x : Judged A) → Fails f spare x → IsVerdictOrMemory (verdict x) (fault_verdict f)
+fault_due (Refused c) spare x e = flip (ap verdict e)
+fault_due Ended spare x e = flip (ap verdict e.0)
+fault_due NoMemory spare x e = tt
 
 pub fault_refuses : (f : TypeFault) → ¬ (fault_verdict f ≡ Accepted)
 fault_refuses (Refused c) e = cc
 fault_refuses Ended e = cc
 fault_refuses NoMemory e = cc
 
-pub derived : (S : PlainSignature) (c : PlainCommand) (budget : ℕ) → ((T : PlainSignature) → IsSignature T → AcceptedHasDerivation T) → verdict_of S c budget ≡ Accepted
+pub derived : (S : PlainSignature) (c : PlainCommand) (budget : ℕ) → ((T : PlainSignature) → IsSignature T → AcceptedHasDerivation T (by_units T)) → verdict_of S c budget ≡ Accepted
     → IsSignature S → HasDerivation S c
 derived S c budget law e formed = law S formed c budget e
 
-pub numbered_derived : (S : PlainSignature) (c : PlainCommand) (budget : ℕ) → ((T : PlainSignature) → IsNumbered T → HasNoAnnotations T → AcceptedHasDerivation T)
+pub numbered_derived : (S : PlainSignature) (c : PlainCommand) (budget : ℕ) → ((T : PlainSignature) → IsNumbered T → HasNoAnnotations T → AcceptedHasDerivation T (by_units T))
     → verdict_of S c budget ≡ Accepted → IsNumbered S → HasNoAnnotations S → HasDerivation S c
 numbered_derived S c budget law e numbered plain = law S numbered plain c budget e
 
@@ -58,7 +58,7 @@ untyped_fits T m = answer tt m
 
 same_verdict : (x : Judged Tree) → verdict (next x untyped_fits) ≡ verdict x
 same_verdict (answer T n) = refl
-same_verdict (refused c) = refl
+same_verdict (refused c n) = refl
 same_verdict ended = refl
 
 module _ (S : PlainSignature) (s : SymSort) (b : Tree) (budget : ℕ) where
@@ -71,7 +71,7 @@ module _ (S : PlainSignature) (s : SymSort) (b : Tree) (budget : ℕ) where
   pub body_due : (v : Verdict) → IsVerdictOrMemory (verdict (body_type S b budget)) v → IsVerdictOrMemory (verdict_of S (declare s None (Some b)) budget) v
   body_due v h = subst (λ (d : Verdict). IsVerdictOrMemory d v) (flip (same_verdict (body_type S b budget))) h
 
-  pub untyped_derives : ((T : PlainSignature) → IsNumbered T → DeclarationHasDerivation T) → (c : PlainCommand) → c ≡ declare s None (Some b) → (o : Result Stored Verdict)
+  pub untyped_derives : ((T : PlainSignature) → IsNumbered T → DeclarationHasDerivation T (by_units T)) → (c : PlainCommand) → c ≡ declare s None (Some b) → (o : Result Stored Verdict)
       → IfOk o (λ t. HasBodyType S b budget (stored_term t)) → IfOk o (λ t. IsNumbered S → HasDerivation S c)
   untyped_derives law c e (Ok t) h = λ numbered. subst (HasDerivation S) (flip e) (law S numbered s None (Some b) budget (body_verdict (stored_term t) h))
   untyped_derives law c e (Err v) h = tt

@@ -21,9 +21,12 @@ pub mod Selection
 pub mod Parts
 pub mod Evaluation
 pub mod Equations
+pub mod TypingOver
 pub mod Typing
+pub mod RuleTypingOver
 pub mod RuleTyping
 pub mod Shapes
+pub mod CommandTypingOver
 pub mod Verdicts
 pub mod Answering
 pub mod WellFormed

@@ -15,8 +15,8 @@ module _ (S : PlainSignature) (V G : List Tree) where
       ap (λ y. next y (application_type S (checked S V G x) x)) (inferred_wound h xs n)
       ∙ next_next (inferred S V G h n) (along S V G xs) (application_type S (checked S V G x) x)
 
-  pub head_fails : (f : TypeFault) (h t : Tree) (xs : List Tree) (n : ℕ) → wound h xs ≡ t → Fails f (inferred S V G h n) → Fails f (inferred S V G t n)
-  head_fails f h t xs n e q = fails_is f _ _ (ap (λ u. inferred S V G u n) (flip e) ∙ inferred_wound h xs n) (fails_next f (inferred S V G h n) (along S V G xs) q)
+  pub head_fails : (f : TypeFault) (spare : ℕ) (h t : Tree) (xs : List Tree) (n : ℕ) → wound h xs ≡ t → Fails f spare (inferred S V G h n) → Fails f spare (inferred S V G t n)
+  head_fails f spare h t xs n e q = fails_is f spare _ _ (ap (λ u. inferred S V G u n) (flip e) ∙ inferred_wound h xs n) (fails_next f spare (inferred S V G h n) (along S V G xs) q)
 
   pub head_given : (h t F : Tree) (xs : List Tree) (n m : ℕ) → wound h xs ≡ t → inferred S V G h n ≡ answer F m → along S V G xs F m ≡ inferred S V G t n
   head_given h t F xs n m e q = flip (ap (λ u. inferred S V G u n) (flip e) ∙ inferred_wound h xs n ∙ ap (λ y. next y (along S V G xs)) q)
@@ -28,9 +28,9 @@ module _ (S : PlainSignature) (V G : List Tree) where
       ap (λ z. next z (application_type S (checked S V G y) y)) (along_pushed xs x F n)
       ∙ next_next (argument_type S V G x F n) (along S V G xs) (application_type S (checked S V G y) y)
 
-  pub argument_fails : (f : TypeFault) (xs : List Tree) (x F : Tree) (n : ℕ) → Fails f (argument_type S V G x F n)
-      → Fails f (along S V G (xs ++ (x ∷ [])) F n)
-  argument_fails f xs x F n q = fails_is f _ _ (along_pushed xs x F n) (fails_next f (argument_type S V G x F n) (along S V G xs) q)
+  pub argument_fails : (f : TypeFault) (spare : ℕ) (xs : List Tree) (x F : Tree) (n : ℕ) → Fails f spare (argument_type S V G x F n)
+      → Fails f spare (along S V G (xs ++ (x ∷ [])) F n)
+  argument_fails f spare xs x F n q = fails_is f spare _ _ (along_pushed xs x F n) (fails_next f spare (argument_type S V G x F n) (along S V G xs) q)
 
   pub argument_given : (xs : List Tree) (x F T : Tree) (n m : ℕ) → argument_type S V G x F n ≡ answer T m
       → along S V G (xs ++ (x ∷ [])) F n ≡ along S V G xs T m

@@ -22,9 +22,9 @@ module _ {R T : Type 0} (owns : R → T → Type 0) (denotes : R → T → Tree)
   -- such a type of the reducer's, with the units left
   abbrev pub GivesApplied : Judged Tree → R → Result (Applied T) TypeFault → ℕ → Type 0
   GivesApplied due r (Ok a) left = (due ≡ answer (put_together r 0 a) left) × OwnsApplied r a
-  GivesApplied due r (Err fault) left = Fails fault due
+  GivesApplied due r (Err fault) left = Fails fault left due
 
   -- the two parts of a function's type, with the units left
   abbrev pub GivesFunction : Judged (Tree × Tree) → R → Result (Function T) TypeFault → ℕ → Type 0
   GivesFunction due r (Ok f) left = (due ≡ answer (denotes r f.domain, put_together r 1 f.codomain) left) × owns r f.domain × OwnsApplied r f.codomain
-  GivesFunction due r (Err fault) left = Fails fault due
+  GivesFunction due r (Err fault) left = Fails fault left due

@@ -18,5 +18,5 @@ is_formed n = false
 -- the outermost node of a term of the reducer's, with the units left
 abbrev pub GivesNode : {R T : Type 0} → (R → T → Type 0) → (R → T → Tree) → Units Tree → R → Result (NodeOf T) Stop → ℕ → Type 0
 GivesNode owns denotes due r (Ok n) left = (due ≡ Some (built denotes r n, left)) × OwnsParts owns r n
-GivesNode owns denotes due r (Err Ended) left = due ≡ None
+GivesNode owns denotes due r (Err Ended) left = (due ≡ None) × (left ≡ 0)
 GivesNode owns denotes due r (Err NoMemory) left = Unit {0}

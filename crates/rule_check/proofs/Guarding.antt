@@ -50,9 +50,9 @@ module _ {R T : Type 0} {owns : R → T → Type 0} {denotes : R → T → Tree}
       ∙ checked_same S n (values_kept old mid types k o) (innermost_kept old mid g.bound k h.bound) (k.same g.term h.term) (k.same g.typ h.typ)
 
 module _ {R T : Type 0} (denotes : R → T → Tree) (S : PlainSignature) (r : R) (types : List T) where
-  pub guards_fail : (f : TypeFault) (g : Guard T) (rest others : List (Guard T)) (n : ℕ) → rest ≡ g ∷ others → Fails f (guard_due denotes S r types g n) → Fails f (guards_due denotes S r types rest n)
-  guards_fail f g rest others n e h = let P : List (Guard T) → Type 0 = λ gs. Fails f (guards_due denotes S r types gs n) in
-      subst P (flip e) (fails_next f (guard_due denotes S r types g n) (λ u m. guards_due denotes S r types others m) h)
+  pub guards_fail : (f : TypeFault) (spare : ℕ) (g : Guard T) (rest others : List (Guard T)) (n : ℕ) → rest ≡ g ∷ others → Fails f spare (guard_due denotes S r types g n) → Fails f spare (guards_due denotes S r types rest n)
+  guards_fail f spare g rest others n e h = let P : List (Guard T) → Type 0 = λ gs. Fails f spare (guards_due denotes S r types gs n) in
+      subst P (flip e) (fails_next f spare (guard_due denotes S r types g n) (λ u m. guards_due denotes S r types others m) h)
 
   pub guards_go_on : (g : Guard T) (rest others : List (Guard T)) (n m : ℕ) → rest ≡ g ∷ others → guard_due denotes S r types g n ≡ answer tt m
       → guards_due denotes S r types others m ≡ guards_due denotes S r types rest n

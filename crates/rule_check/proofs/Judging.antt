@@ -33,81 +33,81 @@ goes x a n g e = ap (λ y. next y g) e
 met_later : (X : Judged Tree) (C : Tree → ℕ → Judged (Unit {0})) (w : Found) (K : Found → ℕ → Judged Walked)
     → next X (λ T m. next (C T m) (λ u i. K w i)) ≡ next (next (next X C) (λ u i. answer w i)) K
 met_later (answer T m) C w K = flip (next_next (C T m) (λ u i. answer w i) K)
-met_later (refused c) C w K = refl
+met_later (refused c n) C w K = refl
 met_later ended C w K = refl
 
 module _ (S : PlainSignature) (G : List Tree) where
   -- a confined type
-  pub bound_fails : (f : TypeFault) (d : ℕ) (xs : List ℕ) (A : Tree) (n : ℕ) → d ≡ length G → Fails f (confined S d xs A n) → Fails f (bound_type S G xs A n)
-  bound_fails f d xs A n e h = let P : ℕ → Type 0 = λ k. Fails f (confined S k xs A n) in
-      fails_next f (confined S (length G) xs A n) (λ U m. answer (renamed 0 (length G) xs U) m) (subst P e h)
+  pub bound_fails : (f : TypeFault) (spare : ℕ) (d : ℕ) (xs : List ℕ) (A : Tree) (n : ℕ) → d ≡ length G → Fails f spare (confined S d xs A n) → Fails f spare (bound_type S G xs A n)
+  bound_fails f spare d xs A n e h = let P : ℕ → Type 0 = λ k. Fails f spare (confined S k xs A n) in
+      fails_next f spare (confined S (length G) xs A n) (λ U m. answer (renamed 0 (length G) xs U) m) (subst P e h)
 
   pub bound_given : (d : ℕ) (xs : List ℕ) (A U : Tree) (n m : ℕ) → d ≡ length G → confined S d xs A n ≡ answer U m → bound_type S G xs A n ≡ answer (renamed 0 d xs U) m
   bound_given d xs A U n m e h = let P : ℕ → Type 0 = λ k. bound_type S G xs A n ≡ answer (renamed 0 k xs U) m in let Q : ℕ → Type 0 = λ k. confined S k xs A n ≡ answer U m in
       subst P (flip e) (goes (confined S (length G) xs A n) U m (λ U m. answer (renamed 0 (length G) xs U) m) (subst Q e h))
 
   -- the type of a first occurrence
-  pub first_domain_fails : (f : TypeFault) (before xs : List ℕ) (x : ℕ) (A : Tree) (n : ℕ) → Fails f (bound_type S G before (variable_type G x) n) → Fails f (first_type S G before (x ∷ xs) A n)
-  first_domain_fails f before xs x A n h = fails_next f (bound_type S G before (variable_type G x) n) _ h
+  pub first_domain_fails : (f : TypeFault) (spare : ℕ) (before xs : List ℕ) (x : ℕ) (A : Tree) (n : ℕ) → Fails f spare (bound_type S G before (variable_type G x) n) → Fails f spare (first_type S G before (x ∷ xs) A n)
+  first_domain_fails f spare before xs x A n h = fails_next f spare (bound_type S G before (variable_type G x) n) _ h
 
-  pub first_codomain_fails : (f : TypeFault) (before xs : List ℕ) (x : ℕ) (A D : Tree) (n m : ℕ) → bound_type S G before (variable_type G x) n ≡ answer D m
-      → Fails f (first_type S G (before ++ x ∷ []) xs A m) → Fails f (first_type S G before (x ∷ xs) A n)
-  first_codomain_fails f before xs x A D n m e h = fails_is f _ _ (goes (bound_type S G before (variable_type G x) n) D m _ e) (fails_next f (first_type S G (before ++ x ∷ []) xs A m) _ h)
+  pub first_codomain_fails : (f : TypeFault) (spare : ℕ) (before xs : List ℕ) (x : ℕ) (A D : Tree) (n m : ℕ) → bound_type S G before (variable_type G x) n ≡ answer D m
+      → Fails f spare (first_type S G (before ++ x ∷ []) xs A m) → Fails f spare (first_type S G before (x ∷ xs) A n)
+  first_codomain_fails f spare before xs x A D n m e h = fails_is f spare _ _ (goes (bound_type S G before (variable_type G x) n) D m _ e) (fails_next f spare (first_type S G (before ++ x ∷ []) xs A m) _ h)
 
   pub first_given : (before xs : List ℕ) (x : ℕ) (A D B : Tree) (n m i : ℕ) → bound_type S G before (variable_type G x) n ≡ answer D m
       → first_type S G (before ++ x ∷ []) xs A m ≡ answer B i → first_type S G before (x ∷ xs) A n ≡ answer (product D B) i
   first_given before xs x A D B n m i e h = goes (bound_type S G before (variable_type G x) n) D m _ e ∙ goes (first_type S G (before ++ x ∷ []) xs A m) B i _ h
 
   -- the type of a later one
-  pub later_product_fails : (f : TypeFault) (xs : List ℕ) (x : ℕ) (F : Tree) (n : ℕ) → Fails f (as_product S E34 F n) → Fails f (later_type S G (x ∷ xs) F n)
-  later_product_fails f xs x F n h = fails_next f (as_product S E34 F n) _ h
+  pub later_product_fails : (f : TypeFault) (spare : ℕ) (xs : List ℕ) (x : ℕ) (F : Tree) (n : ℕ) → Fails f spare (as_product S E34 F n) → Fails f spare (later_type S G (x ∷ xs) F n)
+  later_product_fails f spare xs x F n h = fails_next f spare (as_product S E34 F n) _ h
 
   later_argument : (xs : List ℕ) (x : ℕ) (F A B : Tree) (n m : ℕ) → as_product S E34 F n ≡ answer (A, B) m
       → later_type S G (x ∷ xs) F n ≡ next (as_convertible S (variable_type G x) A m) (λ u i. later_type S G xs (substitute 0 (variable x) B) i)
   later_argument xs x F A B n m e = goes (as_product S E34 F n) (A, B) m _ e
 
-  pub later_argument_fails : (f : TypeFault) (xs : List ℕ) (x : ℕ) (F A B : Tree) (n m : ℕ) → as_product S E34 F n ≡ answer (A, B) m
-      → Fails f (as_convertible S (variable_type G x) A m) → Fails f (later_type S G (x ∷ xs) F n)
-  later_argument_fails f xs x F A B n m e h = fails_is f _ _ (later_argument xs x F A B n m e) (fails_next f (as_convertible S (variable_type G x) A m) _ h)
+  pub later_argument_fails : (f : TypeFault) (spare : ℕ) (xs : List ℕ) (x : ℕ) (F A B : Tree) (n m : ℕ) → as_product S E34 F n ≡ answer (A, B) m
+      → Fails f spare (as_convertible S (variable_type G x) A m) → Fails f spare (later_type S G (x ∷ xs) F n)
+  later_argument_fails f spare xs x F A B n m e h = fails_is f spare _ _ (later_argument xs x F A B n m e) (fails_next f spare (as_convertible S (variable_type G x) A m) _ h)
 
   pub later_goes_on : (xs : List ℕ) (x : ℕ) (F A B : Tree) (n m i : ℕ) → as_product S E34 F n ≡ answer (A, B) m → as_convertible S (variable_type G x) A m ≡ answer tt i
       → later_type S G (x ∷ xs) F n ≡ later_type S G xs (substitute 0 (variable x) B) i
   later_goes_on xs x F A B n m i e h = later_argument xs x F A B n m e ∙ goes (as_convertible S (variable_type G x) A m) tt i _ h
 
-  pub later_fails : (f : TypeFault) (xs : List ℕ) (x : ℕ) (F A B : Tree) (n m i : ℕ) → as_product S E34 F n ≡ answer (A, B) m → as_convertible S (variable_type G x) A m ≡ answer tt i
-      → Fails f (later_type S G xs (substitute 0 (variable x) B) i) → Fails f (later_type S G (x ∷ xs) F n)
-  later_fails f xs x F A B n m i e h k = fails_is f _ _ (later_goes_on xs x F A B n m i e h) k
+  pub later_fails : (f : TypeFault) (spare : ℕ) (xs : List ℕ) (x : ℕ) (F A B : Tree) (n m i : ℕ) → as_product S E34 F n ≡ answer (A, B) m → as_convertible S (variable_type G x) A m ≡ answer tt i
+      → Fails f spare (later_type S G xs (substitute 0 (variable x) B) i) → Fails f spare (later_type S G (x ∷ xs) F n)
+  later_fails f spare xs x F A B n m i e h k = fails_is f spare _ _ (later_goes_on xs x F A B n m i e h) k
 
   pub later_given : (xs : List ℕ) (x : ℕ) (F A B T : Tree) (n m i j : ℕ) → as_product S E34 F n ≡ answer (A, B) m → as_convertible S (variable_type G x) A m ≡ answer tt i
       → later_type S G xs (substitute 0 (variable x) B) i ≡ answer T j → later_type S G (x ∷ xs) F n ≡ answer T j
   later_given xs x F A B T n m i j e h k = later_goes_on xs x F A B n m i e h ∙ k
 
   -- a rule variable
-  pub first_occurrence_fails : (f : TypeFault) (k : ℕ) (xs : List ℕ) (A : Tree) (w : Found) (n : ℕ) → Fails f (first_type S G [] xs A n) → Fails f (first_occurrence S G k xs A w n)
-  first_occurrence_fails f k xs A w n h = fails_next f (first_type S G [] xs A n) _ h
+  pub first_occurrence_fails : (f : TypeFault) (spare : ℕ) (k : ℕ) (xs : List ℕ) (A : Tree) (w : Found) (n : ℕ) → Fails f spare (first_type S G [] xs A n) → Fails f spare (first_occurrence S G k xs A w n)
+  first_occurrence_fails f spare k xs A w n h = fails_next f spare (first_type S G [] xs A n) _ h
 
   pub first_occurrence_given : (k : ℕ) (xs : List ℕ) (A T : Tree) (w : Found) (n m : ℕ) → first_type S G [] xs A n ≡ answer T m
       → first_occurrence S G k xs A w n ≡ answer (record { term = occurrence k xs; typ = A; found = with_type w k T }) m
   first_occurrence_given k xs A T w n m e = goes (first_type S G [] xs A n) T m _ e
 
-  pub later_occurrence_fails : (f : TypeFault) (k : ℕ) (xs : List ℕ) (F A : Tree) (w : Found) (n d : ℕ) → d ≡ length G → Fails f (later_type S G xs (shift 0 d F) n) → Fails f (later_occurrence S G k xs F A w n)
-  later_occurrence_fails f k xs F A w n d e h = let P : ℕ → Type 0 = λ j. Fails f (later_type S G xs (shift 0 j F) n) in fails_next f (later_type S G xs (shift 0 (length G) F) n) _ (subst P e h)
+  pub later_occurrence_fails : (f : TypeFault) (spare : ℕ) (k : ℕ) (xs : List ℕ) (F A : Tree) (w : Found) (n d : ℕ) → d ≡ length G → Fails f spare (later_type S G xs (shift 0 d F) n) → Fails f spare (later_occurrence S G k xs F A w n)
+  later_occurrence_fails f spare k xs F A w n d e h = let P : ℕ → Type 0 = λ j. Fails f spare (later_type S G xs (shift 0 j F) n) in fails_next f spare (later_type S G xs (shift 0 (length G) F) n) _ (subst P e h)
 
   later_compared : (k : ℕ) (xs : List ℕ) (F A T : Tree) (w : Found) (n m d : ℕ) → d ≡ length G → later_type S G xs (shift 0 d F) n ≡ answer T m
       → later_occurrence S G k xs F A w n ≡ next (as_convertible S T A m) (λ u i. answer (record { term = occurrence k xs; typ = A; found = w }) i)
   later_compared k xs F A T w n m d e h = let P : ℕ → Type 0 = λ j. later_type S G xs (shift 0 j F) n ≡ answer T m in goes (later_type S G xs (shift 0 (length G) F) n) T m _ (subst P e h)
 
-  pub later_compared_fails : (f : TypeFault) (k : ℕ) (xs : List ℕ) (F A T : Tree) (w : Found) (n m d : ℕ) → d ≡ length G → later_type S G xs (shift 0 d F) n ≡ answer T m
-      → Fails f (as_convertible S T A m) → Fails f (later_occurrence S G k xs F A w n)
-  later_compared_fails f k xs F A T w n m d e h q = fails_is f _ _ (later_compared k xs F A T w n m d e h) (fails_next f (as_convertible S T A m) _ q)
+  pub later_compared_fails : (f : TypeFault) (spare : ℕ) (k : ℕ) (xs : List ℕ) (F A T : Tree) (w : Found) (n m d : ℕ) → d ≡ length G → later_type S G xs (shift 0 d F) n ≡ answer T m
+      → Fails f spare (as_convertible S T A m) → Fails f spare (later_occurrence S G k xs F A w n)
+  later_compared_fails f spare k xs F A T w n m d e h q = fails_is f spare _ _ (later_compared k xs F A T w n m d e h) (fails_next f spare (as_convertible S T A m) _ q)
 
   pub later_occurrence_given : (k : ℕ) (xs : List ℕ) (F A T : Tree) (w : Found) (n m i d : ℕ) → d ≡ length G → later_type S G xs (shift 0 d F) n ≡ answer T m
       → as_convertible S T A m ≡ answer tt i → later_occurrence S G k xs F A w n ≡ answer (record { term = occurrence k xs; typ = A; found = w }) i
   later_occurrence_given k xs F A T w n m i d e h q = later_compared k xs F A T w n m d e h ∙ goes (as_convertible S T A m) tt i _ q
 
   -- a wildcard
-  pub wildcard_fails : (f : TypeFault) (xs : List ℕ) (A : Tree) (w : Found) (n : ℕ) → xs ≡ outermost_first (length G) → Fails f (first_type S G [] xs A n) → Fails f (wildcard_walked S G A w n)
-  wildcard_fails f xs A w n e h = let P : List ℕ → Type 0 = λ ys. Fails f (first_type S G [] ys A n) in fails_next f (first_type S G [] (outermost_first (length G)) A n) _ (subst P e h)
+  pub wildcard_fails : (f : TypeFault) (spare : ℕ) (xs : List ℕ) (A : Tree) (w : Found) (n : ℕ) → xs ≡ outermost_first (length G) → Fails f spare (first_type S G [] xs A n) → Fails f spare (wildcard_walked S G A w n)
+  wildcard_fails f spare xs A w n e h = let P : List ℕ → Type 0 = λ ys. Fails f spare (first_type S G [] ys A n) in fails_next f spare (first_type S G [] (outermost_first (length G)) A n) _ (subst P e h)
 
   pub wildcard_given : (xs : List ℕ) (A T : Tree) (w : Found) (n m : ℕ) → xs ≡ outermost_first (length G) → first_type S G [] xs A n ≡ answer T m
       → wildcard_walked S G A w n ≡ answer (record { term = occurrence (length w.types) xs; typ = A; found = with_wildcard w T }) m
@@ -117,48 +117,48 @@ module _ (S : PlainSignature) (G : List Tree) where
       subst Q (flip e) (goes (first_type S G [] (outermost_first (length G)) A n) T m _ (subst P e h))
 
   -- a head with its patterns
-  pub expected_fails : (f : TypeFault) (t F A : Tree) (ps : Patterns) (w : Found) (n : ℕ) → Fails f (spine_walked S G t F ps w n) → Fails f (next (spine_walked S G t F ps w n) (as_expected S A))
-  expected_fails f t F A ps w n h = fails_next f (spine_walked S G t F ps w n) (as_expected S A) h
+  pub expected_fails : (f : TypeFault) (spare : ℕ) (t F A : Tree) (ps : Patterns) (w : Found) (n : ℕ) → Fails f spare (spine_walked S G t F ps w n) → Fails f spare (next (spine_walked S G t F ps w n) (as_expected S A))
+  expected_fails f spare t F A ps w n h = fails_next f spare (spine_walked S G t F ps w n) (as_expected S A) h
 
   expected_compared : (t F A : Tree) (ps : Patterns) (w : Found) (a : Walked) (n m : ℕ) → spine_walked S G t F ps w n ≡ answer a m
       → next (spine_walked S G t F ps w n) (as_expected S A) ≡ next (as_convertible S a.typ A m) (λ u i. answer (record { term = a.term; typ = A; found = a.found }) i)
   expected_compared t F A ps w a n m e = goes (spine_walked S G t F ps w n) a m (as_expected S A) e
 
-  pub expected_compared_fails : (f : TypeFault) (t F A : Tree) (ps : Patterns) (w : Found) (a : Walked) (n m : ℕ) → spine_walked S G t F ps w n ≡ answer a m
-      → Fails f (as_convertible S a.typ A m) → Fails f (next (spine_walked S G t F ps w n) (as_expected S A))
-  expected_compared_fails f t F A ps w a n m e h = fails_is f _ _ (expected_compared t F A ps w a n m e) (fails_next f (as_convertible S a.typ A m) _ h)
+  pub expected_compared_fails : (f : TypeFault) (spare : ℕ) (t F A : Tree) (ps : Patterns) (w : Found) (a : Walked) (n m : ℕ) → spine_walked S G t F ps w n ≡ answer a m
+      → Fails f spare (as_convertible S a.typ A m) → Fails f spare (next (spine_walked S G t F ps w n) (as_expected S A))
+  expected_compared_fails f spare t F A ps w a n m e h = fails_is f spare _ _ (expected_compared t F A ps w a n m e) (fails_next f spare (as_convertible S a.typ A m) _ h)
 
   pub expected_given : (t F A : Tree) (ps : Patterns) (w : Found) (a : Walked) (n m i : ℕ) → spine_walked S G t F ps w n ≡ answer a m → as_convertible S a.typ A m ≡ answer tt i
       → next (spine_walked S G t F ps w n) (as_expected S A) ≡ answer (record { term = a.term; typ = A; found = a.found }) i
   expected_given t F A ps w a n m i e h = expected_compared t F A ps w a n m e ∙ goes (as_convertible S a.typ A m) tt i _ h
 
   -- an abstraction
-  pub abstraction_product_fails : (f : TypeFault) (p : Pattern) (A : Tree) (w : Found) (n : ℕ) → Fails f (as_product S E34 A n) → Fails f (walked S G (abstraction_pattern p) A w n)
-  abstraction_product_fails f p A w n h = fails_next f (as_product S E34 A n) _ h
+  pub abstraction_product_fails : (f : TypeFault) (spare : ℕ) (p : Pattern) (A : Tree) (w : Found) (n : ℕ) → Fails f spare (as_product S E34 A n) → Fails f spare (walked S G (abstraction_pattern p) A w n)
+  abstraction_product_fails f spare p A w n h = fails_next f spare (as_product S E34 A n) _ h
 
   abstraction_body : (p : Pattern) (A D B : Tree) (w : Found) (n m : ℕ) → as_product S E34 A n ≡ answer (D, B) m
       → walked S G (abstraction_pattern p) A w n ≡ next (walked S (D ∷ G) p B w m) (λ a i. answer (record { term = bare a.term; typ = A; found = a.found }) i)
   abstraction_body p A D B w n m e = goes (as_product S E34 A n) (D, B) m _ e
 
-  pub abstraction_body_fails : (f : TypeFault) (p : Pattern) (A D B : Tree) (w : Found) (n m : ℕ) → as_product S E34 A n ≡ answer (D, B) m
-      → Fails f (walked S (D ∷ G) p B w m) → Fails f (walked S G (abstraction_pattern p) A w n)
-  abstraction_body_fails f p A D B w n m e h = fails_is f _ _ (abstraction_body p A D B w n m e) (fails_next f (walked S (D ∷ G) p B w m) _ h)
+  pub abstraction_body_fails : (f : TypeFault) (spare : ℕ) (p : Pattern) (A D B : Tree) (w : Found) (n m : ℕ) → as_product S E34 A n ≡ answer (D, B) m
+      → Fails f spare (walked S (D ∷ G) p B w m) → Fails f spare (walked S G (abstraction_pattern p) A w n)
+  abstraction_body_fails f spare p A D B w n m e h = fails_is f spare _ _ (abstraction_body p A D B w n m e) (fails_next f spare (walked S (D ∷ G) p B w m) _ h)
 
   pub abstraction_given : (p : Pattern) (A D B : Tree) (w : Found) (a : Walked) (n m i : ℕ) → as_product S E34 A n ≡ answer (D, B) m
       → walked S (D ∷ G) p B w m ≡ answer a i → walked S G (abstraction_pattern p) A w n ≡ answer (record { term = bare a.term; typ = A; found = a.found }) i
   abstraction_given p A D B w a n m i e h = abstraction_body p A D B w n m e ∙ goes (walked S (D ∷ G) p B w m) a i _ h
 
   -- a spine
-  pub spine_product_fails : (f : TypeFault) (t F : Tree) (p : Pattern) (ps : Patterns) (w : Found) (n : ℕ) → Fails f (as_product S E34 F n) → Fails f (spine_walked S G t F (more_patterns p ps) w n)
-  spine_product_fails f t F p ps w n h = fails_next f (as_product S E34 F n) _ h
+  pub spine_product_fails : (f : TypeFault) (spare : ℕ) (t F : Tree) (p : Pattern) (ps : Patterns) (w : Found) (n : ℕ) → Fails f spare (as_product S E34 F n) → Fails f spare (spine_walked S G t F (more_patterns p ps) w n)
+  spine_product_fails f spare t F p ps w n h = fails_next f spare (as_product S E34 F n) _ h
 
   spine_argument : (t F A B : Tree) (p : Pattern) (ps : Patterns) (w : Found) (n m : ℕ) → as_product S E34 F n ≡ answer (A, B) m
       → spine_walked S G t F (more_patterns p ps) w n ≡ next (walked S G p A w m) (λ a i. spine_walked S G (apply t a.term) (substitute 0 a.term B) ps a.found i)
   spine_argument t F A B p ps w n m e = goes (as_product S E34 F n) (A, B) m _ e
 
-  pub spine_argument_fails : (f : TypeFault) (t F A B : Tree) (p : Pattern) (ps : Patterns) (w : Found) (n m : ℕ) → as_product S E34 F n ≡ answer (A, B) m
-      → Fails f (walked S G p A w m) → Fails f (spine_walked S G t F (more_patterns p ps) w n)
-  spine_argument_fails f t F A B p ps w n m e h = fails_is f _ _ (spine_argument t F A B p ps w n m e) (fails_next f (walked S G p A w m) _ h)
+  pub spine_argument_fails : (f : TypeFault) (spare : ℕ) (t F A B : Tree) (p : Pattern) (ps : Patterns) (w : Found) (n m : ℕ) → as_product S E34 F n ≡ answer (A, B) m
+      → Fails f spare (walked S G p A w m) → Fails f spare (spine_walked S G t F (more_patterns p ps) w n)
+  spine_argument_fails f spare t F A B p ps w n m e h = fails_is f spare _ _ (spine_argument t F A B p ps w n m e) (fails_next f spare (walked S G p A w m) _ h)
 
   pub spine_goes_on : (t F A B : Tree) (p : Pattern) (ps : Patterns) (w : Found) (a : Walked) (n m i : ℕ) → as_product S E34 F n ≡ answer (A, B) m → walked S G p A w m ≡ answer a i
       → spine_walked S G t F (more_patterns p ps) w n ≡ spine_walked S G (apply t a.term) (substitute 0 a.term B) ps a.found i
@@ -170,8 +170,8 @@ module _ (S : PlainSignature) (G : List Tree) where
   by_meeting k xs None A w n = flip (next_next (first_type S G [] xs A n) (λ T m. answer (with_type w k T) m) (λ w' m. answer (record { term = occurrence k xs; typ = A; found = w' }) m))
   by_meeting k xs (Some F) A w n = met_later (later_type S G xs (shift 0 (length G) F) n) (λ T m. as_convertible S T A m) w (λ w' m. answer (record { term = occurrence k xs; typ = A; found = w' }) m)
 
-  pub meeting_fails : (f : TypeFault) (k : ℕ) (xs : List ℕ) (o : Option Tree) (A : Tree) (w : Found) (n : ℕ) → Fails f (met S G k xs o A w n) → Fails f (rule_variable_walked S G k xs o A w n)
-  meeting_fails f k xs o A w n h = fails_is f _ _ (by_meeting k xs o A w n) (fails_next f (met S G k xs o A w n) _ h)
+  pub meeting_fails : (f : TypeFault) (spare : ℕ) (k : ℕ) (xs : List ℕ) (o : Option Tree) (A : Tree) (w : Found) (n : ℕ) → Fails f spare (met S G k xs o A w n) → Fails f spare (rule_variable_walked S G k xs o A w n)
+  meeting_fails f spare k xs o A w n h = fails_is f spare _ _ (by_meeting k xs o A w n) (fails_next f spare (met S G k xs o A w n) _ h)
 
   pub meeting_given : (k : ℕ) (xs : List ℕ) (o : Option Tree) (A : Tree) (w v : Found) (n m : ℕ) → met S G k xs o A w n ≡ answer v m
       → rule_variable_walked S G k xs o A w n ≡ answer (record { term = occurrence k xs; typ = A; found = v }) m
@@ -180,11 +180,11 @@ module _ (S : PlainSignature) (G : List Tree) where
   pub meet_first_given : (k : ℕ) (xs : List ℕ) (A T : Tree) (w : Found) (n m : ℕ) → first_type S G [] xs A n ≡ answer T m → met_first S G k xs A w n ≡ answer (with_type w k T) m
   meet_first_given k xs A T w n m e = goes (first_type S G [] xs A n) T m _ e
 
-  pub meet_first_fails : (f : TypeFault) (k : ℕ) (xs : List ℕ) (A : Tree) (w : Found) (n : ℕ) → Fails f (first_type S G [] xs A n) → Fails f (met_first S G k xs A w n)
-  meet_first_fails f k xs A w n h = fails_next f (first_type S G [] xs A n) _ h
+  pub meet_first_fails : (f : TypeFault) (spare : ℕ) (k : ℕ) (xs : List ℕ) (A : Tree) (w : Found) (n : ℕ) → Fails f spare (first_type S G [] xs A n) → Fails f spare (met_first S G k xs A w n)
+  meet_first_fails f spare k xs A w n h = fails_next f spare (first_type S G [] xs A n) _ h
 
   pub meet_later_given : (k : ℕ) (xs : List ℕ) (F A : Tree) (w : Found) (n m : ℕ) → later_fits S G xs (shift 0 (length G) F) A n ≡ answer tt m → met S G k xs (Some F) A w n ≡ answer w m
   meet_later_given k xs F A w n m e = goes (later_fits S G xs (shift 0 (length G) F) A n) tt m _ e
 
-  pub meet_later_fails : (f : TypeFault) (k : ℕ) (xs : List ℕ) (F A : Tree) (w : Found) (n : ℕ) → Fails f (later_fits S G xs (shift 0 (length G) F) A n) → Fails f (met S G k xs (Some F) A w n)
-  meet_later_fails f k xs F A w n h = fails_next f (later_fits S G xs (shift 0 (length G) F) A n) _ h
+  pub meet_later_fails : (f : TypeFault) (spare : ℕ) (k : ℕ) (xs : List ℕ) (F A : Tree) (w : Found) (n : ℕ) → Fails f spare (later_fits S G xs (shift 0 (length G) F) A n) → Fails f spare (met S G k xs (Some F) A w n)
+  meet_later_fails f spare k xs F A w n h = fails_next f spare (later_fits S G xs (shift 0 (length G) F) A n) _ h

@@ -63,10 +63,10 @@ module _ {R T : Type 0} {owns : R → T → Type 0} {denotes : R → T → Tree}
 -- by the first of a list
 
 module _ (S : PlainSignature) (G : List Tree) where
-  pub product_fails : (f : TypeFault) (before rest others front b : List ℕ) (x : ℕ) (A D : Tree) (n m : ℕ) → rest ≡ x ∷ others → b ≡ before ++ x ∷ [] → front ≡ before → bound_type S G front (variable_type G x) n ≡ answer D m
-      → Fails f (first_type S G b others A m) → Fails f (first_type S G before rest A n)
-  product_fails f before rest others front b x A D n m e q i h k = let P : List ℕ → Type 0 = λ l. Fails f (first_type S G before l A n) in
-      let Q : List ℕ → Type 0 = λ l. Fails f (first_type S G l others A m) in subst P (flip e) (first_codomain_fails S G f before others x A D n m (ap (λ l. bound_type S G l (variable_type G x) n) (flip i) ∙ h) (subst Q q k))
+  pub product_fails : (f : TypeFault) (spare : ℕ) (before rest others front b : List ℕ) (x : ℕ) (A D : Tree) (n m : ℕ) → rest ≡ x ∷ others → b ≡ before ++ x ∷ [] → front ≡ before → bound_type S G front (variable_type G x) n ≡ answer D m
+      → Fails f spare (first_type S G b others A m) → Fails f spare (first_type S G before rest A n)
+  product_fails f spare before rest others front b x A D n m e q i h k = let P : List ℕ → Type 0 = λ l. Fails f spare (first_type S G before l A n) in
+      let Q : List ℕ → Type 0 = λ l. Fails f spare (first_type S G l others A m) in subst P (flip e) (first_codomain_fails S G f spare before others x A D n m (ap (λ l. bound_type S G l (variable_type G x) n) (flip i) ∙ h) (subst Q q k))
 
   pub product_given : (before rest others front b : List ℕ) (x : ℕ) (A D B : Tree) (n m i : ℕ) → rest ≡ x ∷ others → b ≡ before ++ x ∷ [] → front ≡ before → bound_type S G front (variable_type G x) n ≡ answer D m
       → first_type S G b others A m ≡ answer B i → first_type S G before rest A n ≡ answer (product D B) i
@@ -76,23 +76,23 @@ module _ (S : PlainSignature) (G : List Tree) where
   stepped : (X : Judged (Tree × Tree)) (C : Tree × Tree → ℕ → Judged (Unit {0})) (s : Tree × Tree → Tree) (K : Tree → ℕ → Judged Tree)
       → next X (λ p m. next (C p m) (λ u i. K (s p) i)) ≡ next (next X (λ p m. next (C p m) (λ u i. answer (s p) i))) K
   stepped (answer p m) C s K = flip (next_next (C p m) (λ u i. answer (s p) i) K)
-  stepped (refused c) C s K = refl
+  stepped (refused c n) C s K = refl
   stepped ended C s K = refl
 
   later_step : (x : ℕ) (xs : List ℕ) (F : Tree) (n : ℕ) → later_type S G (x ∷ xs) F n ≡ next (applied_type S G x F n) (λ B i. later_type S G xs B i)
   later_step x xs F n = stepped (as_product S E34 F n) (λ p m. as_convertible S (variable_type G x) p.0 m) (λ p. substitute 0 (variable x) p.1) (λ B i. later_type S G xs B i)
 
-  pub step_fails : (f : TypeFault) (rest others : List ℕ) (x : ℕ) (F : Tree) (n : ℕ) → rest ≡ x ∷ others → Fails f (applied_type S G x F n) → Fails f (later_type S G rest F n)
-  step_fails f rest others x F n e h = let P : List ℕ → Type 0 = λ l. Fails f (later_type S G l F n) in
-      subst P (flip e) (fails_is f _ _ (later_step x others F n) (fails_next f (applied_type S G x F n) _ h))
+  pub step_fails : (f : TypeFault) (spare : ℕ) (rest others : List ℕ) (x : ℕ) (F : Tree) (n : ℕ) → rest ≡ x ∷ others → Fails f spare (applied_type S G x F n) → Fails f spare (later_type S G rest F n)
+  step_fails f spare rest others x F n e h = let P : List ℕ → Type 0 = λ l. Fails f spare (later_type S G l F n) in
+      subst P (flip e) (fails_is f spare _ _ (later_step x others F n) (fails_next f spare (applied_type S G x F n) _ h))
 
   pub step_given : (rest others : List ℕ) (x : ℕ) (F B : Tree) (n m : ℕ) → rest ≡ x ∷ others → applied_type S G x F n ≡ answer B m → later_type S G others B m ≡ later_type S G rest F n
   step_given rest others x F B n m e h = let P : List ℕ → Type 0 = λ l. later_type S G others B m ≡ later_type S G l F n in
       subst P (flip e) (flip (later_step x others F n ∙ ap (λ y. next y (λ C i. later_type S G others C i)) h))
 
-  pub applied_fails : (f : TypeFault) (x : ℕ) (F A B : Tree) (n m : ℕ) → as_product S E34 F n ≡ answer (A, B) m → Fails f (as_convertible S (variable_type G x) A m) → Fails f (applied_type S G x F n)
-  applied_fails f x F A B n m e h = fails_is f _ _ (ap (λ y. next y (λ p m. next (as_convertible S (variable_type G x) p.0 m) (λ u i. answer (substitute 0 (variable x) p.1) i))) e)
-      (fails_next f (as_convertible S (variable_type G x) A m) _ h)
+  pub applied_fails : (f : TypeFault) (spare : ℕ) (x : ℕ) (F A B : Tree) (n m : ℕ) → as_product S E34 F n ≡ answer (A, B) m → Fails f spare (as_convertible S (variable_type G x) A m) → Fails f spare (applied_type S G x F n)
+  applied_fails f spare x F A B n m e h = fails_is f spare _ _ (ap (λ y. next y (λ p m. next (as_convertible S (variable_type G x) p.0 m) (λ u i. answer (substitute 0 (variable x) p.1) i))) e)
+      (fails_next f spare (as_convertible S (variable_type G x) A m) _ h)
 
   pub applied_given : (x : ℕ) (F A B : Tree) (n m i : ℕ) → as_product S E34 F n ≡ answer (A, B) m → as_convertible S (variable_type G x) A m ≡ answer tt i
       → applied_type S G x F n ≡ answer (substitute 0 (variable x) B) i
@@ -141,7 +141,7 @@ module _ {R T : Type 0} {owns : R → T → Type 0} {denotes : R → T → Tree}
       → GivesFound owns denotes (met S (bound_types denotes old c) x xs (Some F) B (found_of denotes old w) n) new w o m
   found_later w q x xs F B n m new l (Ok u) g =
       (meet_later_given S (bound_types denotes old c) x xs F B (found_of denotes old w) n m g ∙ ap (λ y. answer y m) (flip (found_same old new l w q)), found_kept old new l w q)
-  found_later w q x xs F B n m new l (Err f) g = meet_later_fails S (bound_types denotes old c) f x xs F B (found_of denotes old w) n g
+  found_later w q x xs F B n m new l (Err f) g = meet_later_fails S (bound_types denotes old c) f m x xs F B (found_of denotes old w) n g
 
   -- an occurrence where the rule variable has no type yet, and where it has one
   pub meets_first : (w : Found T) (q : OwnsFound owns old w) (x : ℕ) (xs : List ℕ) (A B : Tree) (n m : ℕ) (new : R) (found : Found T) (o : Result Unit TypeFault) (t : Option T)

@@ -19,8 +19,8 @@ checked_both : (S : PlainSignature) (right : Tree) {V W : List Tree} {A B : Tree
 checked_both S right {V} {W} {A} {B} n e f = ap (λ (x : List Tree). checked S x [] right A n) e ∙ ap (λ (x : Tree). checked S W [] right x n) f
 
 module _ {R T : Type 0} (denotes : R → T → Tree) (S : PlainSignature) (r : R) (right : Tree) (l : Left T) where
-  pub terms_fail : (f : TypeFault) (n : ℕ) → Fails f (guards_fit S (all_types (types_of denotes r l.found.types.items)) (guards_of denotes r l.found.guards.items) n) → Fails f (terms_due denotes S r right l n)
-  terms_fail f n h = fails_next f (guards_fit S (all_types (types_of denotes r l.found.types.items)) (guards_of denotes r l.found.guards.items) n) _ h
+  pub terms_fail : (f : TypeFault) (spare : ℕ) (n : ℕ) → Fails f spare (guards_fit S (all_types (types_of denotes r l.found.types.items)) (guards_of denotes r l.found.guards.items) n) → Fails f spare (terms_due denotes S r right l n)
+  terms_fail f spare n h = fails_next f spare (guards_fit S (all_types (types_of denotes r l.found.types.items)) (guards_of denotes r l.found.guards.items) n) _ h
 
 module _ {R T : Type 0} {owns : R → T → Type 0} {denotes : R → T → Tree} (S : PlainSignature) where
   all_is : (old one : R) (l : Left T) (types : List T) (slice : List (Option T)) → slice ≡ l.found.types.items → AreAllTypes owns denotes old slice one types

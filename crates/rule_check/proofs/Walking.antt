@@ -50,7 +50,7 @@ module _ (S : PlainSignature) where
     walked_along : (X : Judged (Tree × Tree)) (W : Tree × Tree → ℕ → Judged Walked) (s : Tree × Tree → Walked → Walked) (K : Walked → ℕ → Judged Walked)
         → next X (λ q m. next (W q m) (λ a i. K (s q a) i)) ≡ next (next X (λ q m. next (W q m) (λ a i. answer (s q a) i))) K
     walked_along (answer q m) W s K = flip (next_next (W q m) (λ a i. answer (s q a) i) K)
-    walked_along (refused c) W s K = refl
+    walked_along (refused c n) W s K = refl
     walked_along ended W s K = refl
 
     spine_step : (t F : Tree) (p : Pattern) (ps : Patterns) (w : PlainFound) (n : ℕ)
@@ -58,20 +58,20 @@ module _ (S : PlainSignature) where
     spine_step t F p ps w n = walked_along (as_product S E34 F n) (λ q m. walked S G p q.0 w m) (λ q a. (let x : Walked = record { term = apply t a.term; typ = substitute 0 a.term q.1; found = a.found } in x))
         (λ a m. spine_walked S G a.term a.typ ps a.found m)
 
-    pub spine_fails : (f : TypeFault) (t F : Tree) (p : Pat Term) (rest others : List (Pat Term)) (w : PlainFound) (n : ℕ) → rest ≡ p ∷ others → Fails f (argument_walked S G t F (pattern p) w n)
-        → Fails f (spine_walked S G t F (plain_patterns rest) w n)
-    spine_fails f t F p rest others w n e h = let P : List (Pat Term) → Type 0 = λ l. Fails f (spine_walked S G t F (plain_patterns l) w n) in
-        subst P (flip e) (fails_is f _ _ (spine_step t F (pattern p) (plain_patterns others) w n) (fails_next f (argument_walked S G t F (pattern p) w n) _ h))
+    pub spine_fails : (f : TypeFault) (spare : ℕ) (t F : Tree) (p : Pat Term) (rest others : List (Pat Term)) (w : PlainFound) (n : ℕ) → rest ≡ p ∷ others → Fails f spare (argument_walked S G t F (pattern p) w n)
+        → Fails f spare (spine_walked S G t F (plain_patterns rest) w n)
+    spine_fails f spare t F p rest others w n e h = let P : List (Pat Term) → Type 0 = λ l. Fails f spare (spine_walked S G t F (plain_patterns l) w n) in
+        subst P (flip e) (fails_is f spare _ _ (spine_step t F (pattern p) (plain_patterns others) w n) (fails_next f spare (argument_walked S G t F (pattern p) w n) _ h))
 
     pub spine_given : (t F : Tree) (p : Pat Term) (rest others : List (Pat Term)) (w : PlainFound) (a : Walked) (n m : ℕ) → rest ≡ p ∷ others → argument_walked S G t F (pattern p) w n ≡ answer a m
         → spine_walked S G a.term a.typ (plain_patterns others) a.found m ≡ spine_walked S G t F (plain_patterns rest) w n
     spine_given t F p rest others w a n m e h = let P : List (Pat Term) → Type 0 = λ l. spine_walked S G a.term a.typ (plain_patterns others) a.found m ≡ spine_walked S G t F (plain_patterns l) w n in
         subst P (flip e) (flip (spine_step t F (pattern p) (plain_patterns others) w n ∙ ap (λ y. next y (λ b i. spine_walked S G b.term b.typ (plain_patterns others) b.found i)) h))
 
-    pub argument_fails : (f : TypeFault) (t F A B : Tree) (p : Pattern) (w : PlainFound) (n m : ℕ) → as_product S E34 F n ≡ answer (A, B) m → Fails f (walked S G p A w m) → Fails f (argument_walked S G t F p w n)
-    argument_fails f t F A B p w n m e h =
-        fails_is f _ _ (ap (λ y. next y (λ q j. next (walked S G p q.0 w j) (λ a i. answer (record { term = apply t a.term; typ = substitute 0 a.term q.1; found = a.found }) i))) e)
-        (fails_next f (walked S G p A w m) _ h)
+    pub argument_fails : (f : TypeFault) (spare : ℕ) (t F A B : Tree) (p : Pattern) (w : PlainFound) (n m : ℕ) → as_product S E34 F n ≡ answer (A, B) m → Fails f spare (walked S G p A w m) → Fails f spare (argument_walked S G t F p w n)
+    argument_fails f spare t F A B p w n m e h =
+        fails_is f spare _ _ (ap (λ y. next y (λ q j. next (walked S G p q.0 w j) (λ a i. answer (record { term = apply t a.term; typ = substitute 0 a.term q.1; found = a.found }) i))) e)
+        (fails_next f spare (walked S G p A w m) _ h)
 
     pub argument_given : (t F A B : Tree) (p : Pattern) (w : PlainFound) (a : Walked) (n m i : ℕ) → as_product S E34 F n ≡ answer (A, B) m → walked S G p A w m ≡ answer a i
         → argument_walked S G t F p w n ≡ answer (record { term = apply t a.term; typ = substitute 0 a.term B; found = a.found }) i

@@ -24,24 +24,24 @@ module _ {R T : Type 0} (owns : R → T → Type 0) (denotes : R → T → Tree)
   -- the term of a pattern against the type A, with what is found then and the units left
   abbrev pub GivesTerm : Tree → Judged Walked → R → Found T → Result T TypeFault → ℕ → Type 0
   GivesTerm A due r w (Ok t) left = (due ≡ answer (record { term = denotes r t; typ = A; found = found_of denotes r w }) left) × owns r t × OwnsFound owns r w
-  GivesTerm A due r w (Err fault) left = Fails fault due
+  GivesTerm A due r w (Err fault) left = Fails fault left due
 
   -- a term and its type, with what is found then and the units left
   abbrev pub GivesHeaded : Judged Walked → R → Found T → Result (Headed T) TypeFault → ℕ → Type 0
   GivesHeaded due r w (Ok h) left =
       (due ≡ answer (record { term = denotes r h.term; typ = denotes r h.typ; found = found_of denotes r w }) left) × owns r h.term × owns r h.typ × OwnsFound owns r w
-  GivesHeaded due r w (Err fault) left = Fails fault due
+  GivesHeaded due r w (Err fault) left = Fails fault left due
 
   -- what is found then, with the units left
   abbrev pub GivesFound : Judged PlainFound → R → Found T → Result Unit TypeFault → ℕ → Type 0
   GivesFound due r w (Ok u) left = (due ≡ answer (found_of denotes r w) left) × OwnsFound owns r w
-  GivesFound due r w (Err fault) left = Fails fault due
+  GivesFound due r w (Err fault) left = Fails fault left due
 
   -- a left side, with the units left
   abbrev pub GivesLeft : Judged Walked → R → Result (Left T) TypeFault → ℕ → Type 0
   GivesLeft due r (Ok l) left =
       (t : Tree) × (due ≡ answer (record { term = t; typ = denotes r l.typ; found = found_of denotes r l.found }) left) × owns r l.typ × OwnsFound owns r l.found
-  GivesLeft due r (Err fault) left = Fails fault due
+  GivesLeft due r (Err fault) left = Fails fault left due
 
   -- a head and its type
   pub record IsHeaded (t F : Tree) (r : R) (h : Headed T) : Type 0 where
@@ -77,4 +77,4 @@ module _ {R T : Type 0} (owns : R → T → Type 0) (denotes : R → T → Tree)
 -- that a test is met, where these are given back
 abbrev pub GivesTypes : {T : Type 0} → List T → Judged (Unit {0}) → Result (List T) TypeFault → ℕ → Type 0
 GivesTypes types due (Ok ts) left = (due ≡ answer tt left) × (ts ≡ types)
-GivesTypes types due (Err fault) left = Fails fault due
+GivesTypes types due (Err fault) left = Fails fault left due

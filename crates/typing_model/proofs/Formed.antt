@@ -13,7 +13,7 @@ use Rattle.dk_model.specs.declared.signature.SymSort.TheVariants.{Static, Defina
 use Rattle.typing_model.specs.Conditions.{AreNumberedRules, IsNumberedEntry, IsNumbered, IsPlainOption, ArePlainRules, IsPlainEntry, HasNoAnnotations}
 use Rattle.typing_model.proofs.Plain.{plain_erased}
 use Rattle.typing_model.proofs.PlainEntries.{entry_plain}
-use Rattle.typing_model.proofs.Rules.{whnf_reduces, comparison_joins}
+use Rattle.typing_model.proofs.Rules.{units_reduce}
 use Rattle.typing_model.proofs.Shapes.{shapes_numbered, erased_rules_numbered}
 
 -- ---- what an entry gives
@@ -86,5 +86,5 @@ body_kept Theorem b = tt
 -- the entry of a command is one over the signature before it
 pub command_entry : (S : PlainSignature) → IsSignature S → (c : PlainCommand) (budget : ℕ) → IsEntryOver S (entry_of S c (inferred_type S c budget))
 command_entry S formed (declare s A b) budget = let numbered : IsNumbered S = formed_numbered S formed in
-    ((entry_plain S (formed_plain S formed) (whnf_reduces S numbered) (comparison_joins S numbered) (declare s A b) budget).0, body_kept s b)
+    ((entry_plain S (formed_plain S formed) (units_reduce S numbered) (declare s A b) budget).0, body_kept s b)
 command_entry S formed (rule_command rs) budget = kept_over S rs (shapes_of S rs) refl

@@ -7,7 +7,8 @@ use Rattle.dk_model.specs.declared.signature.SymSort.TheVariants.{Static, Defina
 use Rattle.typing_model.specs.Steps.{at_rule_variable, no_arguments, one_argument, Step, beta, by_rule, no_step, one_step, AreMet, no_condition, one_condition}
 use Rattle.typing_model.specs.Derivations.{HasType, RuleHasDerivation, HasDerivation}
 use Rattle.typing_model.specs.Conditions.{IsNumbered, HasNoAnnotations}
-use Rattle.typing_model.proofs.Rules.{whnf_reduces, normal_reduces, comparison_joins}
+use Rattle.dk_model.specs.Typing.{by_units}
+use Rattle.typing_model.proofs.Rules.{units_reduce}
 use Rattle.typing_model.proofs.RuleTyping.{rule_derives}
 use Rattle.typing_model.proofs.Commands.{accepted_derives}
 
@@ -49,7 +50,7 @@ unannotated : HasNoAnnotations repeated
 unannotated = ((tt, tt), ((tt, tt), (((tt, (tt, tt)), tt), ((tt, tt), (((tt, tt), tt), (((tt, tt), tt), tt))))))
 
 pub theorem_derives : HasDerivation repeated theorem
-theorem_derives = accepted_derives repeated (whnf_reduces repeated numbered) (normal_reduces repeated numbered) (comparison_joins repeated numbered) unannotated theorem 100 refl
+theorem_derives = accepted_derives repeated (by_units repeated) (units_reduce repeated numbered) unannotated theorem 100 refl
 
 -- [x, y : nat] same x y --> y
 abbrev right_one : PlainScopedRule
@@ -61,7 +62,7 @@ right_one = record {
 }
 
 pub right_one_derives : RuleHasDerivation repeated right_one
-right_one_derives = rule_derives repeated (whnf_reduces repeated numbered) (normal_reduces repeated numbered) (comparison_joins repeated numbered) unannotated right_one _ 4 0 tt refl refl
+right_one_derives = rule_derives repeated (by_units repeated) (units_reduce repeated numbered) unannotated right_one _ 4 0 tt refl refl
 
 -- [x] same _ x --> x
 abbrev past_wildcard : PlainScopedRule
@@ -73,11 +74,11 @@ past_wildcard = record {
 }
 
 pub past_wildcard_derives : RuleHasDerivation repeated past_wildcard
-past_wildcard_derives = rule_derives repeated (whnf_reduces repeated numbered) (normal_reduces repeated numbered) (comparison_joins repeated numbered) unannotated past_wildcard _ 3 0 tt refl refl
+past_wildcard_derives = rule_derives repeated (by_units repeated) (units_reduce repeated numbered) unannotated past_wildcard _ 3 0 tt refl refl
 
 -- both in one command
 abbrev two_rules : PlainCommand
 two_rules = rule_command (right_one ∷ past_wildcard ∷ [])
 
 pub rules_have_derivation : HasDerivation repeated two_rules
-rules_have_derivation = accepted_derives repeated (whnf_reduces repeated numbered) (normal_reduces repeated numbered) (comparison_joins repeated numbered) unannotated two_rules 7 refl
+rules_have_derivation = accepted_derives repeated (by_units repeated) (units_reduce repeated numbered) unannotated two_rules 7 refl

@@ -5,13 +5,14 @@ use Rattle.dk_model.specs.PlainEntries.{PlainRule, PlainSignature}
 use Rattle.dk_model.specs.WellFormed.{IsSignature}
 use Rattle.dk_model.specs.PlainCommands.{PlainScopedRule, PlainCommand, declare}
 use Rattle.dk_model.specs.Shapes.{shape_of}
-use Rattle.dk_model.specs.RuleTyping.{rule_checked}
+use Rattle.dk_model.specs.TypingOver.{Evaluator, answer, inferred, checked}
+use Rattle.dk_model.specs.RuleTypingOver.{rule_checked}
+use Rattle.dk_model.specs.CommandTypingOver.{command_checked}
 use Rattle.dk_model.specs.Spines.{head_symbol}
 use Rattle.dk_model.specs.Selection.{Selected}
 use Rattle.dk_model.specs.Evaluation.{whnf_of, comparison_of, normal_of, columns, rows, rewritten}
 use Rattle.dk_model.specs.Equations.{selection_of}
-use Rattle.dk_model.specs.Typing.{answer, inferred, checked}
-use Rattle.dk_model.specs.Verdicts.{verdict_of, inferred_type, entry_of}
+use Rattle.dk_model.specs.Verdicts.{verdict, inferred_type, entry_of}
 use Rattle.dk_model.specs.declared.code.Verdict.TheVariants.{Accepted}
 use Rattle.dk_model.specs.declared.signature.SymSort.{SymSort}
 use Rattle.typing_model.specs.Steps.{ReducesTo, AreJoinable}
@@ -36,25 +37,32 @@ SelectionReduces S = (n m k : ℕ) (t : Tree) (taken : Selected) → head_symbol
 abbrev pub ComparisonJoins : PlainSignature → Type 0
 ComparisonJoins S = (n m : ℕ) (t u : Tree) → comparison_of S n t u ≡ Some (true, m) → AreJoinable S t u
 
+-- an evaluation whose answers are reducts, and which finds only terms the same that are joinable, whatever is left to spend
+pub record Reduces {X : Type 0} (S : PlainSignature) (E : Evaluator X) : Type 0 where
+  pub whnf : (n m : X) (t u : Tree) → E.whnf n t ≡ Some (u, m) → ReducesTo S t u
+  pub same : (n m : X) (t u : Tree) → E.same n t u ≡ Some (true, m) → AreJoinable S t u
+  pub normal : (n m : X) (t u : Tree) → E.normal n t ≡ Some (u, m) → ReducesTo S t u
+
 -- a term has the type that inference answers
-abbrev pub InferredHasType : PlainSignature → Type 0
-InferredHasType S = (types : List Tree) (context : Context) (n m : ℕ) (t T : Tree) → inferred S types context t n ≡ answer T m → HasType S types context t T
+abbrev pub InferredHasType : {X : Type 0} → PlainSignature → Evaluator X → Type 0
+InferredHasType {X} S E = (types : List Tree) (context : Context) (n m : X) (t T : Tree) → inferred E S types context t n ≡ answer T m → HasType S types context t T
 
 -- a term fits the type against which checking accepts it
-abbrev pub CheckedFits : PlainSignature → Type 0
-CheckedFits S = (types : List Tree) (context : Context) (n m : ℕ) (t T : Tree) (u : Unit {0}) → checked S types context t T n ≡ answer u m → Fits S types context t T
+abbrev pub CheckedFits : {X : Type 0} → PlainSignature → Evaluator X → Type 0
+CheckedFits {X} S E = (types : List Tree) (context : Context) (n m : X) (t T : Tree) (u : Unit {0}) → checked E S types context t T n ≡ answer u m → Fits S types context t T
 
--- a command that the plain check accepts has a derivation
-abbrev pub AcceptedHasDerivation : PlainSignature → Type 0
-AcceptedHasDerivation S = (command : PlainCommand) (budget : ℕ) → verdict_of S command budget ≡ Accepted → HasDerivation S command
+-- a command that the check accepts has a derivation
+abbrev pub AcceptedHasDerivation : {X : Type 0} → PlainSignature → Evaluator X → Type 0
+AcceptedHasDerivation {X} S E = (command : PlainCommand) (budget : X) → verdict (command_checked E S command budget) ≡ Accepted → HasDerivation S command
 
--- a declaration, definition or theorem that the plain check accepts has a derivation
-abbrev pub DeclarationHasDerivation : PlainSignature → Type 0
-DeclarationHasDerivation S = (sort : SymSort) (typ body : Option Tree) (budget : ℕ) → verdict_of S (declare sort typ body) budget ≡ Accepted → HasDerivation S (declare sort typ body)
+-- a declaration, definition or theorem that the check accepts has a derivation
+abbrev pub DeclarationHasDerivation : {X : Type 0} → PlainSignature → Evaluator X → Type 0
+DeclarationHasDerivation {X} S E = (sort : SymSort) (typ body : Option Tree) (budget : X) → verdict (command_checked E S (declare sort typ body) budget) ≡ Accepted
+    → HasDerivation S (declare sort typ body)
 
 -- a rule whose shape is typed has a derivation
-abbrev pub TypedRuleHasDerivation : PlainSignature → Type 0
-TypedRuleHasDerivation S = (rule : PlainScopedRule) (shape : PlainRule) (n m : ℕ) (u : Unit {0}) → shape_of rule ≡ Ok shape → rule_checked S shape n ≡ answer u m → RuleHasDerivation S rule
+abbrev pub TypedRuleHasDerivation : {X : Type 0} → PlainSignature → Evaluator X → Type 0
+TypedRuleHasDerivation {X} S E = (rule : PlainScopedRule) (shape : PlainRule) (n m : X) (u : Unit {0}) → shape_of rule ≡ Ok shape → rule_checked E S shape n ≡ answer u m → RuleHasDerivation S rule
 
 -- a signature stays one with the entry of a further command
 abbrev pub StaysSignature : PlainSignature → Type 0

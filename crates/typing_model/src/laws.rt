@@ -5,6 +5,8 @@
 
 ghost use Rattle.std.specs.Prelude.{[]};
 ghost use Rattle.dk_model.specs.Trees.{bare, kind};
+ghost use Rattle.dk_model.specs.Typing.{by_units};
+ghost use Rattle.dk_model.specs.TypingOver.{Evaluator};
 ghost use Rattle.dk_model.specs.WellFormed.{IsSignature};
 ghost use Rattle.typing_model.specs.Captures.{CaptureGivesPart};
 ghost use Rattle.typing_model.specs.Conditions.{HasNoAnnotations, IsNumbered};
@@ -16,6 +18,7 @@ ghost use Rattle.typing_model.specs.Laws.{
   HasNoType,
   InferredHasType,
   NormalReduces,
+  Reduces,
   SelectionReduces,
   StaysNumbered,
   StaysPlain,
@@ -50,10 +53,23 @@ pub fn capture_gives_part()
 
 /// A term has the type that inference answers, and fits the type against which checking accepts it.
 pub fn typing_derives()
-    ensures inference { (S : _) → IsNumbered S → InferredHasType S }
-    ensures checking { (S : _) → IsNumbered S → CheckedFits S }
+    ensures inference { (S : _) → IsNumbered S → InferredHasType S (by_units S) }
+    ensures checking { (S : _) → IsNumbered S → CheckedFits S (by_units S) }
 {
     // Proved by the structure of the term.
+}
+
+/// Typing over any evaluation derives, if it gives reducts and finds only joinable terms the same: by units, by the items of a
+/// certificate, or by evaluation over other entries. What it spends, `X`, plays no part.
+pub fn any_evaluation_derives<X>()
+    ensures inference { (S : _) (E : Evaluator X) → Reduces S E → InferredHasType S E }
+    ensures checking { (S : _) (E : Evaluator X) → Reduces S E → CheckedFits S E }
+    ensures command { (S : _) (E : Evaluator X) → Reduces S E → HasNoAnnotations S → AcceptedHasDerivation S E }
+    ensures declaration { (S : _) (E : Evaluator X) → Reduces S E → DeclarationHasDerivation S E }
+    ensures rule { (S : _) (E : Evaluator X) → Reduces S E → HasNoAnnotations S → TypedRuleHasDerivation S E }
+    ensures units { (S : _) → IsNumbered S → Reduces S (by_units S) }
+{
+    // Proved by the structure of the term, and of the left side.
 }
 
 /// A command that the plain check accepts has a derivation over the commands before it.
@@ -61,9 +77,9 @@ pub fn typing_derives()
 /// A declaration has one whatever annotations the signature has; rules only where it has none, since the types of their
 /// rule variables are taken from it.
 pub fn accepted_has_derivation()
-    ensures command { (S : _) → IsSignature S → AcceptedHasDerivation S }
-    ensures plain { (S : _) → IsNumbered S → HasNoAnnotations S → AcceptedHasDerivation S }
-    ensures declaration { (S : _) → IsNumbered S → DeclarationHasDerivation S }
+    ensures command { (S : _) → IsSignature S → AcceptedHasDerivation S (by_units S) }
+    ensures plain { (S : _) → IsNumbered S → HasNoAnnotations S → AcceptedHasDerivation S (by_units S) }
+    ensures declaration { (S : _) → IsNumbered S → DeclarationHasDerivation S (by_units S) }
 {
     // Proved for each command and budget.
 }
@@ -72,8 +88,8 @@ pub fn accepted_has_derivation()
 ///
 /// The types of its rule variables are those that its left side gives.
 pub fn typed_rule_has_derivation()
-    ensures signature { (S : _) → IsSignature S → TypedRuleHasDerivation S }
-    ensures plain { (S : _) → IsNumbered S → HasNoAnnotations S → TypedRuleHasDerivation S }
+    ensures signature { (S : _) → IsSignature S → TypedRuleHasDerivation S (by_units S) }
+    ensures plain { (S : _) → IsNumbered S → HasNoAnnotations S → TypedRuleHasDerivation S (by_units S) }
 {
     // Proved by the structure of the left side.
 }

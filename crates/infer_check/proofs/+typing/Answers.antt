@@ -32,10 +32,10 @@ checking::check_annotated-returns-in_err-infer_domain-clause-gives g t c =
     let k = keeps_further c.args.r.now c.into_product.new.r c.erase.new.self c.in_ok-function.ensures.keeps c.in_ok-erased.ensures.keeps in
     let S = entries_of c.args.v.now in
     let D = g.R.Reducer.denotes in
-    let p = annotated_domain_fails S (rule_types D c.args.r.now c.args.context.now) (bound_types D c.args.r.now c.args.context.now) c.in_err-infer_domain.field-0.0
+    let p = annotated_domain_fails S (rule_types D c.args.r.now c.args.context.now) (bound_types D c.args.r.now c.args.context.now) c.in_err-infer_domain.field-0.0 _
     (D c.args.r.now c.args.annotation) (D c.args.r.now c.args.body) (D c.args.r.now c.args.expected) (D c.into_product.new.r c.in_ok-function.function.domain)
     (D c.into_product.new.r c.in_ok-function.function.codomain) c.args.left.now c.into_product.new.left c.in_ok-function.ensures.gives.0
-    (fails_is c.in_err-infer_domain.field-0.0 _ _ (flip (domain_same S c.into_product.new.left (rule_types_moved c.args.r.now c.erase.new.self k c.args.context.now c.args.context.now c.requires.context refl)
+    (fails_is c.in_err-infer_domain.field-0.0 _ _ _ (flip (domain_same S c.into_product.new.left (rule_types_moved c.args.r.now c.erase.new.self k c.args.context.now c.args.context.now c.requires.context refl)
     (bound_types_moved c.args.r.now c.erase.new.self k c.args.context.now c.args.context.now c.requires.context refl) (k.same c.args.annotation c.requires.annotation))) c.in_err-infer_domain.ensures.gives) in
     search rules
 
@@ -58,8 +58,8 @@ checking::check_annotated-returns-in_err-as_same-clause-gives g t c =
     (ke.same c.args.annotation c.requires.annotation)) ∙ c.in_ok-infer_domain.ensures.gives in
     let alike = same_same S c.infer_domain.new.left (flip (c.in_ok-infer_domain.ensures.keeps.same c.in_ok-erased.erased c.in_ok-erased.ensures.makes.1 ∙ c.in_ok-erased.ensures.makes.0
     ∙ ap erased (kp.same c.args.annotation c.requires.annotation))) (flip (kqi.same fn.domain c.in_ok-function.ensures.gives.1)) in
-    let p = annotated_same_fails S V G c.in_err-as_same.field-0.0 (D r c.args.annotation) (D r c.args.body) (D r c.args.expected) (D q fn.domain) (D q fn.codomain)
-    c.args.left.now c.into_product.new.left c.infer_domain.new.left c.in_ok-function.ensures.gives.0 fits (fails_is c.in_err-as_same.field-0.0 _ _ alike c.in_err-as_same.ensures.gives) in
+    let p = annotated_same_fails S V G c.in_err-as_same.field-0.0 _ (D r c.args.annotation) (D r c.args.body) (D r c.args.expected) (D q fn.domain) (D q fn.codomain)
+    c.args.left.now c.into_product.new.left c.infer_domain.new.left c.in_ok-function.ensures.gives.0 fits (fails_is c.in_err-as_same.field-0.0 _ _ _ alike c.in_err-as_same.ensures.gives) in
     search rules
 
 pub checking::check_annotated-check_taken-fits-requires : goal.checking::check_annotated-check_taken-fits-requires
@@ -221,8 +221,8 @@ checking::check_taken-returns-in_err-found-in_default g t c =
     let node = c.in_ok-other.ensures.node in
     let err = c.in_err-found-in_default.ensures in
     let a = ap is_abstraction node.0 ∙ not_abstraction D o c.in_ok-other.other c.in_default.not-Abs in
-    let p = check_infer_fails S V G c.in_err-found-in_default.field-0.0 (D r c.args.term) (D r c.args.expected) c.args.left.now a
-    (fails_is c.in_err-found-in_default.field-0.0 _ _ (flip (inferred_same S c.args.left.now (rule_types_moved r o k x x c.requires.context refl)
+    let p = check_infer_fails S V G c.in_err-found-in_default.field-0.0 _ (D r c.args.term) (D r c.args.expected) c.args.left.now a
+    (fails_is c.in_err-found-in_default.field-0.0 _ _ _ (flip (inferred_same S c.args.left.now (rule_types_moved r o k x x c.requires.context refl)
     (bound_types_moved r o k x x c.requires.context refl) (flip node.0))) err.gives) in
     record { gives = search rules; keeps = keeps_further r o c.infer_node.new.r k err.keeps; serves = err.serves; kept = err.kept }
 
@@ -296,8 +296,8 @@ inference::apply-returns-in_err-check_taken-clause-gives g t c =
     let k = keeps_further r q p kq kqp in
     let fits = flip (checked_same S c.function_of.new.left (rule_types_moved r p k x x c.requires.context refl) (bound_types_moved r p k x x c.requires.context refl)
     (k.same c.args.argument c.requires.argument) (kqp.same fn.domain c.in_ok-function.ensures.gives.1)) in
-    let h = argument_check_fails S V G c.in_err-check_taken.field-0.0 (D r c.args.argument) (put_together g.R.Reducer.owns D r 0 c.args.typ) (D q fn.domain) (put_together g.R.Reducer.owns D q 1 fn.codomain) c.args.left.now c.function_of.new.left
-    c.in_ok-function.ensures.gives.0 (fails_is c.in_err-check_taken.field-0.0 _ _ fits c.in_err-check_taken.ensures.gives) in
+    let h = argument_check_fails S V G c.in_err-check_taken.field-0.0 _ (D r c.args.argument) (put_together g.R.Reducer.owns D r 0 c.args.typ) (D q fn.domain) (put_together g.R.Reducer.owns D q 1 fn.codomain) c.args.left.now c.function_of.new.left
+    c.in_ok-function.ensures.gives.0 (fails_is c.in_err-check_taken.field-0.0 _ _ _ fits c.in_err-check_taken.ensures.gives) in
     search rules
 
 pub inference::apply-returns-clause-gives : goal.inference::apply-returns-clause-gives
@@ -382,8 +382,8 @@ inference::infer_abstraction-returns-in_err-found-clause-gives g t c =
     let typed = flip (inferred_same S c.infer_domain.new.left (rule_types_under r i k x b c.requires.context c.in_ok-erased.erased bound)
     (bound_types_under r i k x b c.requires.context c.in_ok-erased.erased bound ∙ ap (λ y. y ∷ G) (kei.same c.in_ok-erased.erased made.1 ∙ made.0))
     (k.same c.args.body c.requires.body)) in
-    let h = abstraction_body_fails S V G c.in_err-found.field-0.0 (D r c.args.domain) (D r c.args.body) c.args.left.now c.infer_domain.new.left fits
-    (fails_is c.in_err-found.field-0.0 _ _ typed c.in_err-found.ensures.gives) in
+    let h = abstraction_body_fails S V G c.in_err-found.field-0.0 _ (D r c.args.domain) (D r c.args.body) c.args.left.now c.infer_domain.new.left fits
+    (fails_is c.in_err-found.field-0.0 _ _ _ typed c.in_err-found.ensures.gives) in
     search rules
 
 pub inference::infer_abstraction-returns-in_err-codomain-clause-gives : goal.inference::infer_abstraction-returns-in_err-codomain-clause-gives
@@ -407,7 +407,7 @@ inference::infer_abstraction-returns-in_err-codomain-clause-gives g t c =
     let typed = flip (inferred_same S c.infer_domain.new.left (rule_types_under r i k x b c.requires.context c.in_ok-erased.erased bound)
     (bound_types_under r i k x b c.requires.context c.in_ok-erased.erased bound ∙ ap (λ y. y ∷ G) (kei.same c.in_ok-erased.erased made.1 ∙ made.0))
     (k.same c.args.body c.requires.body)) in
-    let h = abstraction_kind_fails S V G c.in_err-codomain.field-0.0 (D r c.args.domain) (D r c.args.body) (D c.infer_taken-found.new.r c.in_ok-found.field-0) c.args.left.now
+    let h = abstraction_kind_fails S V G c.in_err-codomain.field-0.0 _ (D r c.args.domain) (D r c.args.body) (D c.infer_taken-found.new.r c.in_ok-found.field-0) c.args.left.now
     c.infer_domain.new.left c.infer_taken-found.new.left fits (typed ∙ c.in_ok-found.ensures.gives.0) (c.in_err-codomain.ensures.gives c.infer_taken-found.new.left) in
     search rules
 
@@ -495,10 +495,10 @@ inference::infer_node-returns-in_err-typ-clause-gives g t c =
     let a = c.in-Some.argument in
     let rest = map (D at) c.pop.new.self.items in
     let F = put_together g.R.Reducer.owns D at 0 c.loop-argument.typ in
-    let h = fails_is f _ _ (flip (argument_same S {a = D at a} {A = F} n (rule_types_moved r at l.keeps x c.loop-argument.context c.requires.context l.kept)
+    let h = fails_is f _ _ _ (flip (argument_same S {a = D at a} {A = F} n (rule_types_moved r at l.keeps x c.loop-argument.context c.requires.context l.kept)
     (bound_types_moved r at l.keeps x c.loop-argument.context c.requires.context l.kept) refl refl)) c.in_err-typ.ensures.gives in
-    let p = fails_is f _ _ (flip l.same ∙ ap (λ y. along S V G y F n) (ap (map (D at)) c.in-Some.ensures.items ∙ map_pushed (D at) c.pop.new.self.items a))
-    (argument_fails S V G f rest (D at a) F n h) in
+    let p = fails_is f _ _ _ (flip l.same ∙ ap (λ y. along S V G y F n) (ap (map (D at)) c.in-Some.ensures.items ∙ map_pushed (D at) c.pop.new.self.items a))
+    (argument_fails S V G f _ rest (D at a) F n h) in
     search rules
 
 pub inference::infer_product-infer_domain-requires : goal.inference::infer_product-infer_domain-requires
@@ -558,8 +558,8 @@ inference::infer_product-returns-in_err-found-clause-gives g t c =
     let typed = flip (inferred_same S c.infer_domain.new.left (rule_types_under r i k x b c.requires.context c.in_ok-erased.erased bound)
     (bound_types_under r i k x b c.requires.context c.in_ok-erased.erased bound ∙ ap (λ y. y ∷ G) (kei.same c.in_ok-erased.erased made.1 ∙ made.0))
     (k.same c.args.codomain c.requires.codomain)) in
-    let h = product_codomain_fails S V G c.in_err-found.field-0.0 (D r c.args.domain) (D r c.args.codomain) c.args.left.now c.infer_domain.new.left fits
-    (fails_is c.in_err-found.field-0.0 _ _ typed c.in_err-found.ensures.gives) in
+    let h = product_codomain_fails S V G c.in_err-found.field-0.0 _ (D r c.args.domain) (D r c.args.codomain) c.args.left.now c.infer_domain.new.left fits
+    (fails_is c.in_err-found.field-0.0 _ _ _ typed c.in_err-found.ensures.gives) in
     search rules
 
 pub inference::infer_product-returns-clause-gives : goal.inference::infer_product-returns-clause-gives

@@ -58,7 +58,7 @@ returns-in_err-product-in_default g c =
     let l = keeps_further c.args.r.now b p k c.in_ok-whole-in_default.ensures.keeps in
     let w = whole_given g.R.Reducer.owns D c.args.r.now o b p c.args.applied c.in_ok-other.other c.in_ok-typ-in_default.typ c.in_ok-whole-in_default.whole c.as_slice-in_default.result.now
     k c.requires.own c.in_ok-other.ensures.node.0 c.in_ok-typ-in_default.ensures.makes.0 c.as_slice-in_default.ensures.value c.in_ok-whole-in_default.ensures.makes.0 in
-    let gives = fails_is c.in_err-product-in_default.field-0.0 _ _ (ap (λ t. as_product (entries_of c.args.v.now) E20 t c.args.left.now) (flip w)) c.in_err-product-in_default.ensures.gives in
+    let gives = fails_is c.in_err-product-in_default.field-0.0 _ _ _ (ap (λ t. as_product (entries_of c.args.v.now) E20 t c.args.left.now) (flip w)) c.in_err-product-in_default.ensures.gives in
     record {
       gives = search rules;
       keeps = keeps_further c.args.r.now p c.into_product.new.r l c.in_err-product-in_default.ensures.keeps;

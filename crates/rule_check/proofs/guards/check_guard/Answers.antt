@@ -15,7 +15,7 @@ pub returns-in_err-check-clause-gives : goal.returns-in_err-check-clause-gives
 returns-in_err-check-clause-gives g c =
     let same = guard_copied (entries_of c.args.v.now) c.args.r.now c.copies.new.r c.in_ok-bound.ensures.keeps c.args.types c.as_slice.result.now c.in_ok-bound.bound c.args.guard.now c.args.left.now
     c.requires.types c.requires.guard c.as_slice.ensures c.in_ok-bound.ensures.copies in
-    let p = fails_is c.in_err-check.field-0.0 _ _ (flip same) c.in_err-check.ensures.gives in
+    let p = fails_is c.in_err-check.field-0.0 _ _ _ (flip same) c.in_err-check.ensures.gives in
     search rules
 
 pub returns-clause-gives : goal.returns-clause-gives

@@ -29,8 +29,8 @@ returns-in_err-types-clause-gives g c =
     let f = c.in_err-types.field-0.0 in
     let guard = c.in-Some.guard.now in
     let o = (subst (OwnsGuards g.R.Reducer.owns r) c.in-Some.ensures.cases.0 i.rest).0 in
-    let h = fails_is f _ _ (flip (guard_moved S r at i.keeps c.args.types c.loop-guard.types guard c.loop-guard.left i.types c.requires.types o)) c.in_err-types.ensures.gives in
-    let p = fails_is f _ _ (flip i.same) (guards_fail D S r c.args.types f guard c.loop-guard.rest.now c.in-Some.others.now c.loop-guard.left c.in-Some.ensures.cases.0 h) in
+    let h = fails_is f _ _ _ (flip (guard_moved S r at i.keeps c.args.types c.loop-guard.types guard c.loop-guard.left i.types c.requires.types o)) c.in_err-types.ensures.gives in
+    let p = fails_is f _ _ _ (flip i.same) (guards_fail D S r c.args.types f _ guard c.loop-guard.rest.now c.in-Some.others.now c.loop-guard.left c.in-Some.ensures.cases.0 h) in
     search rules
 
 pub loop-guard-preserved : goal.loop-guard-preserved

@@ -26,7 +26,7 @@ returns-in_err-codomain-in-Some-clause-gives g t c =
     let f = c.in_err-codomain-in-Some.field-0.0 in
     let moved = first_moved S r mid x k c.requires.context c.product_of.new.r c.push.new.self c.in-Some.others.now (D mid c.args.expected) (D r c.args.expected)
     c.argument_type.new.left c.product_of.new.left (Err f) (k.same c.args.expected c.requires.expected) c.in_err-codomain-in-Some.ensures.gives in
-    let p = product_fails S (bound_types D r x) f c.args.before c.args.rest.now c.in-Some.others.now c.as_slice-in-Some.result.now c.push.new.self c.in-Some.first.now (D r c.args.expected) (D mid c.in_ok-domain-in-Some.domain)
+    let p = product_fails S (bound_types D r x) f _ c.args.before c.args.rest.now c.in-Some.others.now c.as_slice-in-Some.result.now c.push.new.self c.in-Some.first.now (D r c.args.expected) (D mid c.in_ok-domain-in-Some.domain)
     c.args.left.now c.argument_type.new.left c.in-Some.ensures.cases.0 c.in_ok-push-in-Some.ensures.ok c.as_slice-in-Some.ensures c.in_ok-domain-in-Some.ensures.gives.0 moved in
     search rules
 

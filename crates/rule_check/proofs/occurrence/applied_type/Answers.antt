@@ -23,7 +23,7 @@ returns-in_err-fit_variable-clause-gives g c =
     let fn = c.in_ok-function.function in
     let f = c.in_err-fit_variable.field-0.0 in
     let moved = fit_moved S r q x k c.requires.context c.args.variable (D q fn.domain) c.into_product.new.left c.fit_variable.new.left (Err f) c.in_err-fit_variable.ensures.gives in
-    let p = applied_fails S (bound_types D r x) f c.args.variable (D r c.args.typ) (D q fn.domain) (D q fn.codomain) c.args.left.now c.into_product.new.left c.in_ok-function.ensures.gives.0 moved in
+    let p = applied_fails S (bound_types D r x) f _ c.args.variable (D r c.args.typ) (D q fn.domain) (D q fn.codomain) c.args.left.now c.into_product.new.left c.in_ok-function.ensures.gives.0 moved in
     search rules
 
 pub returns-clause-gives : goal.returns-clause-gives

@@ -22,7 +22,7 @@ returns-in_err-typ-clause-gives g c =
     let f = c.in_err-typ.field-0.0 in
     let F = D at c.loop-first.typ in
     let moved = step_moved S r at x i.keeps c.requires.context c.applied_type.new.r c.in-Some.first.now F F c.loop-first.left c.applied_type.new.left (Err f) refl c.in_err-typ.ensures.gives in
-    let p = fails_is f _ _ (flip i.same) (step_fails S (bound_types D r x) f c.loop-first.rest.now c.in-Some.others.now c.in-Some.first.now F c.loop-first.left c.in-Some.ensures.cases.0 moved) in
+    let p = fails_is f _ _ _ (flip i.same) (step_fails S (bound_types D r x) f _ c.loop-first.rest.now c.in-Some.others.now c.in-Some.first.now F c.loop-first.left c.in-Some.ensures.cases.0 moved) in
     search rules
 
 pub loop-first-preserved : goal.loop-first-preserved

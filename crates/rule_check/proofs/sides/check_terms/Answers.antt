@@ -24,7 +24,7 @@ returns-in_err-types-2-clause-gives g c =
     let f = c.in_err-types-2.field-0.0 in
     let same = guards_are S r one c.in_ok-types.ensures.keeps c.args.side c.requires.found c.in_ok-types.types c.as_slice.result.now c.as_slice-2.result.now c.args.left.now
     c.as_slice.ensures.value c.as_slice-2.ensures.value c.in_ok-types.ensures.all in
-    let p = terms_fail D S r (tree c.args.right.now) c.args.side f c.args.left.now (fails_is f _ _ (flip same) c.in_err-types-2.ensures.gives) in
+    let p = terms_fail D S r (tree c.args.right.now) c.args.side f _ c.args.left.now (fails_is f _ _ _ (flip same) c.in_err-types-2.ensures.gives) in
     search rules
 
 pub check_right-requires-clause-types : goal.check_right-requires-clause-types

@@ -18,7 +18,7 @@ returns-in_err-walked-clause-gives g c =
     let head = c.in_ok-head.ensures.head in
     let same = spine_same (entries_of c.args.v.now) c.args.left.now (none_bound D s c.new-context.result.bound c.new-context.ensures.bound) head.term head.typ
     (ap (λ ps. patterns_of (map pattern ps)) c.as_slice-patterns.ensures) (nothing_is D s c.in_ok-found.found rule.vars c.in_ok-found.ensures.types c.in_ok-found.ensures.guards) in
-    let p = fails_is c.in_err-walked.field-0.0 _ _ (flip same) c.in_err-walked.ensures.gives in
+    let p = fails_is c.in_err-walked.field-0.0 _ _ _ (flip same) c.in_err-walked.ensures.gives in
     search rules
 
 pub returns-clause-gives : goal.returns-clause-gives

@@ -16,7 +16,7 @@ returns-in_err-typ-clause-gives g c =
     let r = c.args.r.now in
     let x = c.args.context.now in
     let e = c.as_slice.ensures ∙ c.in_ok-variables.ensures ∙ ap outermost_first (c.len.ensures ∙ flip (length_bound_types D r x)) in
-    let p = wildcard_fails (entries_of c.args.v.now) (bound_types D r x) c.in_err-typ.field-0.0 c.as_slice.result.now (D r c.args.expected.now) (found_of D r c.args.found.now) c.args.left.now e
+    let p = wildcard_fails (entries_of c.args.v.now) (bound_types D r x) c.in_err-typ.field-0.0 _ c.as_slice.result.now (D r c.args.expected.now) (found_of D r c.args.found.now) c.args.left.now e
     c.in_err-typ.ensures.gives in
     search rules
 

@@ -102,8 +102,8 @@ walk_abstraction-returns-in_err-body-clause-gives g t c =
     let fn = c.in_ok-function.function in
     let f = c.in_err-body.field-0.0 in
     let same = walked_same S (pattern c.args.body.now) c.as_product.new.left (bound_types_under r q k x c.bind.new.self c.requires.context fn.domain c.in_ok-bind.ensures.ok) refl (found_same r q k w c.requires.found) in
-    let p = abstraction_body_fails S (bound_types D r x) f (pattern c.args.body.now) (D r c.args.expected.now) (D q fn.domain) (D q fn.codomain) (found_of D r w) c.args.left.now c.as_product.new.left
-    c.in_ok-function.ensures.gives.0 (fails_is f _ _ (flip same) c.in_err-body.ensures.gives) in
+    let p = abstraction_body_fails S (bound_types D r x) f _ (pattern c.args.body.now) (D r c.args.expected.now) (D q fn.domain) (D q fn.codomain) (found_of D r w) c.args.left.now c.as_product.new.left
+    c.in_ok-function.ensures.gives.0 (fails_is f _ _ _ (flip same) c.in_err-body.ensures.gives) in
     search rules
 
 pub walk_abstraction-returns-clause-gives : goal.walk_abstraction-returns-clause-gives
@@ -156,8 +156,8 @@ walk_argument-returns-in_err-argument-clause-gives g t c =
     let fn = c.in_ok-function.function in
     let f = c.in_err-argument.field-0.0 in
     let same = walked_same S (pattern c.args.argument.now) c.into_product.new.left (bound_types_kept r q x k c.requires.context) refl (found_same r q k w c.requires.found) in
-    let p = argument_fails S (bound_types D r x) f (D r c.args.head.term) (D r c.args.head.typ) (D q fn.domain) (D q fn.codomain) (pattern c.args.argument.now) (found_of D r w) c.args.left.now c.into_product.new.left
-    c.in_ok-function.ensures.gives.0 (fails_is f _ _ (flip same) c.in_err-argument.ensures.gives) in
+    let p = argument_fails S (bound_types D r x) f _ (D r c.args.head.term) (D r c.args.head.typ) (D q fn.domain) (D q fn.codomain) (pattern c.args.argument.now) (found_of D r w) c.args.left.now c.into_product.new.left
+    c.in_ok-function.ensures.gives.0 (fails_is f _ _ _ (flip same) c.in_err-argument.ensures.gives) in
     search rules
 
 pub walk_argument-returns-clause-gives : goal.walk_argument-returns-clause-gives
@@ -241,8 +241,8 @@ walk_spine-returns-in_err-walked-clause-gives g t c =
     let p = c.in-Some.argument.now in
     let v = found_of D at c.loop-argument.found in
     let same = argument_same S (D at h.term) (D at h.typ) (pattern p) v n (bound_types_moved r at i.keeps x c.loop-argument.context c.requires.context i.kept) in
-    let q = fails_is f _ _ (flip i.same) (spine_fails S (bound_types D r x) f (D at h.term) (D at h.typ) p c.loop-argument.rest.now c.in-Some.others.now v n c.in-Some.ensures.cases.0
-    (fails_is f _ _ (flip same) c.in_err-walked.ensures.gives)) in
+    let q = fails_is f _ _ _ (flip i.same) (spine_fails S (bound_types D r x) f _ (D at h.term) (D at h.typ) p c.loop-argument.rest.now c.in-Some.others.now v n c.in-Some.ensures.cases.0
+    (fails_is f _ _ _ (flip same) c.in_err-walked.ensures.gives)) in
     search rules
 
 pub walk_spine-loop-argument-preserved : goal.walk_spine-loop-argument-preserved
