@@ -104,7 +104,8 @@ impl Nodes {
     pub fn same(&self, a: TermId, b: TermId) -> bool
         requires a { a.0 < length self.now }
         requires b { b.0 < length self.now }
-        ensures { IsTrue result ↔ (term self.now a ≡ term self.now b) }
+        ensures ids { IsTrue result ↔ (a ≡ b) }
+        ensures terms { IsTrue result ↔ (term self.now a ≡ term self.now b) }
     {
         let _nodes = &self.nodes;
         a.0 == b.0

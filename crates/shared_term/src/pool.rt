@@ -97,7 +97,8 @@ impl Pool {
     pub fn same(&self, a: TermId, b: TermId) -> bool
         requires a { a.0 < length self.now }
         requires b { b.0 < length self.now }
-        ensures { IsTrue result ↔ (term self.now a ≡ term self.now b) }
+        ensures ids { IsTrue result ↔ (a ≡ b) }
+        ensures terms { IsTrue result ↔ (term self.now a ≡ term self.now b) }
     {
         self.nodes.same(a, b)
     }
