@@ -319,7 +319,7 @@ compare-loop-step-preserved t c =
 
 pub compare_pair-returns-then-same-clause-gives : goal.compare_pair-returns-then-same-clause-gives
 compare_pair-returns-then-same-clause-gives t c = pair_alike (entries_of c.args.version.now) c.args.self.now.pool c.args.left.now c.args.t c.args.u c.args.work.now.items
-    (omega (arith, c.if-left-eq0.false)) (c.same.ensures.0 c.if-same.true) c.requires.steps c.requires.opened
+    (omega (arith, c.if-left-eq0.false)) (c.same.ensures.terms.0 c.if-same.true) c.requires.steps c.requires.opened
 
 pub compare_pair-returns-then-left-found-clause-gives : goal.compare_pair-returns-then-left-found-clause-gives
 compare_pair-returns-then-left-found-clause-gives t c =
@@ -343,7 +343,7 @@ compare_pair-returns-in-Some-clause-turned t c =
 
 pub compare_pair-returns-in_err-x-clause-gives : goal.compare_pair-returns-in_err-x-clause-gives
 compare_pair-returns-in_err-x-clause-gives t c =
-    let d : term c.args.self.now.pool c.args.t ≡ term c.args.self.now.pool c.args.u → ⊥ = λ e. true≢false (sym (c.same.ensures.1 e) ∙ c.if-same.false) in
+    let d : term c.args.self.now.pool c.args.t ≡ term c.args.self.now.pool c.args.u → ⊥ = λ e. true≢false (sym (c.same.ensures.terms.1 e) ∙ c.if-same.false) in
     let p : 0 < c.args.left.now = omega (arith, c.if-left-eq0.false) in
     let h = pair_stopped (entries_of c.args.version.now) c.in_err-x.field-0.0 _ _ c.evaluate.new.self.pool c.args.work.now.items c.evaluate.new.left
     (pair_first_ends (entries_of c.args.version.now) c.args.self.now.pool c.args.left.now c.args.t c.args.u (pending c.args.self.now.pool c.args.work.now.items) p d) c.in_err-x.ensures.gives in
@@ -351,7 +351,7 @@ compare_pair-returns-in_err-x-clause-gives t c =
 
 pub compare_pair-returns-in_err-y-clause-gives : goal.compare_pair-returns-in_err-y-clause-gives
 compare_pair-returns-in_err-y-clause-gives t c =
-    let d : term c.args.self.now.pool c.args.t ≡ term c.args.self.now.pool c.args.u → ⊥ = λ e. true≢false (sym (c.same.ensures.1 e) ∙ c.if-same.false) in
+    let d : term c.args.self.now.pool c.args.t ≡ term c.args.self.now.pool c.args.u → ⊥ = λ e. true≢false (sym (c.same.ensures.terms.1 e) ∙ c.if-same.false) in
     let p : 0 < c.args.left.now = omega (arith, c.if-left-eq0.false) in
     let h = pair_stopped (entries_of c.args.version.now) c.in_err-y.field-0.0 _ _ c.evaluate-2.new.self.pool c.args.work.now.items c.evaluate-2.new.left
     (pair_second_ends (entries_of c.args.version.now) c.args.self.now.pool c.evaluate.new.self.pool c.args.left.now c.evaluate.new.left c.args.t c.args.u c.in_ok-x.x
@@ -361,7 +361,7 @@ compare_pair-returns-in_err-y-clause-gives t c =
 pub compare_pair-returns-clause-gives : goal.compare_pair-returns-clause-gives
 compare_pair-returns-clause-gives t c =
     let S = entries_of c.args.version.now in
-    let d : term c.args.self.now.pool c.args.t ≡ term c.args.self.now.pool c.args.u → ⊥ = λ e. true≢false (sym (c.same.ensures.1 e) ∙ c.if-same.false) in
+    let d : term c.args.self.now.pool c.args.t ≡ term c.args.self.now.pool c.args.u → ⊥ = λ e. true≢false (sym (c.same.ensures.terms.1 e) ∙ c.if-same.false) in
     let p : 0 < c.args.left.now = omega (arith, c.if-left-eq0.false) in
     let way = pair_parts S c.args.self.now.pool c.evaluate.new.self.pool c.evaluate-2.new.self.pool c.args.left.now c.evaluate.new.left c.evaluate-2.new.left
     c.args.t c.args.u c.in_ok-x.x c.in_ok-y.y c.args.work.now.items p (omega (arith, c.in_ok-x.ensures.spent, c.in_ok-y.ensures.spent)) d c.requires.t c.requires.u

@@ -11,4 +11,4 @@ returns-clause-mentions c =
     let t = term ns c.args.id in
     let is = c.in_ok-raised.ensures.is in
     let same = c.walked.ensures.keeps.keeps c.args.id.0 (subst P (sym c.self.view_is) c.requires) in
-    rw (← c.self.view_is) (mentions_by c.same.result 0 c.args.bound c.args.arguments.now t (λ e. sym is ∙ c.same.ensures.0 e ∙ same) (λ e. c.same.ensures.1 (is ∙ e ∙ sym same)))
+    rw (← c.self.view_is) (mentions_by c.same.result 0 c.args.bound c.args.arguments.now t (λ e. sym is ∙ c.same.ensures.terms.0 e ∙ same) (λ e. c.same.ensures.terms.1 (is ∙ e ∙ sym same)))
