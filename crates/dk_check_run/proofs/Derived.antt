@@ -4,6 +4,7 @@ use Rattle.std.proofs.lemmas.List.{append-nil}
 use Rattle.std.specs.Prelude.{Option, Some, if◌then◌else◌, nat_le}
 use Rattle.dk_model.specs.Scoping.{PlainCommand}
 use Rattle.dk_model.specs.Signatures.{PlainSignature}
+use Rattle.dk_model.specs.Typing.{by_units}
 use Rattle.dk_model.specs.Verdicts.{entry_of, inferred_type}
 use Rattle.dk_model.specs.declared.code.Code.TheVariants.{E08}
 use Rattle.dk_model.specs.declared.code.Verdict.{Verdict}
@@ -15,7 +16,7 @@ use Rattle.dk_parser.specs.Written.{WrittenCommand}
 use Rattle.scope_terms.specs.Scopes.{Scoping, scoped, refused, scope_of}
 use Rattle.typing_model.specs.Derivations.{HasDerivation}
 use Rattle.typing_model.proofs.Commands.{accepted_derives}
-use Rattle.typing_model.proofs.Rules.{comparison_joins, normal_reduces, whnf_reduces}
+use Rattle.typing_model.proofs.Rules.{units_reduce}
 use Rattle.command_line.specs.Requests.{CheckRequest, MakeRequest, Request, to_make}
 use Rattle.verdict_book.specs.Report.{FileReport, status_of}
 use Rattle.file_report.specs.Outcomes.{Theory, by_verdict, no_theory, report_from, scoped_entry, scoped_verdict, theory_after, verdict_after, verdict_at}
@@ -34,7 +35,7 @@ scoped_derives S budget T (refused code) same formed e = cc
 scoped_derives S budget T (scoped command) same formed e =
     let numbered = formed_numbered S formed in
     subst (λ (U : PlainSignature). HasDerivation U command) (sym same)
-    (accepted_derives S (whnf_reduces S numbered) (normal_reduces S numbered) (comparison_joins S numbered) (formed_plain S formed) command budget e)
+    (accepted_derives S (by_units S) (units_reduce S numbered) (formed_plain S formed) command budget e)
 
 formed_after : (S : PlainSignature) (budget : ℕ) (s : Scoping PlainCommand) → IsSignature S → IsSignature (S ++ scoped_entry S budget s)
 formed_after S budget (refused code) formed = subst IsSignature (sym (append-nil S)) formed
