@@ -1,0 +1,140 @@
+"""The command that the report names, and the text in front of it that it rests on."""
+import re
+
+from .texts import KEYWORDS, NAME_BYTES, TOKEN, behind_blanks, command_ends, place, tokens
+
+DECLARED = re.compile(rb"(?:(?:def|thm)(?![A-Za-z0-9_!?']))?[ \t\r\n]*(NAME|\{\|[^\n]*?\|\})".replace(b"NAME", NAME_BYTES))
+THEOREM = re.compile(rb"thm(?![A-Za-z0-9_!?'])")
+
+
+def names_of(text):
+    """The names in a text, in order, with the signs between them."""
+    return [it.group() for it in TOKEN.finditer(text) if it.lastgroup in ("name", "quoted", "sign")]
+
+
+def heads_of(words):
+    """The heads of the rules of a command: the first name behind each context and its brackets."""
+    heads, is_due = set(), False
+    for word in words:
+        if word == b"]":
+            is_due = True
+        elif is_due and word != b"(":
+            heads.add(word)
+            is_due = False
+    return heads
+
+
+class Front:
+    """The commands in front of the refused one: of each its text, and the name that it declares."""
+
+    def __init__(self, text, ends):
+        self.text, self.starts, self.ends = text, [], ends
+        self.declaring, self.rules = {}, []
+        start = 0
+        for number, end in enumerate(ends):
+            self.starts.append(behind_blanks(text, start))
+            start = end
+            if text[self.starts[-1] : self.starts[-1] + 1] in (b"[", b"{") and not text.startswith(b"{|", self.starts[-1]):
+                self.rules.append(number)
+                continue
+            named = DECLARED.match(self.without_comments(number))
+            if named:
+                self.declaring[named.group(1)] = number
+
+    def without_comments(self, number):
+        """The text of a command; where a comment stands in it, its tokens with a blank between them."""
+        text = self.text[self.starts[number] : self.ends[number]]
+        return b" ".join(it.text for it in tokens(text, 0)[0]) if b"(;" in text else text
+
+    def as_rested_on(self, number):
+        """The text of a command, and of a theorem a declaration of its type: nothing rests on its body."""
+        text = self.without_comments(number)
+        if not THEOREM.match(text):
+            return text
+        body = next((it.start() for it in TOKEN.finditer(text) if it.group() == b":="), len(text))
+        return text[len(b"thm") : body] + b"."
+
+    def line(self, number):
+        return place(self.text, self.starts[number])[0]
+
+    def declaration(self, name):
+        """The line and the text of the command that declares a name; None where none does."""
+        number = self.declaring.get(name)
+        return None if number is None else (self.line(number), self.without_comments(number))
+
+    def rested_on(self, names):
+        """The text of the commands that a command with these names rests on, in file order: those that declare its names, the rules
+        of these, and what those rest on. A theorem's body isn't among it."""
+        headed = {}
+        for number in self.rules:
+            for head in heads_of(names_of(self.without_comments(number))):
+                headed.setdefault(head, []).append(number)
+        kept, known, waiting = set(), set(), set(names)
+        while waiting:
+            name = waiting.pop()
+            known.add(name)
+            for number in [self.declaring.get(name), *headed.get(name, ())]:
+                if number is not None and number not in kept:
+                    kept.add(number)
+                    waiting |= set(names_of(self.as_rested_on(number))) - known
+        return b"".join(self.as_rested_on(it) + b"\n" for it in sorted(kept))
+
+
+class Command:
+    """The command of a number: its tokens, where it stands, and the commands in front of it."""
+
+    def __init__(self, text, number):
+        self.text = text
+        ends = command_ends(text, number - 1)
+        self.is_found = len(ends) == number - 1
+        self.front = Front(text, ends)
+        self.start = behind_blanks(text, ends[-1] if ends else 0)
+        given, self.stop = tokens(text, self.start)
+        dot = next((k for k, it in enumerate(given) if it.text == b"."), None)
+        self.has_dot = dot is not None
+        self.tokens = given if dot is None else given[: dot + 1]
+        self.end = self.tokens[-1].end if self.has_dot else self.stop
+        self.before = b""
+
+    def line(self):
+        return place(self.text, self.start)[0]
+
+    def is_rules(self):
+        return bool(self.tokens) and self.tokens[0].text in (b"[", b"{")
+
+    def declared(self):
+        """The token of the name that the command declares; of rules the head of the first."""
+        words = self.tokens
+        if self.is_rules():
+            closed = next((k for k, it in enumerate(words) if it.text == b"]"), len(words))
+            words = words[closed:]
+        return next((it for it in words if it.kind in ("name", "quoted") and it.text not in KEYWORDS), None)
+
+    def rest_in_front(self, program, code):
+        """Keeps of the text in front what the command rests on; all of it where the program answers that otherwise."""
+        own = {it.text for it in self.tokens if it.is_name()}
+        self.before = self.front.rested_on(own)
+        if program.answer(self.before + self.text[self.start : self.end]) != (b"refused", code):
+            self.before = self.text[: self.start]
+
+    def with_parts(self, changes):
+        """The text with parts of the command in the place of others: triples of a start, an end and what stands there."""
+        parts, at = [self.before], self.start
+        for start, end, instead in sorted(changes):
+            parts += [self.text[at:start], instead]
+            at = end
+        return b"".join(parts + [self.text[at : self.end], b"\n"])
+
+    def spelt(self, term):
+        """A term as it stands in the file."""
+        return self.text[self.tokens[term.first].start : self.tokens[term.last - 1].end]
+
+    def argument(self, term):
+        """The head that a term is an argument of, and which of its arguments; 0 where it is the head itself."""
+        parts = term.parent.parts
+        number = next(k for k, it in enumerate(parts) if it is term)
+        head = parts[0]
+        while number and head.form == "application":
+            number += len(head.parts) - 1
+            head = head.parts[0]
+        return head, number
