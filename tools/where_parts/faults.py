@@ -115,6 +115,7 @@ FAULTS = [
     ("E22", "nat", "one : @zero."),
     ("E22", "nat", "f : nat -> @zero."),
     ("E22", "nat", "f : @zero -> nat."),
+    ("E22", "nat", "f : @(x : nat -> Type) -> nat."),
     ("E22", "nat", "f : (n : nat) -> @(succ n) -> nat."),
     ("E22", "nat", "def f := x : @zero => x."),
     ("E22", "nat", "def f := x : @Type => x."),

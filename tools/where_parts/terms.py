@@ -76,12 +76,14 @@ class Reader:
         return self.at, parts
 
     def is_named_argument(self):
-        """Whether `(x : A) ->` stands here; `(x : A => t)` is an abstraction in brackets."""
+        """Whether `(x : A) ->` stands here; `(x : A => t)` and `(x : A -> B)` are terms in brackets."""
         if self.sign() != b"(" or self.sign(2) != b":" or not self.is_name(1):
             return False
         depth = 0
         for at in range(self.at, len(self.words)):
             depth += {b"(": 1, b")": -1}.get(self.words[at].text, 0)
+            if depth == 1 and self.words[at].text in (b"->", b"=>"):
+                return False
             if depth == 0:
                 return at + 1 < len(self.words) and self.words[at + 1].text == b"->"
         return False
