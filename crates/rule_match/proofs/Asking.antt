@@ -90,6 +90,8 @@ module _ (old new : List PoolNode) (x : Extends old new) (m : Matcher) (w : IsMa
         (columns_set (length new) at m.columns.items (record { depth = col.depth; term = part }) (columns_within old new m.columns.items x w.columns) (omega (arith, l, x.longer)));
     captures = captures_within old new m.captures.items x w.captures;
     stage = tt;
+    tried = tt;
+    placed = w.placed;
   }
 
   module _ (rules : List PlainRule) (b : Bool) (held : Cell) (is : plain_cell held ≡ cell_at (map plain_cell m.row.cells.items) at) (e : b ≡ others_in (plain_cell held) col.depth (term old part)) where

@@ -1,5 +1,5 @@
 -- A test gone through: the next node has the rows that are left.
-use Rattle.std.proofs.Common.{List, [], ◌∷◌, ◌++◌, ◌≡◌, ◌≤◌, ◌<◌, ◌+◌, ℕ, zero, suc, max, nat_lt, Option, Some, None, Bool, true, false, refl, ap, ◌∙◌, sym as flip, subst, arith, map, drop, take, length, append_assoc}
+use Rattle.std.proofs.Common.{List, [], ◌∷◌, ◌++◌, ◌≡◌, ◌≤◌, ◌+◌, ℕ, zero, suc, max, nat_lt, Option, Some, None, Bool, true, false, refl, ap, ◌∙◌, sym as flip, subst, arith, map, drop, take, length, append_assoc}
 use Rattle.std.specs.Prelude.{slice_get, IfSome, IfOk, Result, Ok, Err, if◌then◌else◌}
 use Rattle.dk_model.specs.declared.memory.NoMemory.{NoMemory}
 use Rattle.std.specs.Borrow.{Bor}
@@ -17,13 +17,12 @@ use Rattle.rule_match.specs.declared.branch.Branch.{Branch}
 use Rattle.rule_match.specs.declared.branch.Node.{Node}
 use Rattle.rule_match.specs.declared.cell.Row.{Row}
 use Rattle.rule_match.specs.declared.tree.Tree.{Tree as Compiled}
-use Rattle.rule_match.specs.declared.side.Side.{Side}
 use Rattle.rule_match.specs.declared.value.Column.{Column}
 use Rattle.rule_match.specs.declared.left.Left.{Left}
 use Rattle.rule_match.specs.Keys.{key_of, rows_by}
-use Rattle.rule_match.specs.Rows.{row, kept_row, rule_at}
+use Rattle.rule_match.specs.Rows.{row, kept_row}
 use Rattle.rule_match.specs.declared.walk.LeftSide.{LeftSide}
-use Rattle.rule_match.specs.Sides.{AreSides, AreLeftSides, widest}
+use Rattle.rule_match.specs.Sides.{AreLeftSides, widest}
 use Rattle.rule_match.specs.Branches.{HasBranch, HasRows, AreBranches, IsNode, AreNodes}
 use Rattle.rule_match.specs.Trees.{IsTree}
 use Rattle.rule_match.specs.Columns.{plain, column}
@@ -34,7 +33,7 @@ use Rattle.rule_match.specs.declared.left.Source.TheVariants.{Tree as InTree, Si
 use Rattle.rule_match.specs.declared.left.Left.TheVariants.{Kept, Whole, Walked}
 use Rattle.std.specs.declared.vec.Vec.{Vec}
 use Rattle.std.specs.declared.alloc.Global.{Global}
-use Rattle.rule_match.specs.Remaining.{rows_left, IsLeft, IsLeftOf, IsSource, HasVariables, Follows, GoesOn, IsRoot}
+use Rattle.rule_match.specs.Remaining.{rows_left, IsLeftOf, IsSource, Follows, GoesOn, IsRoot}
 use Rattle.rule_match.specs.Columns.{depth_at, value_put}
 use Rattle.rule_match.proofs.Keying.{rows_by_head}
 use Rattle.rule_match.proofs.Siding.{width_full, rows_full}
@@ -59,16 +58,16 @@ branch_follows rules t n child tried key at place it is b e p q =
     let h = branch_at rules t.nodes.items n.column (drop n.tried (map (kept_row rules) n.rows.items)) n.branches.items b.place b.branch is b.there in
     let same : h.node ≡ child = one_node h.node child (slice_get t.nodes.items place) (ap (slice_get t.nodes.items) (flip b.node_is) ∙ h.there) e in record {
       rows = ap (λ (x : Node). map (kept_row rules) x.rows.items) (flip same) ∙ h.rows_are ∙ (λ i. rows_by (b.key_is i) (q i) (drop (p i) (map (kept_row rules) n.rows.items)));
-      is = node_at rules t.nodes.items t.nodes.items place child it.tests e;
+      is = node_at rules t.nodes.items t.nodes.items place child it.nodes.tests e;
     }
 
 pub root_follows : (rules : List PlainRule) (t : Compiled) (n : Node) (place : ℕ) → IsTree rules t → t.root ≡ Some place → slice_get t.nodes.items place ≡ Some n → IsRoot rules t n
 root_follows rules t n place it r e =
     let h : HasRows rules t.nodes.items place (rows_for (widest rules) (widest rules) rules) =
-    subst (λ (o : Option ℕ). IfSome o (λ i. HasRows rules t.nodes.items i (rows_for (widest rules) (widest rules) rules))) r it.root in
+    subst (λ (o : Option ℕ). IfSome o (λ i. HasRows rules t.nodes.items i (rows_for (widest rules) (widest rules) rules))) r it.nodes.root in
     let same : h.node ≡ n = one_node h.node n (slice_get t.nodes.items place) h.there e in record {
       rows = ap (λ (x : Node). map (kept_row rules) x.rows.items) (flip same) ∙ h.rows_are;
-      is = node_at rules t.nodes.items t.nodes.items place n it.tests e;
+      is = node_at rules t.nodes.items t.nodes.items place n it.nodes.tests e;
     }
 
 -- rows that are worked out
@@ -177,14 +176,6 @@ pub root_found : (t : Compiled) (place : ℕ) (o : Option (Bor Node)) → option
 root_found t place None e q = tt
 root_found t place (Some n) e q = λ rs it. root_follows rs t n.now place it q (flip e)
 
-pub has_variables : (rules : List PlainRule) (ss : List Side) (i : ℕ) (s : Side) → AreSides rules ss → slice_get ss i ≡ Some s → HasVariables rules i s.vars
-has_variables [] [] i s h e = cc
-has_variables [] (t ∷ ss) i s h e = absurd h
-has_variables (r ∷ rs) [] i s h e = absurd h
-has_variables (r ∷ rs) (t ∷ ss) zero s h e = let q : t ≡ s = cc in record { there = omega arith; is = ap (λ (x : Side). x.vars) (flip q) ∙ h.0.vars }
-has_variables (r ∷ rs) (t ∷ ss) (suc i) s h e =
-    let v = has_variables rs ss i s h.1 e in record { there = let l : i < length rs = v.there in omega (arith, l); is = v.is }
-
 pub depth_got : (cs : List Column) (at : ℕ) (c : Column) → slice_get cs at ≡ Some c → c.depth ≡ depth_at cs at
 depth_got [] at c e = cc
 depth_got (d ∷ cs) zero c e = let q : d ≡ c = cc in ap (λ (x : Column). x.depth) (flip q)
@@ -200,4 +191,4 @@ put_there cs mid front pushed joined whole behind parts at v c e m f p j b w =
     w ∙ (λ i. joined_is i ++ b i)
 
 pub root_rows : (rules : List PlainRule) (t : Compiled) (n : Node) (count w : ℕ) → IsRoot rules t n → IsTree rules t → t.widest ≤ count → w ≡ width count rules → map (kept_row rules) n.rows.items ≡ rows_for count w rules
-root_rows rules t n count w r it l e = r.rows ∙ rows_at_root rules count w (omega (arith, it.most, l)) e
+root_rows rules t n count w r it l e = r.rows ∙ rows_at_root rules count w (omega (arith, it.nodes.most, l)) e

@@ -1,5 +1,5 @@
 -- A matcher in a larger pool, and what it goes on with once an answer is there.
-use Rattle.std.proofs.Common.{List, Option, Some, None, Vec, Global, ◌≡◌, ◌+◌, ◌<◌, ℕ, Bool, true, false, refl, ap, ◌∙◌, sym as flip, subst, arith, drop, length, if◌then◌else◌}
+use Rattle.std.proofs.Common.{List, Option, Some, None, Vec, Global, ◌≡◌, ◌+◌, ◌<◌, ℕ, Bool, true, false, refl, ap, ◌∙◌, sym as flip, subst, drop, length, if◌then◌else◌}
 use Rattle.dk_model.specs.Trees.{Tree}
 use Rattle.dk_model.specs.Signatures.{PlainRule, PlainSignature}
 use Rattle.dk_model.specs.Units.{Units, bind}
@@ -10,7 +10,7 @@ use Rattle.shared_term.specs.declared.id.TermId.{TermId}
 use Rattle.shared_term.specs.Pools.{Node, term, Extends}
 use Rattle.shared_term.specs.Changes.{captured_terms}
 use Rattle.rule_match.specs.declared.matcher.Answer.{Answer}
-use Rattle.rule_match.specs.declared.matcher.Answer.TheVariants.{Begin, Value, Yes, No, Normal}
+use Rattle.rule_match.specs.declared.matcher.Answer.TheVariants.{Value, Yes, No, Normal}
 use Rattle.rule_match.specs.declared.matcher.Ask.TheVariants.{Evaluate, Escape, Same, Take, Nothing}
 use Rattle.rule_match.specs.declared.matcher.Stage.{Stage}
 use Rattle.rule_match.specs.declared.matcher.Stage.TheVariants.{Begins, Evaluates, Escapes, Compares, Guards, Ends}
@@ -28,6 +28,8 @@ pub matcher_grown : (old new : List Node) (m : Matcher) → Extends old new → 
 matcher_grown old new m x h = record {
   columns = columns_within old new m.columns.items x h.columns;
   captures = captures_within old new m.captures.items x h.captures;
+  tried = h.tried;
+  placed = h.placed;
   stage = h.stage;
 }
 

@@ -12,6 +12,7 @@ mod Keying
 mod Trying
 mod Following
 mod Matching
+mod Placing
 mod Asking
 pub mod Telling
 pub mod Larger

@@ -12,7 +12,6 @@ use Rattle.rule_match.specs.declared.key.Key.TheVariants.{Abstraction}
 use Rattle.rule_match.specs.declared.value.Column.{Column}
 use Rattle.rule_match.specs.Keys.{key_at, key_of}
 use Rattle.rule_match.specs.Columns.{AreWithin, behind, wound, from_top, is_application, column, argument_column, AreColumns, IsHeadOf}
-use Rattle.rule_match.proofs.Siding.{take_next}
 
 -- a stack from its top
 

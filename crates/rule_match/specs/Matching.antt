@@ -1,5 +1,5 @@
 -- What a matcher stands for: what is left of a selection, and what it asks for next.
-use Rattle.std.specs.Prelude.{ℕ, ◌≡◌, ◌<◌, ◌+◌, Option, Some, None, Bool, true, false, List, map, length, take, drop}
+use Rattle.std.specs.Prelude.{ℕ, ◌≡◌, ◌<◌, ◌+◌, ◌^◌, Option, Some, None, Bool, true, false, List, map, length, take, drop}
 use Rattle.dk_model.specs.Trees.{Tree}
 use Rattle.dk_model.specs.Signatures.{PlainRule, PlainSignature}
 use Rattle.dk_model.specs.Units.{Units, bind}
@@ -19,7 +19,7 @@ use Rattle.rule_match.specs.declared.matcher.Stage.TheVariants.{Begins, Evaluate
 use Rattle.rule_match.specs.declared.matcher.Matcher.{Matcher}
 use Rattle.rule_match.specs.Rows.{row, rule_at}
 use Rattle.rule_match.specs.Columns.{plain, argument_column, from_top, AreColumns}
-use Rattle.rule_match.specs.Remaining.{rows_left, IsSource, IsLeftOf}
+use Rattle.rule_match.specs.Remaining.{rows_left, IsSource, IsLeftOf, rule_count, ArePlaced}
 use Rattle.rule_match.specs.Trying.{column_at}
 use Rattle.rule_match.specs.Standing.{after_cell, cell_normal, cell_compared, guard_compared, finished, decided, capturing, guarding, with_value}
 
@@ -27,13 +27,29 @@ use Rattle.rule_match.specs.Standing.{after_cell, cell_normal, cell_compared, gu
 abbrev pub IsStage : ℕ → ℕ → Stage → Type 0
 IsStage n k (Evaluates i) = i < n
 IsStage n k (Escapes i) = (i < n) × (i < k)
+IsStage n k (Compares i) = i < n
+IsStage n k (Guards i) = i < n
 IsStage n k stage = Unit {0}
 
--- the terms of a matcher are of a pool of so many nodes
+-- the row that is tried is of one of so many rules, and can be counted
+pub record IsTried (count at tried : ℕ) : Type 0 where
+  pub there : at < count
+  pub counted : tried + 1 < 2 ^ 64
+
+-- that, while an answer for the row that is tried is awaited
+abbrev pub Tries : ℕ → ℕ → ℕ → Stage → Type 0
+Tries count at tried (Escapes i) = IsTried count at tried
+Tries count at tried (Compares i) = IsTried count at tried
+Tries count at tried (Guards i) = IsTried count at tried
+Tries count at tried stage = Unit {0}
+
+-- the terms of a matcher are of a pool of so many nodes, and its rows have the places of rules
 pub record IsMatcher (n : ℕ) (m : Matcher) : Type 0 where
   pub columns : AreColumns n m.columns.items
   pub captures : AreCaptures n m.captures.items
   pub stage : IsStage (length m.columns.items) (length m.row.cells.items) m.stage
+  pub tried : Tries (rule_count m.source) m.row.at m.tried m.stage
+  pub placed : ArePlaced m.source m.left
 
 -- the answer is of the kind that was asked for last, and its term of a pool of so many nodes
 abbrev pub IsAnswer : ℕ → Stage → Answer → Type 0

@@ -1,5 +1,5 @@
 -- The rows that are left of a selection, as the code holds them.
-use Rattle.std.specs.Prelude.{ℕ, ◌≡◌, ◌<◌, ◌≤◌, List, length, map, drop}
+use Rattle.std.specs.Prelude.{ℕ, ◌≡◌, ◌<◌, ◌≤◌, List, [], ◌∷◌, length, map, drop}
 use Rattle.dk_model.specs.Signatures.{PlainRule}
 use Rattle.dk_model.specs.Matrix.{rows_for, width}
 use Rattle.dk_model.specs.Matrix.{Row as PlainRow}
@@ -47,6 +47,23 @@ IsSource rules (Sides v) = AreLeftSides rules v.items
 abbrev pub IsLeftOf : List PlainRule → Source → Left → Type 0
 IsLeftOf rules (InTree t) left = IsLeft rules t.now left
 IsLeftOf rules (Sides v) left = HasRoom rules left
+
+-- how many rules there are
+abbrev pub rule_count : Source → ℕ
+rule_count (InTree t) = length t.now.sides.items
+rule_count (Sides v) = length v.items
+
+-- none of these rows is of what stands where there is no rule
+abbrev pub AreOfNamed : List PlainRow → Type 0
+AreOfNamed [] = Unit {0}
+AreOfNamed (r ∷ rs) = (0 < r.rule.head) × AreOfNamed rs
+
+-- each of the rows left has the place of a rule: they are those of some rules that aren't what stands where there is none
+pub record ArePlaced (s : Source) (l : Left) : Type 0 where
+  pub rules : List PlainRule
+  pub source : IsSource rules s
+  pub left : IsLeftOf rules s l
+  pub named : AreOfNamed (rows_left rules l)
 
 -- the rows that a selection begins with before so many arguments, over so many columns
 pub record WalksFrom (rules : List PlainRule) (count w : ℕ) (left : Left) : Type 0 where

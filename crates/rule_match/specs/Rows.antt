@@ -1,5 +1,5 @@
 -- How the code holds rows, as the plain data of a selection (docs/evaluation.md).
-use Rattle.std.specs.Prelude.{ℕ, ◌≡◌, List, [], ◌++◌, map, get_or}
+use Rattle.std.specs.Prelude.{ℕ, ◌≡◌, ◌<◌, List, [], ◌∷◌, ◌++◌, map, get_or}
 use Rattle.std.specs.declared.vec.Vec.{Vec}
 use Rattle.std.specs.declared.alloc.Global.{Global}
 use Rattle.dk_model.specs.Trees.{star}
@@ -34,6 +34,11 @@ kept_cell (Keeps p) = pattern_cell p
 -- stands where a list has no rule at a place
 abbrev pub no_rule : PlainRule
 no_rule = record { head = 0; vars = 0; pats = []; notes = []; right = star }
+
+-- none of these rules is what stands where there is no rule: each is of another symbol
+abbrev pub AreNamed : List PlainRule → Type 0
+AreNamed [] = Unit {0}
+AreNamed (r ∷ rs) = (0 < r.head) × AreNamed rs
 
 -- the rule at a place among a symbol's rules
 abbrev pub rule_at : List PlainRule → ℕ → PlainRule

@@ -1,5 +1,5 @@
 //! The rows that are left of a selection: those of a node, or rows that were worked out.
-ghost use Rattle.std.specs.Prelude.{◌≡◌, ◌≤◌, IfOk, IfSome, List, slice_get, map, drop};
+ghost use Rattle.std.specs.Prelude.{◌≡◌, ◌≤◌, ◌<◌, ◌+◌, ◌^◌, IfOk, IfSome, List, slice_get, map, drop};
 ghost use Rattle.std.specs.Option.{option_copied, option_map};
 ghost use Rattle.dk_model.specs.Signatures.{PlainRule};
 ghost use Rattle.dk_model.specs.Matrix.{rows_for, width, width as width_of};
@@ -9,13 +9,13 @@ ghost use Rattle.rule_match.specs.Keys.{rows_by};
 ghost use Rattle.rule_match.specs.Sides.{AreLeftSides};
 ghost use Rattle.rule_match.specs.Branches.{IsNode};
 ghost use Rattle.rule_match.specs.Trees.{IsTree};
-ghost use Rattle.rule_match.specs.Remaining.{rows_left, IsLeft, Follows, GoesOn, IsRoot, IsSource, IsLeftOf, HasVariables, WalksFrom};
+ghost use Rattle.rule_match.specs.Remaining.{rows_left, IsLeft, Follows, GoesOn, IsRoot, IsSource, IsLeftOf, HasVariables, WalksFrom, rule_count};
 
 use crate::branch::{Node, found};
 use crate::cell::{Row, seen_row, seen_rows};
 use crate::key::Key;
 use crate::refine::{refined_rows, untried};
-use crate::side::{Side, rows_for, width};
+use crate::side::{rows_for, width};
 use crate::tree::Tree;
 use crate::walk::{LeftSide, walked_kept, walked_row, walked_rows, walked_width, widest_side};
 use dk_model::NoMemory;
@@ -46,9 +46,10 @@ fn whole_row<'t>(
     width: usize,
     at: usize,
 ) -> Result<Option<Row<'t>>, NoMemory>
-    ensures { IfOk result (λ o. (rules : List PlainRule) → IsSource rules source.now
+    ensures is { IfOk result (λ o. (rules : List PlainRule) → IsSource rules source.now
         → IsLeftOf rules source.now (Whole width)
         → option_map (row_of rules) o ≡ slice_get (rows_for width width rules) at) }
+    ensures counted { IfOk result (λ o. IfSome o (λ _. at + 1 < 2 ^ 64)) }
 {
     match source {
         Source::Tree(_) => Ok(None),
@@ -66,9 +67,10 @@ pub(crate) fn row_at<'t>(
     left: &Left<'t>,
     at: usize,
 ) -> Result<Option<Row<'t>>, NoMemory>
-    ensures { IfOk result (λ o. (rules : List PlainRule) → IsSource rules source.now
+    ensures is { IfOk result (λ o. (rules : List PlainRule) → IsSource rules source.now
         → IsLeftOf rules source.now left.now
         → option_map (row_of rules) o ≡ slice_get (rows_left rules left.now) at) }
+    ensures counted { IfOk result (λ o. IfSome o (λ _. at + 1 < 2 ^ 64)) }
 {
     match left {
         Left::Kept(node) => match node.rows.get(at) {
@@ -91,13 +93,6 @@ fn node_at<'t>(tree: &'t Tree, place: usize) -> Option<&'t Node>
     ensures { option_copied result ≡ slice_get tree.now.nodes.items place }
 {
     tree.nodes.as_slice().get(place)
-}
-
-/// The left side of the rule at a place.
-fn side_at<'t>(tree: &'t Tree, at: usize) -> Option<&'t Side>
-    ensures { option_copied result ≡ slice_get tree.now.sides.items at }
-{
-    tree.sides.as_slice().get(at)
 }
 
 /// The node that a test at this column goes to.
@@ -204,20 +199,14 @@ pub(crate) fn kept_for<'t>(
     Ok(Left::Walked(kept))
 }
 
-/// How many variables a rule has; None where there is no rule at this place.
-pub(crate) fn variable_count(source: &Source, at: usize) -> Option<u32>
-    ensures { IfSome result (λ count. (rules : List PlainRule) → IsSource rules source.now
-        → HasVariables rules at count) }
+/// How many variables a rule has.
+pub(crate) fn variable_count(source: &Source, at: usize) -> u32
+    requires { at < rule_count source.now }
+    ensures { (rules : List PlainRule) → IsSource rules source.now → HasVariables rules at result }
 {
     match source {
-        Source::Tree(tree) => match side_at(tree, at) {
-            Some(side) => Some(side.vars),
-            None => None,
-        },
-        Source::Sides(sides) => match sides.get(at) {
-            Some(side) => Some(side.vars),
-            None => None,
-        },
+        Source::Tree(tree) => tree.sides[at].vars,
+        Source::Sides(sides) => sides[at].vars,
     }
 }
 

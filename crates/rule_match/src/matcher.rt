@@ -6,10 +6,11 @@ ghost use Rattle.shared_term.specs.Pools.{Node, term, Extends};
 ghost use Rattle.rule_match.specs.Rows.{plain_cell};
 ghost use Rattle.rule_match.specs.Columns.{AreColumns, AreWithin};
 ghost use Rattle.rule_match.specs.Sides.{AreLeftSides};
+ghost use Rattle.rule_match.specs.Remaining.{rule_count};
 ghost use Rattle.rule_match.specs.Standing.{others_in};
-ghost use Rattle.rule_match.specs.Trees.{IsTree};
+ghost use Rattle.rule_match.specs.Trees.{IsTree, IsPlaced};
 ghost use Rattle.rule_match.specs.declared.matcher.Stage.TheVariants.{Begins};
-ghost use Rattle.rule_match.specs.Matching.{IsMatcher, IsAnswer, IsAsk, Awaits, Stands, Asks, IsStart, selects, captures_due, guards_due, after_value, after_normal, after_compared, after_guard, answered, fails, term_in};
+ghost use Rattle.rule_match.specs.Matching.{IsMatcher, IsTried, IsAnswer, IsAsk, Awaits, Stands, Asks, IsStart, selects, captures_due, guards_due, after_value, after_normal, after_compared, after_guard, answered, fails, term_in};
 
 use crate::cell::{Cell, Row};
 use crate::left::{
@@ -147,6 +148,7 @@ impl<'t> Matcher<'t> {
         tree: &'t Tree,
         arguments: &[TermId],
     ) -> Result<Matcher<'t>, NoMemory>
+        requires { IsPlaced tree.now }
         ensures starts { IfOk result (λ m. (rules : List PlainRule) → IsTree rules tree.now
             → IsStart rules arguments.now m) }
         ensures within { IfOk result (λ m. (n : ℕ) → AreWithin n arguments.now → IsMatcher n m) }
@@ -248,22 +250,21 @@ impl<'t> Matcher<'t> {
                     self.stage = Stage::Evaluates(at);
                     Ok(Ask::Evaluate(at))
                 }
-                None => match variable_count(&self.source, row.at) {
-                    Some(count) => {
-                        self.captures = no_captures(self.alloc, count)?;
-                        self.row = row;
-                        self.stage = Stage::Begins;
-                        self.go_through(pool, 0)
-                    }
-                    None => Err(NoMemory),
-                },
+                None => {
+                    let count = variable_count(&self.source, row.at);
+                    self.captures = no_captures(self.alloc, count)?;
+                    self.row = row;
+                    self.stage = Stage::Begins;
+                    self.go_through(pool, 0)
+                }
             },
         }
     }
 
     /// The row after the one that failed.
     fn next_row(&mut self, pool: &mut Pool) -> Result<Ask, NoMemory>
-        requires { IsMatcher (length pool.old) self.old }
+        requires within { IsMatcher (length pool.old) self.old }
+        requires tried { IsTried (rule_count self.old.source) self.old.row.at self.old.tried }
         ensures asks { IfOk result (λ ask. (rules : List PlainRule) → Stands rules self.old
             → Asks rules pool.new self.new ask (λ S. fails S rules pool.old self.old)) }
         ensures awaits { IfOk result (Awaits self.new.stage) }
@@ -271,16 +272,15 @@ impl<'t> Matcher<'t> {
         ensures within { OnOk result (IsMatcher (length pool.new) self.new) }
         ensures keeps { Extends pool.old pool.new }
     {
-        match self.tried.checked_add(1) {
-            Some(tried) => self.tried = tried,
-            None => return Err(NoMemory),
-        }
+        self.tried += 1;
+        self.stage = Stage::Begins;
         self.try_row(pool)
     }
 
     /// The cells of the row that is tried, from this place on.
     fn go_through(&mut self, pool: &mut Pool, from: usize) -> Result<Ask, NoMemory>
-        requires { IsMatcher (length pool.old) self.old }
+        requires within { IsMatcher (length pool.old) self.old }
+        requires tried { IsTried (rule_count self.old.source) self.old.row.at self.old.tried }
         ensures asks { IfOk result (λ ask. (rules : List PlainRule) → Stands rules self.old
             → Asks rules pool.new self.new ask (λ S. captures_due S rules pool.old self.old from)) }
         ensures awaits { IfOk result (Awaits self.new.stage) }
@@ -309,7 +309,8 @@ impl<'t> Matcher<'t> {
 
     /// The guards of the row that is tried, from this place on.
     fn go_guarding(&mut self, pool: &mut Pool, from: usize) -> Result<Ask, NoMemory>
-        requires { IsMatcher (length pool.old) self.old }
+        requires within { IsMatcher (length pool.old) self.old }
+        requires tried { IsTried (rule_count self.old.source) self.old.row.at self.old.tried }
         ensures asks { IfOk result (λ ask. (rules : List PlainRule) → Stands rules self.old
             → Asks rules pool.new self.new ask (λ S. guards_due S rules pool.old self.old from)) }
         ensures awaits { IfOk result (Awaits self.new.stage) }
@@ -324,14 +325,11 @@ impl<'t> Matcher<'t> {
             self.captures.as_slice(),
             from,
         )? {
-            None => match variable_count(&self.source, self.row.at) {
-                Some(_count) => {
-                    self.stage = Stage::Ends;
-                    let captures = mem::replace(&mut self.captures, Vec::new(self.alloc));
-                    Ok(Ask::Take(self.row.at, captures))
-                }
-                None => Err(NoMemory),
-            },
+            None => {
+                self.stage = Stage::Ends;
+                let captures = mem::replace(&mut self.captures, Vec::new(self.alloc));
+                Ok(Ask::Take(self.row.at, captures))
+            }
             Some(next) => {
                 self.stage = Stage::Guards(next.at);
                 Ok(Ask::Same(next.part, next.guard))
@@ -365,6 +363,7 @@ impl<'t> Matcher<'t> {
     /// Goes on with the normal form of this column's part.
     fn put_normal(&mut self, pool: &mut Pool, at: usize, part: TermId) -> Result<Ask, NoMemory>
         requires within { IsMatcher (length pool.old) self.old }
+        requires tried { IsTried (rule_count self.old.source) self.old.row.at self.old.tried }
         requires at { at < vec_len self.old.columns }
         requires cell { at < vec_len self.old.row.cells }
         requires part { part.0 < length pool.old }
@@ -390,6 +389,8 @@ impl<'t> Matcher<'t> {
     /// Goes on once this column's part was compared with what its variable captured before.
     fn captured(&mut self, pool: &mut Pool, at: usize, alike: bool) -> Result<Ask, NoMemory>
         requires within { IsMatcher (length pool.old) self.old }
+        requires tried { IsTried (rule_count self.old.source) self.old.row.at self.old.tried }
+        requires at { at < vec_len self.old.columns }
         ensures asks { IfOk result (λ ask. (rules : List PlainRule) → Stands rules self.old
             → Asks rules pool.new self.new ask
             (λ S. after_compared S rules pool.old self.old at alike)) }
@@ -401,15 +402,14 @@ impl<'t> Matcher<'t> {
         if !alike {
             return self.next_row(pool);
         }
-        match at.checked_add(1) {
-            Some(next) => self.go_through(pool, next),
-            None => Err(NoMemory),
-        }
+        self.go_through(pool, at + 1)
     }
 
     /// Goes on once this column's part was compared with the guard.
     fn guarded(&mut self, pool: &mut Pool, at: usize, alike: bool) -> Result<Ask, NoMemory>
         requires within { IsMatcher (length pool.old) self.old }
+        requires tried { IsTried (rule_count self.old.source) self.old.row.at self.old.tried }
+        requires at { at < vec_len self.old.columns }
         ensures asks { IfOk result (λ ask. (rules : List PlainRule) → Stands rules self.old
             → Asks rules pool.new self.new ask
             (λ S. after_guard S rules pool.old self.old at alike)) }
@@ -421,9 +421,6 @@ impl<'t> Matcher<'t> {
         if !alike {
             return self.next_row(pool);
         }
-        match at.checked_add(1) {
-            Some(next) => self.go_guarding(pool, next),
-            None => Err(NoMemory),
-        }
+        self.go_guarding(pool, at + 1)
     }
 }

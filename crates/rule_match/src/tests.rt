@@ -3,6 +3,7 @@ ghost use Rattle.std.specs.Prelude.{◌<◌, length, IfOk, OnOk};
 ghost use Rattle.shared_term.specs.Pools.{Extends};
 ghost use Rattle.rule_match.specs.Columns.{AreWithin};
 ghost use Rattle.rule_match.specs.Matching.{IsMatcher, Awaits};
+ghost use Rattle.rule_match.specs.Trees.{IsPlaced};
 
 use crate::{Answer, Ask, LeftSide, Matcher, Tree, compile};
 use dk_model::{Listed, NoMemory, NodeOf, Pat, Rule, Term};
@@ -61,7 +62,9 @@ fn same_rules(alloc: Global) -> Result<Listed<Rule<Stored>>, NoMemory> {
     Ok(rules)
 }
 
-fn tree_of(alloc: Global, rules: &[Rule<Stored>]) -> Result<Tree, NoMemory> {
+fn tree_of(alloc: Global, rules: &[Rule<Stored>]) -> Result<Tree, NoMemory>
+    ensures { IfOk result IsPlaced }
+{
     let mut sides = Vec::new(alloc);
     for rule in rules {
         sides.push(LeftSide {
@@ -115,7 +118,8 @@ fn taken(
     arguments: &[TermId],
     told: &[Told],
 ) -> Result<Option<usize>, NoMemory>
-    requires { AreWithin (length pool.old) arguments.now }
+    requires within { AreWithin (length pool.old) arguments.now }
+    requires placed { IsPlaced tree.now }
 {
     let mut matcher = Matcher::start(alloc, tree, arguments)?;
     let mut ask = matcher.next(pool, Answer::Begin)?;

@@ -4,7 +4,7 @@ ghost use Rattle.dk_model.specs.Signatures.{PlainRule};
 ghost use Rattle.dk_model.specs.Matrix.{rows_for};
 ghost use Rattle.rule_match.specs.Sides.{AreSides, AreLeftSides};
 ghost use Rattle.rule_match.specs.Branches.{AreTests, AddsRows};
-ghost use Rattle.rule_match.specs.Trees.{IsTree};
+ghost use Rattle.rule_match.specs.Trees.{HasNodes, IsTree, IsPlaced};
 
 use crate::branch::Node;
 use crate::nodes::compiled;
@@ -45,10 +45,10 @@ fn rooted(
     compiled(alloc, nodes, rows.as_slice(), &mut budget)
 }
 
-/// The rules of one symbol, by their left sides, as a tree of tests; past the limit of nodes as rows.
-pub fn compile(alloc: Global, sides: &[LeftSide]) -> Result<Tree, NoMemory>
+/// The nodes of these left sides, and the left sides as copies of them.
+fn tree_of(alloc: Global, sides: &[LeftSide]) -> Result<Tree, NoMemory>
     ensures { IfOk result (λ tree. (rules : List PlainRule) → AreLeftSides rules sides.now
-        → IsTree rules tree) }
+        → HasNodes rules tree) }
 {
     let sides = sides_of(alloc, sides)?;
     let widest = widest(sides.as_slice());
@@ -63,6 +63,16 @@ pub fn compile(alloc: Global, sides: &[LeftSide]) -> Result<Tree, NoMemory>
         nodes,
         root,
     })
+}
+
+/// The rules of one symbol, by their left sides, as a tree of tests; past the limit of nodes as rows.
+
+pub fn compile(alloc: Global, sides: &[LeftSide]) -> Result<Tree, NoMemory>
+    ensures is { IfOk result (λ tree. (rules : List PlainRule) → AreLeftSides rules sides.now
+        → IsTree rules tree) }
+    ensures placed { IfOk result IsPlaced }
+{
+    tree_of(alloc, sides)
 }
 
 impl Tree {

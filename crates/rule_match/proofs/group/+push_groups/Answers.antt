@@ -1,8 +1,7 @@
 -- A group for the one head that is left, and those of both halves.
-use Rattle.std.proofs.Common.{◌≡◌, ◌∙◌, ◌++◌, ◌∷◌, [], List, true, false, refl, subst, sym as flip, map}
+use Rattle.std.proofs.Common.{◌∙◌, List, true, false, refl, subst, sym as flip, map}
 use Rattle.dk_model.specs.Matrix.{Row as PlainRow}
 use Rattle.rule_match.specs.declared.cell.Row.{Row}
-use Rattle.rule_match.specs.declared.group.Group.{Group}
 use Rattle.rule_match.specs.declared.key.Key.{Key}
 use Rattle.rule_match.specs.Rows.{row}
 use Rattle.rule_match.specs.Groups.{KeepSame, AreGroups}

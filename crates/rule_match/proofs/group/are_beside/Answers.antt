@@ -1,4 +1,4 @@
-use Rattle.std.proofs.Common.{◌∙◌, ◌≤◌, subst, sym as flip, length, arith}
+use Rattle.std.proofs.Common.{◌∙◌, subst, sym as flip}
 use Rattle.std.proofs.lemmas.List.{take_all}
 use Rattle.rule_match.specs.Groups.{AreBeside}
 use Rattle.rule_match.proofs.Grouping.{on_side, beside_more}

@@ -1,4 +1,4 @@
-use Rattle.std.proofs.Common.{◌≡◌, ◌∙◌, ◌++◌, ◌<◌, ◌≤◌, ◌+◌, List, Vec, Global, length, map, drop, ap, sym as flip, arith}
+use Rattle.std.proofs.Common.{◌∙◌, ◌++◌, ◌<◌, ◌≤◌, ◌+◌, Vec, Global, length, map, drop, ap, arith}
 use Rattle.rule_match.specs.declared.cell.Row.{Row}
 use Rattle.rule_match.specs.Rows.{row}
 use Rattle.rule_match.specs.Keys.{rows_by}

@@ -1,5 +1,5 @@
 -- A row is kept for no head but that of its pattern.
-use Rattle.std.proofs.Common.{◌≡◌, ◌∙◌, ℕ, List, Bool, true, ap, sym as flip, map, length}
+use Rattle.std.proofs.Common.{◌≡◌, ◌∙◌, ℕ, List, ap, sym as flip, map}
 use Rattle.dk_model.specs.Matrix.{cell_at}
 use Rattle.dk_model.specs.declared.signature.Pat.TheVariants.{Var}
 use Rattle.rule_match.specs.declared.cell.Cell.{Cell}

@@ -1,4 +1,3 @@
-use Rattle.std.proofs.Common.{ap, drop}
 use Rattle.rule_match.proofs.Following.{whole_sides, no_whole}
 use Rattle.rule_match.proofs.left.whole_for.Goals as goal
 

@@ -8,16 +8,16 @@ use Rattle.rule_match.proofs.Following.{no_whole}
 use Rattle.rule_match.proofs.Walking.{whole_missing, whole_there, fresh_row}
 use Rattle.rule_match.proofs.left.whole_row.Goals as goal
 
-pub returns-in-Tree : goal.returns-in-Tree
-returns-in-Tree c = λ rules i j. absurd (no_whole rules c.args.source.now c.in-Tree.field-0 c.args.width c.in-Tree.is j)
+pub returns-in-Tree-clause-is : goal.returns-in-Tree-clause-is
+returns-in-Tree-clause-is c = λ rules i j. absurd (no_whole rules c.args.source.now c.in-Tree.field-0 c.args.width c.in-Tree.is j)
 
-pub returns-in-None : goal.returns-in-None
-returns-in-None c = λ rules i j.
+pub returns-in-None-clause-is : goal.returns-in-None-clause-is
+returns-in-None-clause-is c = λ rules i j.
     let l : length c.in-Sides.sides.items ≤ c.args.at = ltb-false c.args.at (length c.in-Sides.sides.items) (flip ((rw c.deref.ensures.value at c.in-None.ensures.lookup).0)) in
     flip (whole_missing rules c.in-Sides.sides.items c.args.width c.args.at (subst (λ (s : Source). IsSource rules s) c.in-Sides.is i) (subst (λ (s : Source). IsLeftOf rules s (Whole c.args.width)) c.in-Sides.is j) l)
 
-pub returns-in_ok-walked_row-in-Some : goal.returns-in_ok-walked_row-in-Some
-returns-in_ok-walked_row-in-Some c = λ rules i j.
+pub returns-in_ok-walked_row-in-Some-clause-is : goal.returns-in_ok-walked_row-in-Some-clause-is
+returns-in_ok-walked_row-in-Some-clause-is c = λ rules i j.
     let a = subst (λ (s : Source). IsSource rules s) c.in-Sides.is i in
     let f = subst (λ (s : Source). IsLeftOf rules s (Whole c.args.width)) c.in-Sides.is j in
     let l : c.args.at < length c.in-Sides.sides.items = (rw c.deref.ensures.value at c.in-Some.ensures.lookup).3.0 in

@@ -1,4 +1,4 @@
-use Rattle.std.proofs.Common.{◌≡◌, ◌∙◌, ◌<◌, ◌≤◌, ◌+◌, ◌++◌, ◌∷◌, [], List, ap, subst, sym as flip, take, length, arith}
+use Rattle.std.proofs.Common.{◌<◌, ◌++◌, ◌∷◌, [], List, subst, sym as flip, take, length, arith}
 use Rattle.std.proofs.lemmas.List.{take_all}
 use Rattle.rule_match.specs.declared.side.Side.{Side}
 use Rattle.rule_match.specs.declared.walk.LeftSide.{LeftSide}

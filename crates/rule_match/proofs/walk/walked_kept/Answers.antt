@@ -1,4 +1,4 @@
-use Rattle.std.proofs.Common.{◌≡◌, ◌∙◌, ◌<◌, ◌≤◌, ◌-◌, ◌+◌, ◌++◌, ℕ, Vec, Global, true, false, ap, sym as flip, map, drop, length, arith}
+use Rattle.std.proofs.Common.{◌≡◌, ◌∙◌, ◌<◌, ◌≤◌, ◌-◌, ◌+◌, ◌++◌, ℕ, Vec, Global, ap, sym as flip, map, drop, length, arith}
 use Rattle.std.specs.Prelude.{replicate}
 use Rattle.dk_model.specs.Matrix.{blank, cell_at, rows_for}
 use Rattle.rule_match.specs.declared.cell.Row.{Row}

@@ -1,8 +1,7 @@
-use Rattle.std.proofs.Common.{◌≡◌, ◌∙◌, ◌<◌, ◌≤◌, ◌+◌, ◌-◌, ◌++◌, Vec, Global, ap, map, drop, length, refl, ℕ, arith}
-use Rattle.std.specs.Prelude.{replicate}
-use Rattle.dk_model.specs.Matrix.{blank, rows_for}
+use Rattle.std.proofs.Common.{◌∙◌, ◌<◌, ◌≤◌, ◌+◌, ◌++◌, Vec, Global, ap, map, drop, length, refl, ℕ, arith}
+use Rattle.dk_model.specs.Matrix.{rows_for}
 use Rattle.rule_match.specs.declared.cell.Row.{Row}
-use Rattle.rule_match.specs.Rows.{pattern_cell, row}
+use Rattle.rule_match.specs.Rows.{row}
 use Rattle.rule_match.proofs.Walking.{beside_left, row_added, row_passed, all_rows}
 use Rattle.rule_match.proofs.walk.walked_rows.Goals.{then-side-count+in_ok-row+in_ok-push, else-side-count}
 use Rattle.rule_match.proofs.walk.walked_rows.Goals as goal

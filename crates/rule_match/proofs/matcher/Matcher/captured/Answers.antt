@@ -1,4 +1,4 @@
-use Rattle.std.proofs.Common.{◌≡◌, ◌+◌, ◌∙◌, ℕ, Bool, ap, drop, arith}
+use Rattle.std.proofs.Common.{◌+◌, ◌∙◌, Bool, ap, drop}
 use Rattle.shared_term.specs.Changes.{captured_terms}
 use Rattle.rule_match.specs.Rows.{row}
 use Rattle.rule_match.specs.Columns.{plain}
@@ -16,13 +16,11 @@ returns-then-not-alike-clause-asks c =
     (captured_terms c.args.pool.now c.args.self.now.captures.items) n)
     c.next_row.ensures.asks
 
-pub returns-in-Some-clause-asks : goal.returns-in-Some-clause-asks
-returns-in-Some-clause-asks c =
-    let e : c.args.at + 1 ≡ c.in-Some.next = omega (arith, c.in-Some.ensures.1) in
-    asks_on c.go_through.result c.go_through.new.pool c.go_through.new.self c.args.self.now c.args.self.now (λ rules S. captures_due S rules c.args.pool.now c.args.self.now c.in-Some.next)
+pub returns-clause-asks : goal.returns-clause-asks
+returns-clause-asks c =
+    asks_on c.go_through.result c.go_through.new.pool c.go_through.new.self c.args.self.now c.args.self.now (λ rules S. captures_due S rules c.args.pool.now c.args.self.now (c.args.at + 1))
     (λ rules S. after_compared S rules c.args.pool.now c.args.self.now c.args.at c.args.alike) (λ rules s. s)
     (λ rules s S n. ap (λ (b : Bool). after_compared S rules c.args.pool.now c.args.self.now c.args.at b n) c.if-not-alike.false
     ∙ compared_alike S (row rules c.args.self.now.row) (drop (c.args.self.now.tried + 1) (rows_left rules c.args.self.now.left)) (plain c.args.pool.now c.args.self.now.columns.items) c.args.at
-    (captured_terms c.args.pool.now c.args.self.now.captures.items) n
-    ∙ ap (λ (k : ℕ). captures_due S rules c.args.pool.now c.args.self.now k n) e)
+    (captured_terms c.args.pool.now c.args.self.now.captures.items) n)
     c.go_through.ensures.asks

@@ -15,11 +15,13 @@ use Rattle.rule_match.proofs.Growing.{columns_within, column_within}
 use Rattle.rule_match.proofs.Matching.{asks_on, cells_asked, escape_asks, compare_asks, term_there}
 use Rattle.rule_match.proofs.matcher.Matcher.go_through.Goals as goal
 
-pub go_guarding-requires : goal.go_guarding-requires
-go_guarding-requires c = record {
-  columns = columns_within c.args.pool.now c.pass.new.pool c.args.self.now.columns.items c.pass.ensures.keeps c.requires.columns;
+pub go_guarding-requires-clause-within : goal.go_guarding-requires-clause-within
+go_guarding-requires-clause-within c = record {
+  columns = columns_within c.args.pool.now c.pass.new.pool c.args.self.now.columns.items c.pass.ensures.keeps c.requires.within.columns;
   captures = c.in_ok-pass.ensures.captures;
-  stage = c.requires.stage;
+  stage = c.requires.within.stage;
+  tried = c.requires.within.tried;
+  placed = c.requires.within.placed;
 }
 
 pub returns-in-Through-clause-asks : goal.returns-in-Through-clause-asks
@@ -48,9 +50,11 @@ returns-in-Escapes-clause-asks c = λ rules s.
 
 pub returns-in-Escapes-clause-within : goal.returns-in-Escapes-clause-within
 returns-in-Escapes-clause-within c = record {
-  columns = columns_within c.args.pool.now c.pass.new.pool c.args.self.now.columns.items c.pass.ensures.keeps c.requires.columns;
+  columns = columns_within c.args.pool.now c.pass.new.pool c.args.self.now.columns.items c.pass.ensures.keeps c.requires.within.columns;
   captures = c.in_ok-pass.ensures.captures;
   stage = rw (c.as_slice.ensures.value, c.as_slice-2.ensures.value, c.in-Escapes.is) at c.in_ok-pass.ensures.passed;
+  tried = c.requires.tried;
+  placed = c.requires.within.placed;
 }
 
 pub returns-in-Compares-clause-asks : goal.returns-in-Compares-clause-asks
@@ -68,12 +72,14 @@ returns-in-Compares-clause-asks c = λ rules s.
 
 pub returns-in-Compares-clause-within : goal.returns-in-Compares-clause-within
 returns-in-Compares-clause-within c = record {
-  columns = columns_within c.args.pool.now c.pass.new.pool c.args.self.now.columns.items c.pass.ensures.keeps c.requires.columns;
+  columns = columns_within c.args.pool.now c.pass.new.pool c.args.self.now.columns.items c.pass.ensures.keeps c.requires.within.columns;
   captures = c.in_ok-pass.ensures.captures;
-  stage = tt;
+  stage = (rw (c.as_slice.ensures.value, c.as_slice-2.ensures.value, c.in-Compares.is) at c.in_ok-pass.ensures.passed).0;
+  tried = c.requires.tried;
+  placed = c.requires.within.placed;
 }
 
 pub returns-in-Escapes-clause-asked : goal.returns-in-Escapes-clause-asked
 returns-in-Escapes-clause-asked c =
     column_within (length c.pass.new.pool) c.in-Escapes.at c.args.self.now.columns.items c.column_of.result
-    (columns_within c.args.pool.now c.pass.new.pool c.args.self.now.columns.items c.pass.ensures.keeps c.requires.columns) (rw c.as_slice-in-Escapes.ensures.value at c.column_of.ensures)
+    (columns_within c.args.pool.now c.pass.new.pool c.args.self.now.columns.items c.pass.ensures.keeps c.requires.within.columns) (rw c.as_slice-in-Escapes.ensures.value at c.column_of.ensures)

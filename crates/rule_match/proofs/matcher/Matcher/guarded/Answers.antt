@@ -1,4 +1,4 @@
-use Rattle.std.proofs.Common.{◌≡◌, ◌+◌, ◌∙◌, ℕ, Bool, ap, arith}
+use Rattle.std.proofs.Common.{◌+◌, Bool, ap}
 use Rattle.rule_match.specs.Matching.{fails, after_guard, guards_due}
 use Rattle.rule_match.proofs.Matching.{asks_on}
 use Rattle.rule_match.proofs.matcher.Matcher.guarded.Goals as goal
@@ -9,11 +9,9 @@ returns-then-not-alike-clause-asks c =
     (λ rules S. after_guard S rules c.args.pool.now c.args.self.now c.args.at c.args.alike) (λ rules s. s)
     (λ rules s S n. ap (λ (b : Bool). after_guard S rules c.args.pool.now c.args.self.now c.args.at b n) c.if-not-alike.true) c.next_row.ensures.asks
 
-pub returns-in-Some-clause-asks : goal.returns-in-Some-clause-asks
-returns-in-Some-clause-asks c =
-    let e : c.args.at + 1 ≡ c.in-Some.next = omega (arith, c.in-Some.ensures.1) in
-    asks_on c.go_guarding.result c.go_guarding.new.pool c.go_guarding.new.self c.args.self.now c.args.self.now (λ rules S. guards_due S rules c.args.pool.now c.args.self.now c.in-Some.next)
+pub returns-clause-asks : goal.returns-clause-asks
+returns-clause-asks c =
+    asks_on c.go_guarding.result c.go_guarding.new.pool c.go_guarding.new.self c.args.self.now c.args.self.now (λ rules S. guards_due S rules c.args.pool.now c.args.self.now (c.args.at + 1))
     (λ rules S. after_guard S rules c.args.pool.now c.args.self.now c.args.at c.args.alike) (λ rules s. s)
-    (λ rules s S n. ap (λ (b : Bool). after_guard S rules c.args.pool.now c.args.self.now c.args.at b n) c.if-not-alike.false
-    ∙ ap (λ (k : ℕ). guards_due S rules c.args.pool.now c.args.self.now k n) e)
+    (λ rules s S n. ap (λ (b : Bool). after_guard S rules c.args.pool.now c.args.self.now c.args.at b n) c.if-not-alike.false)
     c.go_guarding.ensures.asks

@@ -10,13 +10,13 @@ use Rattle.rule_match.proofs.Matching.{asks_on}
 use Rattle.rule_match.proofs.Asking.{normal_within, still_fails, still_goes}
 use Rattle.rule_match.proofs.matcher.Matcher.put_normal.Goals as goal
 
-pub next_row-requires : goal.next_row-requires
-next_row-requires c =
+pub next_row-requires-clause-within : goal.next_row-requires-clause-within
+next_row-requires-clause-within c =
     normal_within c.args.pool.now c.mentions_still.new.pool c.mentions_still.ensures.keeps c.args.self.now c.requires.within c.args.at c.args.part c.requires.part c.column_of-depth.result
     (rw c.as_slice-2.ensures.value at c.column_of-depth.ensures) c.put_column.new.columns c.put_column.ensures
 
-pub go_through-requires : goal.go_through-requires
-go_through-requires c =
+pub go_through-requires-clause-within : goal.go_through-requires-clause-within
+go_through-requires-clause-within c =
     normal_within c.args.pool.now c.mentions_still.new.pool c.mentions_still.ensures.keeps c.args.self.now c.requires.within c.args.at c.args.part c.requires.part c.column_of-depth.result
     (rw c.as_slice-2.ensures.value at c.column_of-depth.ensures) c.put_column.new.columns c.put_column.ensures
 

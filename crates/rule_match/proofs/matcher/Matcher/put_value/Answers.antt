@@ -9,6 +9,7 @@ use Rattle.rule_match.specs.Columns.{value_put}
 use Rattle.rule_match.proofs.Following.{value_there, depth_got}
 use Rattle.rule_match.proofs.Matching.{asks_on}
 use Rattle.rule_match.proofs.Asking.{put_within}
+use Rattle.rule_match.proofs.Placing.{next_placed}
 use Rattle.rule_match.proofs.matcher.Matcher.put_value.Goals as goal
 
 pub try_row-requires : goal.try_row-requires
@@ -19,6 +20,8 @@ try_row-requires c =
           (put_within (length c.args.pool.now) c.args.at c.args.self.now.columns.items c.args.value c.in_ok-key.parts.items c.requires.within.columns c.requires.value c.in_ok-key.ensures.within);
       captures = c.requires.within.captures;
       stage = tt;
+      tried = tt;
+      placed = next_placed c.args.self.now.source c.args.self.now.left c.in_ok-self.field-0 c.args.self.now.tried c.in_ok-key.key c.args.at c.requires.within.placed c.in_ok-self.ensures;
     }
 
 pub returns-clause-asks : goal.returns-clause-asks
