@@ -8,7 +8,7 @@ ghost use Rattle.infer_check.specs.Given.{GivesFit, GivesType};
 
 use crate::kept::Kept;
 use dk_model::TypeFault;
-use infer_check::{Context, check, infer, not_kind, sort_of};
+use infer_check::{Walk, check, infer, not_kind, sort_of};
 use signature_log::{Reducer, Version};
 
 /// The type of a body without a declared type, which isn't `Kind`.
@@ -25,10 +25,11 @@ pub fn infer_body<R: Reducer, K: Kept>(
     ensures keeps { Keeps R.owns R.denotes r.old r.new }
     ensures serves { R.serves (entries_of v.now) r.new }
 {
-    let mut context = Context::new(r.alloc());
+    let mut walk = Walk::new(r.alloc(), *left);
     let body = K::bring(r, body)?;
-    let found = infer(r, v, &mut context, &body, left)?;
-    not_kind(r, found)
+    let found = infer(r, v, &mut walk, &body);
+    *left = walk.left;
+    not_kind(r, found?)
 }
 
 /// That a declared type has a sort, and a body fits it.
@@ -46,9 +47,11 @@ fn check_declared<R: Reducer, K: Kept>(
     ensures keeps { Keeps R.owns R.denotes r.old r.new }
     ensures serves { R.serves (entries_of v.now) r.new }
 {
-    let mut context = Context::new(r.alloc());
+    let mut walk = Walk::new(r.alloc(), *left);
     let typ = K::bring(r, typ)?;
-    let _sort = sort_of(r, v, &mut context, &typ, left)?;
+    let sort = sort_of(r, v, &mut walk, &typ);
+    *left = walk.left;
+    let _sort = sort?;
     match body {
         Some(body) => check_body::<R, K>(r, v, &typ, body, left),
         None => Ok(()),
@@ -71,10 +74,12 @@ fn check_body<R: Reducer, K: Kept>(
     ensures keeps { Keeps R.owns R.denotes r.old r.new }
     ensures serves { R.serves (entries_of v.now) r.new }
 {
-    let mut context = Context::new(r.alloc());
+    let mut walk = Walk::new(r.alloc(), *left);
     let body = K::bring(r, body)?;
     let expected = r.erase(typ)?;
-    check(r, v, &mut context, &body, &expected, left)
+    let fits = check(r, v, &mut walk, &body, &expected);
+    *left = walk.left;
+    fits
 }
 
 /// The same; without a declared type, that the body has a type.

@@ -1,31 +1,16 @@
 -- What inference and checking give, from what their parts gave.
-use Rattle.std.proofs.Common.{List, ◌∷◌, ◌≡◌, ℕ, Bool, true, false, Some, None, refl, ap, ◌∙◌, sym as flip}
+use Rattle.std.proofs.Common.{List, ◌∷◌, ◌≡◌, ℕ, false, refl, ap, ◌∙◌, sym as flip}
 use Rattle.dk_model.specs.Trees.{Tree, bare, annotated, product}
 use Rattle.dk_model.specs.Substitution.{substitute}
 use Rattle.dk_model.specs.Erasure.{erased}
 use Rattle.dk_model.specs.Signatures.{PlainSignature}
-use Rattle.dk_model.specs.Typing.{Judged, by_units, answer, refused, ended, after, next, agreed, not_kind, as_product, as_sort, as_star, as_same, inferred, checked, sort_of, is_abstraction}
-use Rattle.dk_model.specs.declared.code.Code.TheVariants.{E20, E21, E24}
-use Rattle.dk_model.specs.Units.{Units}
-use Rattle.dk_model.specs.Evaluation.{comparison_of}
+use Rattle.dk_model.specs.Typing.{Judged, by_units, answer, refused, ended, next, not_kind, as_product, as_sort, as_star, as_same, inferred, checked, sort_of, is_abstraction}
+use Rattle.dk_model.specs.declared.code.Code.TheVariants.{E20, E24}
 use Rattle.dk_model.proofs.Inference.{checked_by_inference}
 use Rattle.dk_model.specs.declared.stop.TypeFault.{TypeFault}
 use Rattle.dk_model.specs.declared.stop.TypeFault.TheVariants.{Refused, Ended, NoMemory}
-use Rattle.infer_check.specs.Given.{Fails, agreed_or, compared}
+use Rattle.infer_check.specs.Given.{Fails}
 use Rattle.infer_check.specs.Spine.{argument_type, domain_fits}
-
--- a comparison with its code
-
-agreed_is : (b : Bool) (n : ℕ) → agreed b n ≡ agreed_or E21 b n
-agreed_is true n = refl
-agreed_is false n = refl
-
-after_agreed : (x : Units Bool) → after x agreed ≡ after x (agreed_or E21)
-after_agreed None = refl
-after_agreed (Some p) = agreed_is p.0 p.1
-
-pub same_is : (S : PlainSignature) (T U : Tree) (n : ℕ) → as_same S T U n ≡ compared S E21 T U n
-same_is S T U n = after_agreed (comparison_of S n T U)
 
 -- stages
 

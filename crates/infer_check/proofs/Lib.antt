@@ -5,3 +5,4 @@ pub mod Judging
 pub mod Moving
 pub mod Spines
 pub mod Unwinding
+pub mod Walks

@@ -1,10 +1,7 @@
 -- What a step of typing answers, beside what is due.
-use Rattle.std.specs.Prelude.{ℕ, ◌≡◌, Bool, true, false, Result, Ok, Err}
+use Rattle.std.specs.Prelude.{ℕ, ◌≡◌, Result, Ok, Err}
 use Rattle.dk_model.specs.Trees.{Tree}
-use Rattle.dk_model.specs.Signatures.{PlainSignature}
-use Rattle.dk_model.specs.Evaluation.{comparison_of}
-use Rattle.dk_model.specs.Typing.{Judged, answer, refused, ended, after}
-use Rattle.dk_model.specs.declared.code.Code.{Code}
+use Rattle.dk_model.specs.Typing.{Judged, answer, refused, ended}
 use Rattle.dk_model.specs.declared.stop.TypeFault.{TypeFault}
 use Rattle.dk_model.specs.declared.stop.TypeFault.TheVariants.{Refused, Ended, NoMemory}
 use Rattle.infer_check.specs.declared.product.Product.{Product}
@@ -29,12 +26,3 @@ GivesProduct owns denotes due r (Err fault) left = Fails fault left due
 abbrev pub GivesFit : Judged (Unit {0}) → Result Unit TypeFault → ℕ → Type 0
 GivesFit due (Ok u) left = due ≡ answer tt left
 GivesFit due (Err fault) left = Fails fault left due
-
--- yes, else this code
-abbrev pub agreed_or : Code → Bool → ℕ → Judged (Unit {0})
-agreed_or c true n = answer tt n
-agreed_or c false n = refused c n
-
--- the comparison of two types; where they aren't convertible, this code
-abbrev pub compared : PlainSignature → Code → Tree → Tree → ℕ → Judged (Unit {0})
-compared S c T U n = after (comparison_of S n T U) (agreed_or c)

@@ -4,3 +4,4 @@ pub mod Formed
 pub mod Applied
 pub mod Spine
 pub mod Clauses
+pub mod Walks

@@ -1,6 +1,6 @@
 //! The type of an application while it is walked. An argument isn't put into the codomain of its function at once, but into
 //! each domain as it is asked for and into the type of the whole: a type of many arguments is gone through once.
-ghost use Rattle.std.specs.Prelude.{◌≡◌, map, IfOk};
+ghost use Rattle.std.specs.Prelude.{◌≡◌, ◌≤◌, map, IfOk};
 ghost use Rattle.dk_model.specs.Signatures.{PlainSignature};
 ghost use Rattle.dk_model.specs.Substitution.{substitute};
 ghost use Rattle.dk_model.specs.Erasure.{erased};
@@ -10,6 +10,7 @@ ghost use Rattle.signature_log.specs.Versions.{entries_of};
 ghost use Rattle.shared_term.specs.Changes.{substitute_all};
 ghost use Rattle.signature_log.specs.Reducers.{Keeps, Makes, AreOwned};
 ghost use Rattle.infer_check.specs.Applied.{put_together, OwnsApplied, GivesFunction};
+ghost use Rattle.infer_check.specs.Walks.{Follows};
 
 use crate::expect::into_product;
 use dk_model::{Code, NoMemory, NodeOf, TypeFault};
@@ -55,19 +56,20 @@ pub(crate) fn put_together<R: Reducer>(r: &mut R, applied: Applied<R::T>) -> Res
 }
 
 /// The parts of the type of a function, which must have a product as its weak head form (E20). Only the domain is made.
+#[tactic(auto, using(signature_log::proofs::Keeping::keeps_further, crate::proofs::Walks::follows))]
 pub(crate) fn function_of<R: Reducer>(
     r: &mut R,
-    v: &Version,
+    version: &Version,
     applied: Applied<R::T>,
     left: &mut u64,
 ) -> Result<Function<R::T>, TypeFault>
     requires own { OwnsApplied R.owns R.denotes r.old applied }
-    requires serves { R.serves (entries_of v.now) r.old }
+    requires serves { R.serves (entries_of version.now) r.old }
     ensures gives { GivesFunction R.owns R.denotes
-        (as_product (entries_of v.now) E20 (put_together R.owns R.denotes r.old 0 applied) left.old)
-        r.new result left.new }
-    ensures keeps { Keeps R.owns R.denotes r.old r.new }
-    ensures serves { R.serves (entries_of v.now) r.new }
+        (as_product (entries_of version.now) E20
+        (put_together R.owns R.denotes r.old 0 applied) left.old) r.new result left.new }
+    ensures follows { Follows R.owns R.denotes R.serves (entries_of version.now) r.old r.new }
+    ensures spent { left.new ≤ left.old }
 {
     match r.open(applied.typ)? {
         NodeOf::Prod(domain, codomain) => {
@@ -87,7 +89,7 @@ pub(crate) fn function_of<R: Reducer>(
         other => {
             let typ = r.build(other)?;
             let whole = put_into(r, typ, applied.arguments.as_slice())?;
-            let product = into_product(r, v, Code::E20, whole, left)?;
+            let product = into_product(r, version, Code::E20, whole, left)?;
             Ok(Function {
                 domain: product.domain,
                 codomain: Applied {

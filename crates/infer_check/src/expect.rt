@@ -1,10 +1,11 @@
 //! What typing asks of a type: that its weak head form is a product or a sort, or that it is convertible with another.
-ghost use Rattle.std.specs.Prelude.{◌≡◌, ℕ};
+ghost use Rattle.std.specs.Prelude.{◌≤◌, ℕ};
 ghost use Rattle.dk_model.specs.Signatures.{PlainSignature};
 ghost use Rattle.dk_model.specs.Typing.{as_product, as_sort, as_star, as_same, not_kind};
 ghost use Rattle.signature_log.specs.Versions.{entries_of};
 ghost use Rattle.signature_log.specs.Reducers.{Keeps};
-ghost use Rattle.infer_check.specs.Given.{GivesProduct, GivesType, GivesFit, compared};
+ghost use Rattle.infer_check.specs.Given.{GivesProduct, GivesType, GivesFit};
+ghost use Rattle.infer_check.specs.Walks.{Follows};
 
 use crate::head::head_form;
 use crate::product::Product;
@@ -12,41 +13,41 @@ use dk_model::{Code, NodeOf, TypeFault};
 use signature_log::{Reducer, Version};
 
 /// The parts of a type that must be a product; else this code.
-#[tactic(auto, using(signature_log::proofs::Keeping::keeps_further))]
+#[tactic(auto, using(signature_log::proofs::Keeping::keeps_further, crate::proofs::Walks::follows))]
 pub fn as_product<R: Reducer>(
     r: &mut R,
-    v: &Version,
+    version: &Version,
     code: Code,
     typ: &R::T,
     left: &mut u64,
 ) -> Result<Product<R::T>, TypeFault>
     requires own { R.owns r.old typ.now }
-    requires serves { R.serves (entries_of v.now) r.old }
+    requires serves { R.serves (entries_of version.now) r.old }
     ensures gives { GivesProduct R.owns R.denotes
-        (as_product (entries_of v.now) code (R.denotes r.old typ.now) left.old) r.new result left.new }
-    ensures keeps { Keeps R.owns R.denotes r.old r.new }
-    ensures serves { R.serves (entries_of v.now) r.new }
+        (as_product (entries_of version.now) code (R.denotes r.old typ.now) left.old) r.new result left.new }
+    ensures follows { Follows R.owns R.denotes R.serves (entries_of version.now) r.old r.new }
+    ensures spent { left.new ≤ left.old }
 {
     let typ = r.copy(typ)?;
-    into_product(r, v, code, typ, left)
+    into_product(r, version, code, typ, left)
 }
 
 /// The same of a type that isn't needed any more.
 pub fn into_product<R: Reducer>(
     r: &mut R,
-    v: &Version,
+    version: &Version,
     code: Code,
     typ: R::T,
     left: &mut u64,
 ) -> Result<Product<R::T>, TypeFault>
     requires own { R.owns r.old typ }
-    requires serves { R.serves (entries_of v.now) r.old }
+    requires serves { R.serves (entries_of version.now) r.old }
     ensures gives { GivesProduct R.owns R.denotes
-        (as_product (entries_of v.now) code (R.denotes r.old typ) left.old) r.new result left.new }
-    ensures keeps { Keeps R.owns R.denotes r.old r.new }
-    ensures serves { R.serves (entries_of v.now) r.new }
+        (as_product (entries_of version.now) code (R.denotes r.old typ) left.old) r.new result left.new }
+    ensures follows { Follows R.owns R.denotes R.serves (entries_of version.now) r.old r.new }
+    ensures spent { left.new ≤ left.old }
 {
-    match head_form(r, v, typ, left)? {
+    match head_form(r, version, typ, left)? {
         NodeOf::Prod(domain, codomain) => Ok(Product { domain, codomain }),
         _ => Err(TypeFault::Refused(code)),
     }
@@ -55,18 +56,18 @@ pub fn into_product<R: Reducer>(
 /// The type of a type, which must be a sort.
 pub fn as_sort<R: Reducer>(
     r: &mut R,
-    v: &Version,
+    version: &Version,
     typ: R::T,
     left: &mut u64,
 ) -> Result<R::T, TypeFault>
     requires own { R.owns r.old typ }
-    requires serves { R.serves (entries_of v.now) r.old }
+    requires serves { R.serves (entries_of version.now) r.old }
     ensures gives { GivesType R.owns R.denotes
-        (as_sort (entries_of v.now) (R.denotes r.old typ) left.old) r.new result left.new }
-    ensures keeps { Keeps R.owns R.denotes r.old r.new }
-    ensures serves { R.serves (entries_of v.now) r.new }
+        (as_sort (entries_of version.now) (R.denotes r.old typ) left.old) r.new result left.new }
+    ensures follows { Follows R.owns R.denotes R.serves (entries_of version.now) r.old r.new }
+    ensures spent { left.new ≤ left.old }
 {
-    match head_form(r, v, typ, left)? {
+    match head_form(r, version, typ, left)? {
         NodeOf::Star => Ok(r.build(NodeOf::Star)?),
         NodeOf::Kind => Ok(r.build(NodeOf::Kind)?),
         _ => Err(TypeFault::Refused(Code::E22)),
@@ -76,65 +77,45 @@ pub fn as_sort<R: Reducer>(
 /// The type of a domain, which must be `Type`.
 pub fn as_star<R: Reducer>(
     r: &mut R,
-    v: &Version,
+    version: &Version,
     typ: R::T,
     left: &mut u64,
 ) -> Result<(), TypeFault>
     requires own { R.owns r.old typ }
-    requires serves { R.serves (entries_of v.now) r.old }
+    requires serves { R.serves (entries_of version.now) r.old }
     ensures gives { GivesFit
-        (as_star (entries_of v.now) (R.denotes r.old typ) left.old) result left.new }
-    ensures keeps { Keeps R.owns R.denotes r.old r.new }
-    ensures serves { R.serves (entries_of v.now) r.new }
+        (as_star (entries_of version.now) (R.denotes r.old typ) left.old) result left.new }
+    ensures follows { Follows R.owns R.denotes R.serves (entries_of version.now) r.old r.new }
+    ensures spent { left.new ≤ left.old }
 {
-    match head_form(r, v, typ, left)? {
+    match head_form(r, version, typ, left)? {
         NodeOf::Star => Ok(()),
         _ => Err(TypeFault::Refused(Code::E22)),
     }
 }
 
-/// A type that must be convertible with another; else this code.
-pub fn expect_same<R: Reducer>(
-    r: &mut R,
-    v: &Version,
-    code: Code,
-    found: &R::T,
-    expected: &R::T,
-    left: &mut u64,
-) -> Result<(), TypeFault>
-    requires own { R.owns r.old found.now }
-    requires other { R.owns r.old expected.now }
-    requires serves { R.serves (entries_of v.now) r.old }
-    ensures gives { GivesFit (compared (entries_of v.now) code
-        (R.denotes r.old found.now) (R.denotes r.old expected.now) left.old) result left.new }
-    ensures keeps { Keeps R.owns R.denotes r.old r.new }
-    ensures serves { R.serves (entries_of v.now) r.new }
-{
-    if r.same(v, found, expected, left)? {
-        Ok(())
-    } else {
-        Err(TypeFault::Refused(code))
-    }
-}
-
 /// The type of a term, which must be convertible with the one that is expected (E21).
-#[tactic(auto, using(crate::proofs::Judging::same_is, crate::proofs::Moving::fit_is))]
+#[tactic(auto, using(crate::proofs::Walks::follows))]
 pub fn as_same<R: Reducer>(
     r: &mut R,
-    v: &Version,
+    version: &Version,
     found: &R::T,
     expected: &R::T,
     left: &mut u64,
 ) -> Result<(), TypeFault>
     requires own { R.owns r.old found.now }
     requires other { R.owns r.old expected.now }
-    requires serves { R.serves (entries_of v.now) r.old }
-    ensures gives { GivesFit (as_same (entries_of v.now)
+    requires serves { R.serves (entries_of version.now) r.old }
+    ensures gives { GivesFit (as_same (entries_of version.now)
         (R.denotes r.old found.now) (R.denotes r.old expected.now) left.old) result left.new }
-    ensures keeps { Keeps R.owns R.denotes r.old r.new }
-    ensures serves { R.serves (entries_of v.now) r.new }
+    ensures follows { Follows R.owns R.denotes R.serves (entries_of version.now) r.old r.new }
+    ensures spent { left.new ≤ left.old }
 {
-    expect_same(r, v, Code::E21, found, expected, left)
+    if r.same(version, found, expected, left)? {
+        Ok(())
+    } else {
+        Err(TypeFault::Refused(Code::E21))
+    }
 }
 
 /// The type of a body, which must not be `Kind`. Takes no unit.

@@ -5,13 +5,13 @@
 ghost use Rattle.std.specs.Prelude.{◌≡◌, false};
 ghost use Rattle.dk_model.specs.Trees.{annotated, product};
 ghost use Rattle.signature_log.specs.Versions.{entries_of};
-ghost use Rattle.signature_log.specs.Reducers.{Keeps, OwnsParts, built};
-ghost use Rattle.infer_check.specs.Contexts.{OwnsContext};
+ghost use Rattle.signature_log.specs.Reducers.{OwnsParts, built};
 ghost use Rattle.infer_check.specs.Spine.{is_application};
 ghost use Rattle.infer_check.specs.Applied.{put_together, OwnsApplied};
 ghost use Rattle.infer_check.specs.Clauses.{Infers, GivesSort, FitsDomain, Applies};
+ghost use Rattle.infer_check.specs.Walks.{IsReady, Continues};
 
-use crate::Context;
+use crate::Walk;
 use crate::applied::{Applied, applied_to, function_of, put_together, unapplied};
 use crate::checking::check_taken;
 use crate::expect::{as_sort, as_star, not_kind};
@@ -22,133 +22,118 @@ use signature_log::{Reducer, Version};
 
 /// The type of a term.
 ///
-/// `left` has the units that may be spent, and then those that are left. The context is at exit as at entry.
-#[tactic(auto, using(crate::proofs::Contexts::context_kept, crate::proofs::Contexts::rule_types_kept, crate::proofs::Contexts::bound_types_kept, signature_log::proofs::Keeping::keeps_further))]
+/// The walk has the units that may be spent, and then those that are left. Its context is at exit as at entry.
+#[tactic(auto, using(crate::proofs::Contexts::context_kept, crate::proofs::Contexts::rule_types_kept, crate::proofs::Contexts::bound_types_kept, signature_log::proofs::Keeping::keeps_further, crate::proofs::Walks::continues, crate::proofs::Walks::ready))]
 pub fn infer<R: Reducer>(
     r: &mut R,
-    v: &Version,
-    context: &mut Context<R::T>,
+    version: &Version,
+    walk: &mut Walk<R::T>,
     t: &R::T,
-    left: &mut u64,
 ) -> Result<R::T, TypeFault>
     requires term { R.owns r.old t.now }
-    requires context { OwnsContext R.owns r.old context.old }
-    requires serves { R.serves (entries_of v.now) r.old }
-    ensures gives { Infers R.owns R.denotes (entries_of v.now) r.old context.old
-        (R.denotes r.old t.now) left.old r.new result left.new }
-    ensures keeps { Keeps R.owns R.denotes r.old r.new }
-    ensures serves { R.serves (entries_of v.now) r.new }
-    ensures kept { context.new ≡ context.old }
+    requires ready { IsReady R.owns R.serves (entries_of version.now) r.old walk.old }
+    ensures gives { Infers R.owns R.denotes (entries_of version.now) r.old walk.old
+        (R.denotes r.old t.now) r.new result walk.new.left }
+    ensures continues { Continues R.owns R.denotes R.serves (entries_of version.now)
+        r.old walk.old r.new walk.new }
 {
     let term = r.copy(t)?;
-    infer_taken(r, v, context, term, left)
+    infer_taken(r, version, walk, term)
 }
 
 /// The sort of a type: the weak head form of its type, which must be `Type` or `Kind` (E22).
-#[tactic(auto, using(crate::proofs::Judging::sort_fails, crate::proofs::Judging::sort_given, signature_log::proofs::Keeping::keeps_further))]
+#[tactic(auto, using(crate::proofs::Judging::sort_fails, crate::proofs::Judging::sort_given, signature_log::proofs::Keeping::keeps_further, crate::proofs::Walks::continues, crate::proofs::Walks::ready))]
 pub fn sort_of<R: Reducer>(
     r: &mut R,
-    v: &Version,
-    context: &mut Context<R::T>,
+    version: &Version,
+    walk: &mut Walk<R::T>,
     t: &R::T,
-    left: &mut u64,
 ) -> Result<R::T, TypeFault>
     requires term { R.owns r.old t.now }
-    requires context { OwnsContext R.owns r.old context.old }
-    requires serves { R.serves (entries_of v.now) r.old }
-    ensures gives { GivesSort R.owns R.denotes (entries_of v.now) r.old context.old
-        (R.denotes r.old t.now) left.old r.new result left.new }
-    ensures keeps { Keeps R.owns R.denotes r.old r.new }
-    ensures serves { R.serves (entries_of v.now) r.new }
-    ensures kept { context.new ≡ context.old }
+    requires ready { IsReady R.owns R.serves (entries_of version.now) r.old walk.old }
+    ensures gives { GivesSort R.owns R.denotes (entries_of version.now) r.old walk.old
+        (R.denotes r.old t.now) r.new result walk.new.left }
+    ensures continues { Continues R.owns R.denotes R.serves (entries_of version.now)
+        r.old walk.old r.new walk.new }
 {
-    let found = infer(r, v, context, t, left)?;
-    as_sort(r, v, found, left)
+    let found = infer(r, version, walk, t)?;
+    as_sort(r, version, found, &mut walk.left)
 }
 
 /// The type of a term.
 #[cycle(typing)]
-#[tactic(auto, using(crate::proofs::Contexts::context_kept, crate::proofs::Contexts::rule_types_kept, crate::proofs::Contexts::bound_types_kept, signature_log::proofs::Keeping::keeps_further))]
+#[tactic(auto, using(crate::proofs::Contexts::context_kept, crate::proofs::Contexts::rule_types_kept, crate::proofs::Contexts::bound_types_kept, signature_log::proofs::Keeping::keeps_further, crate::proofs::Walks::continues, crate::proofs::Walks::ready))]
 pub(crate) fn infer_taken<R: Reducer>(
     r: &mut R,
-    v: &Version,
-    context: &mut Context<R::T>,
+    version: &Version,
+    walk: &mut Walk<R::T>,
     term: R::T,
-    left: &mut u64,
 ) -> Result<R::T, TypeFault>
     requires term { R.owns r.old term }
-    requires context { OwnsContext R.owns r.old context.old }
-    requires serves { R.serves (entries_of v.now) r.old }
-    ensures gives { Infers R.owns R.denotes (entries_of v.now) r.old context.old
-        (R.denotes r.old term) left.old r.new result left.new }
-    ensures keeps { Keeps R.owns R.denotes r.old r.new }
-    ensures serves { R.serves (entries_of v.now) r.new }
-    ensures kept { context.new ≡ context.old }
+    requires ready { IsReady R.owns R.serves (entries_of version.now) r.old walk.old }
+    ensures gives { Infers R.owns R.denotes (entries_of version.now) r.old walk.old
+        (R.denotes r.old term) r.new result walk.new.left }
+    ensures continues { Continues R.owns R.denotes R.serves (entries_of version.now)
+        r.old walk.old r.new walk.new }
 {
     let node = r.open(term)?;
-    infer_node(r, v, context, node, left)
+    infer_node(r, version, walk, node)
 }
 
 /// The type of a term by its outermost node: that of its head, then by each argument.
 #[cycle(typing)]
-#[tactic(auto, using(crate::proofs::Spines::head_fails, crate::proofs::Spines::head_given, crate::proofs::Spines::argument_fails, crate::proofs::Spines::argument_given, crate::proofs::Spines::total_pushed, crate::proofs::Spines::map_pushed, crate::proofs::Contexts::owned_front, crate::proofs::Contexts::owned_last, crate::proofs::Contexts::owned_kept, crate::proofs::Contexts::types_kept, crate::proofs::Contexts::context_kept, crate::proofs::Contexts::rule_types_kept, crate::proofs::Contexts::bound_types_kept, signature_log::proofs::Keeping::keeps_further))]
+#[tactic(auto, using(crate::proofs::Spines::head_fails, crate::proofs::Spines::head_given, crate::proofs::Spines::argument_fails, crate::proofs::Spines::argument_given, crate::proofs::Spines::total_pushed, crate::proofs::Spines::map_pushed, crate::proofs::Contexts::owned_front, crate::proofs::Contexts::owned_last, crate::proofs::Contexts::owned_kept, crate::proofs::Contexts::types_kept, crate::proofs::Contexts::context_kept, crate::proofs::Contexts::rule_types_kept, crate::proofs::Contexts::bound_types_kept, signature_log::proofs::Keeping::keeps_further, crate::proofs::Walks::continues, crate::proofs::Walks::ready))]
 pub(crate) fn infer_node<R: Reducer>(
     r: &mut R,
-    v: &Version,
-    context: &mut Context<R::T>,
+    version: &Version,
+    walk: &mut Walk<R::T>,
     node: NodeOf<R::T>,
-    left: &mut u64,
 ) -> Result<R::T, TypeFault>
     requires node { OwnsParts R.owns r.old node }
-    requires context { OwnsContext R.owns r.old context.old }
-    requires serves { R.serves (entries_of v.now) r.old }
-    ensures gives { Infers R.owns R.denotes (entries_of v.now) r.old context.old
-        (built R.denotes r.old node) left.old r.new result left.new }
-    ensures keeps { Keeps R.owns R.denotes r.old r.new }
-    ensures serves { R.serves (entries_of v.now) r.new }
-    ensures kept { context.new ≡ context.old }
+    requires ready { IsReady R.owns R.serves (entries_of version.now) r.old walk.old }
+    ensures gives { Infers R.owns R.denotes (entries_of version.now) r.old walk.old
+        (built R.denotes r.old node) r.new result walk.new.left }
+    ensures continues { Continues R.owns R.denotes R.serves (entries_of version.now)
+        r.old walk.old r.new walk.new }
 {
     let spine = unwind(r, node)?;
     let mut arguments = spine.arguments;
-    let head = infer_head(r, v, context, spine.head, left)?;
+    let head = infer_head(r, version, walk, spine.head)?;
     let mut typ = unapplied(r, head);
     while let Some(argument) = arguments.pop() {
-        typ = apply(r, v, context, typ, argument, left)?;
+        typ = apply(r, version, walk, typ, argument)?;
     }
     Ok(put_together(r, typ)?)
 }
 
 /// The type of a term that is no application.
 #[cycle(typing)]
-#[tactic(auto, using(crate::proofs::Contexts::length_bound_types))]
+#[tactic(auto, using(crate::proofs::Contexts::length_bound_types, signature_log::proofs::Keeping::keeps_none, signature_log::proofs::Keeping::keeps_further, crate::proofs::Walks::continues, crate::proofs::Walks::ready))]
 fn infer_head<R: Reducer>(
     r: &mut R,
-    v: &Version,
-    context: &mut Context<R::T>,
+    version: &Version,
+    walk: &mut Walk<R::T>,
     head: NodeOf<R::T>,
-    left: &mut u64,
 ) -> Result<R::T, TypeFault>
     requires head { is_application (built R.denotes r.old head) ≡ false }
     requires parts { OwnsParts R.owns r.old head }
-    requires context { OwnsContext R.owns r.old context.old }
-    requires serves { R.serves (entries_of v.now) r.old }
-    ensures gives { Infers R.owns R.denotes (entries_of v.now) r.old context.old
-        (built R.denotes r.old head) left.old r.new result left.new }
-    ensures keeps { Keeps R.owns R.denotes r.old r.new }
-    ensures serves { R.serves (entries_of v.now) r.new }
-    ensures kept { context.new ≡ context.old }
+    requires ready { IsReady R.owns R.serves (entries_of version.now) r.old walk.old }
+    ensures gives { Infers R.owns R.denotes (entries_of version.now) r.old walk.old
+        (built R.denotes r.old head) r.new result walk.new.left }
+    ensures continues { Continues R.owns R.denotes R.serves (entries_of version.now)
+        r.old walk.old r.new walk.new }
 {
     match head {
         NodeOf::Star => Ok(r.build(NodeOf::Kind)?),
         NodeOf::Kind => Err(TypeFault::Refused(Code::E22)),
-        NodeOf::Sym(k) => Ok(symbol_type(r, v, k)?),
-        NodeOf::Var(k) => Ok(variable_type(r, context, k)?),
-        NodeOf::Rvar(k) => Ok(rule_variable_type(r, context, k)?),
+        NodeOf::Sym(k) => Ok(symbol_type(r, version, k)?),
+        NodeOf::Var(k) => Ok(variable_type(r, &walk.context, k)?),
+        NodeOf::Rvar(k) => Ok(rule_variable_type(r, &walk.context, k)?),
         NodeOf::Abs(annotation, b) => match annotation {
             None => Err(TypeFault::Refused(Code::E23)),
-            Some(d) => infer_abstraction(r, v, context, d, b, left),
+            Some(d) => infer_abstraction(r, version, walk, d, b),
         },
-        NodeOf::Prod(d, b) => infer_product(r, v, context, d, b, left),
+        NodeOf::Prod(d, b) => infer_product(r, version, walk, d, b),
         NodeOf::App(..) => unreachable!(),
     }
 }
@@ -161,30 +146,27 @@ fn infer_head<R: Reducer>(
 /// G |- (x : d => b) : x : |d| -> B
 /// ```
 #[cycle(typing)]
-#[tactic(auto, using(crate::proofs::Judging::abstraction_domain_fails, crate::proofs::Judging::abstraction_body_fails, crate::proofs::Judging::abstraction_kind_fails, crate::proofs::Judging::abstraction_given, crate::proofs::Contexts::context_kept, crate::proofs::Contexts::context_bound, crate::proofs::Contexts::rule_types_kept, crate::proofs::Contexts::bound_types_kept, crate::proofs::Contexts::bound_types_pushed, signature_log::proofs::Keeping::keeps_further))]
+#[tactic(auto, using(crate::proofs::Judging::abstraction_domain_fails, crate::proofs::Judging::abstraction_body_fails, crate::proofs::Judging::abstraction_kind_fails, crate::proofs::Judging::abstraction_given, crate::proofs::Contexts::context_kept, crate::proofs::Contexts::context_bound, crate::proofs::Contexts::rule_types_kept, crate::proofs::Contexts::bound_types_kept, crate::proofs::Contexts::bound_types_pushed, signature_log::proofs::Keeping::keeps_further, crate::proofs::Walks::continues, crate::proofs::Walks::ready))]
 fn infer_abstraction<R: Reducer>(
     r: &mut R,
-    v: &Version,
-    context: &mut Context<R::T>,
+    version: &Version,
+    walk: &mut Walk<R::T>,
     domain: R::T,
     body: R::T,
-    left: &mut u64,
 ) -> Result<R::T, TypeFault>
     requires domain { R.owns r.old domain }
     requires body { R.owns r.old body }
-    requires context { OwnsContext R.owns r.old context.old }
-    requires serves { R.serves (entries_of v.now) r.old }
-    ensures gives { Infers R.owns R.denotes (entries_of v.now) r.old context.old
-        (annotated (R.denotes r.old domain) (R.denotes r.old body)) left.old r.new result left.new }
-    ensures keeps { Keeps R.owns R.denotes r.old r.new }
-    ensures serves { R.serves (entries_of v.now) r.new }
-    ensures kept { context.new ≡ context.old }
+    requires ready { IsReady R.owns R.serves (entries_of version.now) r.old walk.old }
+    ensures gives { Infers R.owns R.denotes (entries_of version.now) r.old walk.old
+        (annotated (R.denotes r.old domain) (R.denotes r.old body)) r.new result walk.new.left }
+    ensures continues { Continues R.owns R.denotes R.serves (entries_of version.now)
+        r.old walk.old r.new walk.new }
 {
     let erased = r.erase(&domain)?;
-    infer_domain(r, v, context, domain, left)?;
-    context.bind(erased)?;
-    let found = infer_taken(r, v, context, body, left);
-    let domain = context.leave();
+    infer_domain(r, version, walk, domain)?;
+    walk.context.bind(erased)?;
+    let found = infer_taken(r, version, walk, body);
+    let domain = walk.context.leave();
     let codomain = not_kind(r, found?)?;
     Ok(r.build(NodeOf::Prod(domain, codomain))?)
 }
@@ -197,31 +179,28 @@ fn infer_abstraction<R: Reducer>(
 /// G |- (x : d -> b) : s
 /// ```
 #[cycle(typing)]
-#[tactic(auto, using(crate::proofs::Judging::product_domain_fails, crate::proofs::Judging::product_codomain_fails, crate::proofs::Judging::product_sort, crate::proofs::Contexts::context_kept, crate::proofs::Contexts::context_bound, crate::proofs::Contexts::rule_types_kept, crate::proofs::Contexts::bound_types_kept, crate::proofs::Contexts::bound_types_pushed, signature_log::proofs::Keeping::keeps_further))]
+#[tactic(auto, using(crate::proofs::Judging::product_domain_fails, crate::proofs::Judging::product_codomain_fails, crate::proofs::Judging::product_sort, crate::proofs::Contexts::context_kept, crate::proofs::Contexts::context_bound, crate::proofs::Contexts::rule_types_kept, crate::proofs::Contexts::bound_types_kept, crate::proofs::Contexts::bound_types_pushed, signature_log::proofs::Keeping::keeps_further, crate::proofs::Walks::continues, crate::proofs::Walks::ready))]
 fn infer_product<R: Reducer>(
     r: &mut R,
-    v: &Version,
-    context: &mut Context<R::T>,
+    version: &Version,
+    walk: &mut Walk<R::T>,
     domain: R::T,
     codomain: R::T,
-    left: &mut u64,
 ) -> Result<R::T, TypeFault>
     requires domain { R.owns r.old domain }
     requires codomain { R.owns r.old codomain }
-    requires context { OwnsContext R.owns r.old context.old }
-    requires serves { R.serves (entries_of v.now) r.old }
-    ensures gives { Infers R.owns R.denotes (entries_of v.now) r.old context.old
-        (product (R.denotes r.old domain) (R.denotes r.old codomain)) left.old r.new result left.new }
-    ensures keeps { Keeps R.owns R.denotes r.old r.new }
-    ensures serves { R.serves (entries_of v.now) r.new }
-    ensures kept { context.new ≡ context.old }
+    requires ready { IsReady R.owns R.serves (entries_of version.now) r.old walk.old }
+    ensures gives { Infers R.owns R.denotes (entries_of version.now) r.old walk.old
+        (product (R.denotes r.old domain) (R.denotes r.old codomain)) r.new result walk.new.left }
+    ensures continues { Continues R.owns R.denotes R.serves (entries_of version.now)
+        r.old walk.old r.new walk.new }
 {
     let erased = r.erase(&domain)?;
-    infer_domain(r, v, context, domain, left)?;
-    context.bind(erased)?;
-    let found = infer_taken(r, v, context, codomain, left);
-    let _domain = context.leave();
-    as_sort(r, v, found?, left)
+    infer_domain(r, version, walk, domain)?;
+    walk.context.bind(erased)?;
+    let found = infer_taken(r, version, walk, codomain);
+    let _domain = walk.context.leave();
+    as_sort(r, version, found?, &mut walk.left)
 }
 
 /// That a domain has the type `Type`.
@@ -232,25 +211,22 @@ fn infer_product<R: Reducer>(
 /// G |- d is a domain
 /// ```
 #[cycle(typing)]
-#[tactic(auto, using(crate::proofs::Judging::domain_infer_fails, crate::proofs::Judging::domain_star, signature_log::proofs::Keeping::keeps_further))]
+#[tactic(auto, using(crate::proofs::Judging::domain_infer_fails, crate::proofs::Judging::domain_star, signature_log::proofs::Keeping::keeps_further, crate::proofs::Walks::continues, crate::proofs::Walks::ready))]
 pub(crate) fn infer_domain<R: Reducer>(
     r: &mut R,
-    v: &Version,
-    context: &mut Context<R::T>,
+    version: &Version,
+    walk: &mut Walk<R::T>,
     domain: R::T,
-    left: &mut u64,
 ) -> Result<(), TypeFault>
     requires domain { R.owns r.old domain }
-    requires context { OwnsContext R.owns r.old context.old }
-    requires serves { R.serves (entries_of v.now) r.old }
-    ensures gives { FitsDomain R.owns R.denotes (entries_of v.now) r.old context.old
-        (R.denotes r.old domain) left.old result left.new }
-    ensures keeps { Keeps R.owns R.denotes r.old r.new }
-    ensures serves { R.serves (entries_of v.now) r.new }
-    ensures kept { context.new ≡ context.old }
+    requires ready { IsReady R.owns R.serves (entries_of version.now) r.old walk.old }
+    ensures gives { FitsDomain R.owns R.denotes (entries_of version.now) r.old walk.old
+        (R.denotes r.old domain) result walk.new.left }
+    ensures continues { Continues R.owns R.denotes R.serves (entries_of version.now)
+        r.old walk.old r.new walk.new }
 {
-    let found = infer_taken(r, v, context, domain, left)?;
-    as_star(r, v, found, left)
+    let found = infer_taken(r, version, walk, domain)?;
+    as_star(r, version, found, &mut walk.left)
 }
 
 /// The type of a function's application.
@@ -261,27 +237,24 @@ pub(crate) fn infer_domain<R: Reducer>(
 /// G |- f a : B with |a| in the place of x, where f : F
 /// ```
 #[cycle(typing)]
-#[tactic(auto, using(crate::proofs::Judging::argument_product_fails, crate::proofs::Judging::argument_check_fails, crate::proofs::Judging::argument_given_type, crate::proofs::Contexts::context_kept, crate::proofs::Contexts::rule_types_kept, crate::proofs::Contexts::bound_types_kept, signature_log::proofs::Keeping::keeps_further))]
+#[tactic(auto, using(crate::proofs::Judging::argument_product_fails, crate::proofs::Judging::argument_check_fails, crate::proofs::Judging::argument_given_type, crate::proofs::Contexts::context_kept, crate::proofs::Contexts::rule_types_kept, crate::proofs::Contexts::bound_types_kept, signature_log::proofs::Keeping::keeps_further, crate::proofs::Walks::continues, crate::proofs::Walks::ready))]
 fn apply<R: Reducer>(
     r: &mut R,
-    v: &Version,
-    context: &mut Context<R::T>,
+    version: &Version,
+    walk: &mut Walk<R::T>,
     typ: Applied<R::T>,
     argument: R::T,
-    left: &mut u64,
 ) -> Result<Applied<R::T>, TypeFault>
     requires typ { OwnsApplied R.owns R.denotes r.old typ }
     requires argument { R.owns r.old argument }
-    requires context { OwnsContext R.owns r.old context.old }
-    requires serves { R.serves (entries_of v.now) r.old }
-    ensures gives { Applies R.owns R.denotes (entries_of v.now) r.old context.old
-        (R.denotes r.old argument) (put_together R.owns R.denotes r.old 0 typ) left.old r.new result left.new }
-    ensures keeps { Keeps R.owns R.denotes r.old r.new }
-    ensures serves { R.serves (entries_of v.now) r.new }
-    ensures kept { context.new ≡ context.old }
+    requires ready { IsReady R.owns R.serves (entries_of version.now) r.old walk.old }
+    ensures gives { Applies R.owns R.denotes (entries_of version.now) r.old walk.old
+        (R.denotes r.old argument) (put_together R.owns R.denotes r.old 0 typ) r.new result walk.new.left }
+    ensures continues { Continues R.owns R.denotes R.serves (entries_of version.now)
+        r.old walk.old r.new walk.new }
 {
-    let function = function_of(r, v, typ, left)?;
+    let function = function_of(r, version, typ, &mut walk.left)?;
     let found = applied_to(r, function.codomain, &argument)?;
-    check_taken(r, v, context, argument, function.domain, left)?;
+    check_taken(r, version, walk, argument, function.domain)?;
     Ok(found)
 }

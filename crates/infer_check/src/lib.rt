@@ -12,10 +12,12 @@ mod inference;
 mod product;
 mod spine;
 mod variables;
+mod walk;
 
 pub use checking::check;
 pub use context::Context;
-pub use expect::{as_product, expect_same, into_product, not_kind};
+pub use expect::{as_product, into_product, not_kind};
 pub use inference::{infer, sort_of};
 pub use product::Product;
 pub use variables::{symbol_type, variable_type};
+pub use walk::Walk;

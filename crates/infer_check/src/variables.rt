@@ -13,12 +13,12 @@ use dk_model::{Entry, NoMemory, NodeOf};
 use signature_log::{Reducer, Version};
 
 /// The type of a symbol; `Kind` for one that nothing declares.
-pub fn symbol_type<R: Reducer>(r: &mut R, v: &Version, symbol: u32) -> Result<R::T, NoMemory>
-    ensures makes { IfOk result (Makes R.owns R.denotes r.new (symbol_type (entries_of v.now) symbol)) }
+pub fn symbol_type<R: Reducer>(r: &mut R, version: &Version, symbol: u32) -> Result<R::T, NoMemory>
+    ensures makes { IfOk result (Makes R.owns R.denotes r.new (symbol_type (entries_of version.now) symbol)) }
     ensures keeps { Keeps R.owns R.denotes r.old r.new }
     ensures serves { (S : PlainSignature) → R.serves S r.old → R.serves S r.new }
 {
-    match v.get(symbol) {
+    match version.get(symbol) {
         Some(Entry::Symbol { typ, .. }) => r.bring(typ),
         _ => r.build(NodeOf::Kind),
     }

@@ -10,22 +10,11 @@ use Rattle.dk_model.specs.Typing.{Judged, answer, refused, ended, after, next, a
 use Rattle.dk_model.specs.RuleTyping.{Found, Walked, with_type, with_wildcard, occurrence, outermost_first, as_convertible, convertible, confined, bound_type, first_type, later_type, first_occurrence, later_occurrence, rule_variable_walked, wildcard_walked, walked, spine_walked, as_expected}
 use Rattle.dk_model.specs.declared.code.Code.TheVariants.{E34}
 use Rattle.dk_model.specs.declared.stop.TypeFault.{TypeFault}
-use Rattle.infer_check.specs.Given.{Fails, agreed_or, compared}
+use Rattle.infer_check.specs.Given.{Fails}
 use Rattle.infer_check.proofs.Judging.{fails_next, fails_is, next_next}
 use Rattle.rule_check.specs.Steps.{met_first, later_fits, met}
 
--- a comparison with its code
-
-convertible_or : (b : Bool) (n : ℕ) → convertible b n ≡ agreed_or E34 b n
-convertible_or true n = refl
-convertible_or false n = refl
-
-after_convertible : (x : Units Bool) → after x convertible ≡ after x (agreed_or E34)
-after_convertible None = refl
-after_convertible (Some p) = convertible_or p.0 p.1
-
-pub convertible_is : (S : PlainSignature) (T U : Tree) (n : ℕ) → as_convertible S T U n ≡ compared S E34 T U n
-convertible_is S T U n = after_convertible (comparison_of S n T U)
+-- stages
 
 goes : {A B : Type 0} (x : Judged A) (a : A) (n : ℕ) (g : A → ℕ → Judged B) → x ≡ answer a n → next x g ≡ g a n
 goes x a n g e = ap (λ y. next y g) e

@@ -8,11 +8,10 @@ ghost use Rattle.infer_check.specs.Given.{GivesType, GivesFit};
 ghost use Rattle.rule_check.specs.Clauses.{Binds};
 
 use dk_model::{Code, TypeFault};
-use infer_check::{Context, expect_same};
+use infer_check::Context;
 use signature_log::{Reducer, Version};
 
 /// A type that must be convertible with another (E34).
-#[tactic(auto, using(crate::proofs::Judging::convertible_is, infer_check::proofs::Moving::fit_is))]
 pub(crate) fn as_convertible<R: Reducer>(
     r: &mut R,
     v: &Version,
@@ -28,7 +27,11 @@ pub(crate) fn as_convertible<R: Reducer>(
     ensures keeps { Keeps R.owns R.denotes r.old r.new }
     ensures serves { R.serves (entries_of v.now) r.new }
 {
-    expect_same(r, v, Code::E34, found, expected, left)
+    if r.same(v, found, expected, left)? {
+        Ok(())
+    } else {
+        Err(TypeFault::Refused(Code::E34))
+    }
 }
 
 /// A type that may mention, of the `depth` variables of the pattern, only these: its normal form where it mentions

@@ -13,7 +13,7 @@ ghost use Rattle.rule_check.specs.Clauses.{guard_due, guards_due};
 
 use crate::found::Guard;
 use dk_model::{Listed, NoMemory, Term, TypeFault};
-use infer_check::{Context, check};
+use infer_check::{Context, Walk, check};
 use signature_log::{Reducer, Version};
 
 /// The term of a guard without annotations, below this many bound variables.
@@ -83,12 +83,18 @@ fn check_guard<R: Reducer>(
     ensures serves { R.serves (entries_of v.now) r.new }
 {
     let bound = copies(r, guard.bound.as_slice())?;
-    let mut context = Context {
+    let context = Context {
         rule_vars: types,
         bound,
     };
-    check(r, v, &mut context, &guard.term, &guard.typ, left)?;
-    Ok(context.rule_vars)
+    let mut walk = Walk {
+        context,
+        left: *left,
+    };
+    let fits = check(r, v, &mut walk, &guard.term, &guard.typ);
+    *left = walk.left;
+    fits?;
+    Ok(walk.context.rule_vars)
 }
 
 /// The same for each guard, from left to right.

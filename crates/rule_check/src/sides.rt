@@ -18,7 +18,7 @@ use crate::found::{Found, Left};
 use crate::guards::check_guards;
 use crate::walk::{symbol_head, walk_spine};
 use dk_model::{Listed, NoMemory, NodeOf, Rule, Term, TypeFault};
-use infer_check::{Context, check};
+use infer_check::{Context, Walk, check};
 use signature_log::{Reducer, Version};
 
 /// That both sides of a rule have one type, that its annotations agree with the types of its variables, and that its
@@ -200,11 +200,17 @@ fn check_right<R: Reducer>(
     ensures serves { R.serves (entries_of v.now) r.new }
 {
     let right = r.load(right)?;
-    let mut context = Context {
+    let context = Context {
         rule_vars: types,
         bound: Listed::new(r.alloc()),
     };
-    check(r, v, &mut context, &right, typ, left)
+    let mut walk = Walk {
+        context,
+        left: *left,
+    };
+    let fits = check(r, v, &mut walk, &right, typ);
+    *left = walk.left;
+    fits
 }
 
 /// The types of all rule variables; `Kind` for one that the left side doesn't have.

@@ -1,14 +1,15 @@
 use Rattle.std.proofs.Common.{◌≡◌, ◌<◌, ◌+◌, ◌*◌, vec_len, map}
 use Rattle.dk_model.specs.Typing.{inferred}
 use Rattle.signature_log.specs.Versions.{entries_of}
-use Rattle.signature_log.specs.Reducers.{Keeps, built, AreOwned}
+use Rattle.signature_log.specs.Reducers.{built, AreOwned}
 use Rattle.infer_check.specs.Contexts.{rule_types, bound_types}
 use Rattle.infer_check.specs.Applied.{put_together, OwnsApplied}
 use Rattle.infer_check.specs.Spine.{along, size, total_size}
+use Rattle.infer_check.specs.Walks.{Continues}
 use Rattle.infer_check.proofs.+typing.Given as goal
 
 abbrev pub decreases-checking::check_annotated : goal.decreases-checking::check_annotated
-decreases-checking::check_annotated g l = 8 * (size (g.R.Reducer.denotes l.r.now l.annotation) + size (g.R.Reducer.denotes l.r.now l.body)) + 5
+decreases-checking::check_annotated g l = 8 * (size (g.R.Reducer.denotes l.r.now l.abstraction.annotation) + size (g.R.Reducer.denotes l.r.now l.abstraction.body)) + 5
 
 abbrev pub decreases-checking::check_bare : goal.decreases-checking::check_bare
 decreases-checking::check_bare g l = 8 * size (g.R.Reducer.denotes l.r.now l.body) + 5
@@ -39,15 +40,13 @@ decreases-inference::infer_taken g l = 8 * size (g.R.Reducer.denotes l.r.now l.t
 
 abbrev pub invariant-inference::infer_node-loop-argument : goal.invariant-inference::infer_node-loop-argument
 invariant-inference::infer_node-loop-argument g l = record {
-  same : along (entries_of l.fn.v) (rule_types g.R.Reducer.denotes l.fn.r l.fn.context) (bound_types g.R.Reducer.denotes l.fn.r l.fn.context)
-      (map (g.R.Reducer.denotes l.r) l.arguments.items) (put_together g.R.Reducer.owns g.R.Reducer.denotes l.r 0 l.typ) l.left
-      ≡ inferred (entries_of l.fn.v) (rule_types g.R.Reducer.denotes l.fn.r l.fn.context) (bound_types g.R.Reducer.denotes l.fn.r l.fn.context)
-      (built g.R.Reducer.denotes l.fn.r l.fn.node) l.fn.left;
+  same : along (entries_of l.fn.version) (rule_types g.R.Reducer.denotes l.fn.r l.fn.walk.context) (bound_types g.R.Reducer.denotes l.fn.r l.fn.walk.context)
+      (map (g.R.Reducer.denotes l.r) l.arguments.items) (put_together g.R.Reducer.owns g.R.Reducer.denotes l.r 0 l.typ) l.walk.left
+      ≡ inferred (entries_of l.fn.version) (rule_types g.R.Reducer.denotes l.fn.r l.fn.walk.context) (bound_types g.R.Reducer.denotes l.fn.r l.fn.walk.context)
+      (built g.R.Reducer.denotes l.fn.r l.fn.node) l.fn.walk.left;
   typ : OwnsApplied g.R.Reducer.owns g.R.Reducer.denotes l.r l.typ;
   arguments : AreOwned g.R.Reducer.owns l.r l.arguments.items;
-  kept : l.context ≡ l.fn.context;
-  keeps : Keeps g.R.Reducer.owns g.R.Reducer.denotes l.fn.r l.r;
-  serves : g.R.Reducer.serves (entries_of l.fn.v) l.r;
+  continues : Continues g.R.Reducer.owns g.R.Reducer.denotes g.R.Reducer.serves (entries_of l.fn.version) l.fn.r l.fn.walk l.r l.walk;
   smaller : total_size (map (g.R.Reducer.denotes l.r) l.arguments.items) < size (built g.R.Reducer.denotes l.fn.r l.fn.node);
 }
 

@@ -37,7 +37,7 @@ returns-in_ok-domain-in-Prod-clause-gives g c =
     let parts = subst (OwnsParts g.R.Reducer.owns o) c.in-Prod.is node.1 in
     let shown = node.0 ∙ ap (built D o) c.in-Prod.is in
     let made = c.in_ok-domain-in-Prod.ensures.makes in (
-      function_given g.R.Reducer.owns D (entries_of c.args.v.now) c.args.r.now o p c.args.applied.typ c.in-Prod.domain c.in-Prod.codomain c.in_ok-domain-in-Prod.domain
+      function_given g.R.Reducer.owns D (entries_of c.args.version.now) c.args.r.now o p c.args.applied.typ c.in-Prod.domain c.in-Prod.codomain c.in_ok-domain-in-Prod.domain
           c.args.applied.arguments.items c.args.left.now (c.args.left.now - 1) h k c.requires.own.arguments shown parts.1
           (made.0 ∙ ap (λ ts. substitute_all 0 (map (D o) ts) (D o c.in-Prod.domain)) c.as_slice.ensures.value) (grind (arith, nat_tests)),
       made.1,
@@ -58,11 +58,11 @@ returns-in_err-product-in_default g c =
     let l = keeps_further c.args.r.now b p k c.in_ok-whole-in_default.ensures.keeps in
     let w = whole_given g.R.Reducer.owns D c.args.r.now o b p c.args.applied c.in_ok-other.other c.in_ok-typ-in_default.typ c.in_ok-whole-in_default.whole c.as_slice-in_default.result.now
     k c.requires.own c.in_ok-other.ensures.node.0 c.in_ok-typ-in_default.ensures.makes.0 c.as_slice-in_default.ensures.value c.in_ok-whole-in_default.ensures.makes.0 in
-    let gives = fails_is c.in_err-product-in_default.field-0.0 _ _ _ (ap (λ t. as_product (entries_of c.args.v.now) E20 t c.args.left.now) (flip w)) c.in_err-product-in_default.ensures.gives in
+    let gives = fails_is c.in_err-product-in_default.field-0.0 _ _ _ (ap (λ t. as_product (entries_of c.args.version.now) E20 t c.args.left.now) (flip w)) c.in_err-product-in_default.ensures.gives in
     record {
       gives = search rules;
-      keeps = keeps_further c.args.r.now p c.into_product.new.r l c.in_err-product-in_default.ensures.keeps;
-      serves = c.in_err-product-in_default.ensures.serves;
+      follows = record { keeps = keeps_further c.args.r.now p c.into_product.new.r l c.in_err-product-in_default.ensures.follows.keeps; serving = c.in_err-product-in_default.ensures.follows.serving };
+      spent = c.in_err-product-in_default.ensures.spent;
     }
 
 pub returns-in_ok-product-in_default : goal.returns-in_ok-product-in_default
@@ -80,11 +80,11 @@ returns-in_ok-product-in_default g c =
     let made = c.in_ok-product-in_default.ensures.gives in
     record {
       gives = (
-        ap (λ t. as_product (entries_of c.args.v.now) E20 t c.args.left.now) (flip w) ∙ made.0
+        ap (λ t. as_product (entries_of c.args.version.now) E20 t c.args.left.now) (flip w) ∙ made.0
             ∙ found_given g.R.Reducer.owns D q c.in_ok-product-in_default.product.domain (record { typ = c.in_ok-product-in_default.product.codomain; arguments = c.new.result }) c.into_product.new.left c.new.ensures.items,
         made.1,
         none_owned g.R.Reducer.owns D q (record { typ = c.in_ok-product-in_default.product.codomain; arguments = c.new.result }) c.new.ensures.items made.2,
       );
-      keeps = keeps_further c.args.r.now p q l c.in_ok-product-in_default.ensures.keeps;
-      serves = c.in_ok-product-in_default.ensures.serves;
+      follows = record { keeps = keeps_further c.args.r.now p q l c.in_ok-product-in_default.ensures.follows.keeps; serving = c.in_ok-product-in_default.ensures.follows.serving };
+      spent = c.in_ok-product-in_default.ensures.spent;
     }

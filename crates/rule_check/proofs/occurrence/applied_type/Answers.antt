@@ -10,7 +10,7 @@ use Rattle.rule_check.proofs.Moving.{fit_moved, applied_fails, applied_given}
 use Rattle.rule_check.proofs.occurrence.applied_type.Goals as goal
 
 pub fit_variable-requires-clause-context : goal.fit_variable-requires-clause-context
-fit_variable-requires-clause-context g c = context_kept c.args.r.now c.into_product.new.r c.args.context.now c.in_ok-function.ensures.keeps c.requires.context
+fit_variable-requires-clause-context g c = context_kept c.args.r.now c.into_product.new.r c.args.context.now c.in_ok-function.ensures.follows.keeps c.requires.context
 
 pub returns-in_err-fit_variable-clause-gives : goal.returns-in_err-fit_variable-clause-gives
 returns-in_err-fit_variable-clause-gives g c =
@@ -19,7 +19,7 @@ returns-in_err-fit_variable-clause-gives g c =
     let r = c.args.r.now in
     let q = c.into_product.new.r in
     let x = c.args.context.now in
-    let k = c.in_ok-function.ensures.keeps in
+    let k = c.in_ok-function.ensures.follows.keeps in
     let fn = c.in_ok-function.function in
     let f = c.in_err-fit_variable.field-0.0 in
     let moved = fit_moved S r q x k c.requires.context c.args.variable (D q fn.domain) c.into_product.new.left c.fit_variable.new.left (Err f) c.in_err-fit_variable.ensures.gives in
@@ -33,7 +33,7 @@ returns-clause-gives g c =
     let r = c.args.r.now in
     let q = c.into_product.new.r in
     let x = c.args.context.now in
-    let k = c.in_ok-function.ensures.keeps in
+    let k = c.in_ok-function.ensures.follows.keeps in
     let fn = c.in_ok-function.function in
     let moved = fit_moved S r q x k c.requires.context c.args.variable (D q fn.domain) c.into_product.new.left c.fit_variable.new.left (Ok tt) c.in_ok-fit_variable.ensures.gives in
     let p = applied_given S (bound_types D r x) c.args.variable (D r c.args.typ) (D q fn.domain) (D q fn.codomain) c.args.left.now c.into_product.new.left c.fit_variable.new.left

@@ -84,7 +84,7 @@ pub walk_abstraction-walk-body-requires : goal.walk_abstraction-walk-body-requir
 walk_abstraction-walk-body-requires g t c =
     let r = c.args.r.now in
     let q = c.as_product.new.r in
-    let k = c.in_ok-function.ensures.keeps in
+    let k = c.in_ok-function.ensures.follows.keeps in
     let fn = c.in_ok-function.function in
     let x = context_under r q k c.args.context.now c.bind.new.self c.requires.context fn.domain c.in_ok-bind.ensures.ok c.in_ok-function.ensures.gives.1 in
     let f = found_kept r q k c.args.found.now c.requires.found in
@@ -98,7 +98,7 @@ walk_abstraction-returns-in_err-body-clause-gives g t c =
     let q = c.as_product.new.r in
     let x = c.args.context.now in
     let w = c.args.found.now in
-    let k = c.in_ok-function.ensures.keeps in
+    let k = c.in_ok-function.ensures.follows.keeps in
     let fn = c.in_ok-function.function in
     let f = c.in_err-body.field-0.0 in
     let same = walked_same S (pattern c.args.body.now) c.as_product.new.left (bound_types_under r q k x c.bind.new.self c.requires.context fn.domain c.in_ok-bind.ensures.ok) refl (found_same r q k w c.requires.found) in
@@ -118,7 +118,7 @@ walk_abstraction-returns-clause-gives g t c =
     let w = c.args.found.now in
     let after = c.walk-body.new.found in
     let n = c.walk-body.new.left in
-    let k = c.in_ok-function.ensures.keeps in
+    let k = c.in_ok-function.ensures.follows.keeps in
     let fn = c.in_ok-function.function in
     let body = c.in_ok-body.field-0 in
     let given = c.in_ok-body.ensures.gives in
@@ -139,7 +139,7 @@ pub walk_argument-walk-requires : goal.walk_argument-walk-requires
 walk_argument-walk-requires g t c =
     let r = c.args.r.now in
     let q = c.into_product.new.r in
-    let k = c.in_ok-function.ensures.keeps in
+    let k = c.in_ok-function.ensures.follows.keeps in
     let x = context_moved r q k c.args.context.now c.args.context.now c.requires.context refl in
     let f = found_kept r q k c.args.found.now c.requires.found in
     search rules
@@ -152,7 +152,7 @@ walk_argument-returns-in_err-argument-clause-gives g t c =
     let q = c.into_product.new.r in
     let x = c.args.context.now in
     let w = c.args.found.now in
-    let k = c.in_ok-function.ensures.keeps in
+    let k = c.in_ok-function.ensures.follows.keeps in
     let fn = c.in_ok-function.function in
     let f = c.in_err-argument.field-0.0 in
     let same = walked_same S (pattern c.args.argument.now) c.into_product.new.left (bound_types_kept r q x k c.requires.context) refl (found_same r q k w c.requires.found) in
@@ -172,7 +172,7 @@ walk_argument-returns-clause-gives g t c =
     let w = c.args.found.now in
     let after = c.walk.new.found in
     let n = c.walk.new.left in
-    let k = c.in_ok-function.ensures.keeps in
+    let k = c.in_ok-function.ensures.follows.keeps in
     let j = c.in_ok-argument.ensures.keeps in
     let fn = c.in_ok-function.function in
     let argument = c.in_ok-argument.argument in
@@ -305,16 +305,16 @@ pub walk-returns-in_err-head-in-Var-clause-serves : goal.walk-returns-in_err-hea
 walk-returns-in_err-head-in-Var-clause-serves g t c = c.in_err-head-in-Var.ensures.serves (entries_of c.args.v.now) c.requires.serves
 
 pub walk_abstraction-returns-in_err-bind-clause-keeps : goal.walk_abstraction-returns-in_err-bind-clause-keeps
-walk_abstraction-returns-in_err-bind-clause-keeps g t c = c.in_ok-function.ensures.keeps
+walk_abstraction-returns-in_err-bind-clause-keeps g t c = c.in_ok-function.ensures.follows.keeps
 
 pub walk_abstraction-returns-in_err-bind-clause-serves : goal.walk_abstraction-returns-in_err-bind-clause-serves
-walk_abstraction-returns-in_err-bind-clause-serves g t c = c.in_ok-function.ensures.serves
+walk_abstraction-returns-in_err-bind-clause-serves g t c = c.in_ok-function.ensures.follows.serving
 
 pub walk_abstraction-returns-in_err-bind-clause-kept : goal.walk_abstraction-returns-in_err-bind-clause-kept
 walk_abstraction-returns-in_err-bind-clause-kept g t c = c.in_err-bind.ensures.err
 
 pub walk_abstraction-returns-in_err-body-clause-keeps : goal.walk_abstraction-returns-in_err-body-clause-keeps
-walk_abstraction-returns-in_err-body-clause-keeps g t c = keeps_further c.args.r.now c.as_product.new.r c.walk-body.new.r c.in_ok-function.ensures.keeps c.in_err-body.ensures.keeps
+walk_abstraction-returns-in_err-body-clause-keeps g t c = keeps_further c.args.r.now c.as_product.new.r c.walk-body.new.r c.in_ok-function.ensures.follows.keeps c.in_err-body.ensures.keeps
 
 pub walk_abstraction-returns-in_err-body-clause-serves : goal.walk_abstraction-returns-in_err-body-clause-serves
 walk_abstraction-returns-in_err-body-clause-serves g t c = c.in_err-body.ensures.serves
@@ -323,7 +323,7 @@ pub walk_abstraction-returns-in_err-body-clause-kept : goal.walk_abstraction-ret
 walk_abstraction-returns-in_err-body-clause-kept g t c = (c.leave-domain.ensures c.args.context.now c.in_ok-function.function.domain (c.walk-body.ensures.kept ∙ c.in_ok-bind.ensures.ok)).0
 
 pub walk_abstraction-returns-in_err-build-clause-keeps : goal.walk_abstraction-returns-in_err-build-clause-keeps
-walk_abstraction-returns-in_err-build-clause-keeps g t c = keeps_further c.args.r.now c.walk-body.new.r c.build.new.self (keeps_further c.args.r.now c.as_product.new.r c.walk-body.new.r c.in_ok-function.ensures.keeps c.in_ok-body.ensures.keeps) c.in_err-build.ensures.keeps
+walk_abstraction-returns-in_err-build-clause-keeps g t c = keeps_further c.args.r.now c.walk-body.new.r c.build.new.self (keeps_further c.args.r.now c.as_product.new.r c.walk-body.new.r c.in_ok-function.ensures.follows.keeps c.in_ok-body.ensures.keeps) c.in_err-build.ensures.keeps
 
 pub walk_abstraction-returns-in_err-build-clause-serves : goal.walk_abstraction-returns-in_err-build-clause-serves
 walk_abstraction-returns-in_err-build-clause-serves g t c = c.in_err-build.ensures.serves (entries_of c.args.v.now) c.in_ok-body.ensures.serves
@@ -332,7 +332,7 @@ pub walk_abstraction-returns-in_err-build-clause-kept : goal.walk_abstraction-re
 walk_abstraction-returns-in_err-build-clause-kept g t c = (c.leave-domain.ensures c.args.context.now c.in_ok-function.function.domain (c.walk-body.ensures.kept ∙ c.in_ok-bind.ensures.ok)).0
 
 pub walk_abstraction-returns-clause-keeps : goal.walk_abstraction-returns-clause-keeps
-walk_abstraction-returns-clause-keeps g t c = keeps_further c.args.r.now c.walk-body.new.r c.build.new.self (keeps_further c.args.r.now c.as_product.new.r c.walk-body.new.r c.in_ok-function.ensures.keeps c.in_ok-body.ensures.keeps) c.in_ok-build.ensures.keeps
+walk_abstraction-returns-clause-keeps g t c = keeps_further c.args.r.now c.walk-body.new.r c.build.new.self (keeps_further c.args.r.now c.as_product.new.r c.walk-body.new.r c.in_ok-function.ensures.follows.keeps c.in_ok-body.ensures.keeps) c.in_ok-build.ensures.keeps
 
 pub walk_abstraction-returns-clause-serves : goal.walk_abstraction-returns-clause-serves
 walk_abstraction-returns-clause-serves g t c = c.in_ok-build.ensures.serves (entries_of c.args.v.now) c.in_ok-body.ensures.serves
@@ -341,7 +341,7 @@ pub walk_abstraction-returns-clause-kept : goal.walk_abstraction-returns-clause-
 walk_abstraction-returns-clause-kept g t c = (c.leave-domain.ensures c.args.context.now c.in_ok-function.function.domain (c.walk-body.ensures.kept ∙ c.in_ok-bind.ensures.ok)).0
 
 pub walk_argument-returns-in_err-argument-clause-keeps : goal.walk_argument-returns-in_err-argument-clause-keeps
-walk_argument-returns-in_err-argument-clause-keeps g t c = keeps_further c.args.r.now c.into_product.new.r c.walk.new.r c.in_ok-function.ensures.keeps c.in_err-argument.ensures.keeps
+walk_argument-returns-in_err-argument-clause-keeps g t c = keeps_further c.args.r.now c.into_product.new.r c.walk.new.r c.in_ok-function.ensures.follows.keeps c.in_err-argument.ensures.keeps
 
 pub walk_argument-returns-in_err-argument-clause-serves : goal.walk_argument-returns-in_err-argument-clause-serves
 walk_argument-returns-in_err-argument-clause-serves g t c = c.in_err-argument.ensures.serves
@@ -350,7 +350,7 @@ pub walk_argument-returns-in_err-argument-clause-kept : goal.walk_argument-retur
 walk_argument-returns-in_err-argument-clause-kept g t c = c.in_err-argument.ensures.kept
 
 pub walk_argument-returns-in_err-apply-clause-keeps : goal.walk_argument-returns-in_err-apply-clause-keeps
-walk_argument-returns-in_err-apply-clause-keeps g t c = keeps_further c.args.r.now c.walk.new.r c.apply.new.r (keeps_further c.args.r.now c.into_product.new.r c.walk.new.r c.in_ok-function.ensures.keeps c.in_ok-argument.ensures.keeps) c.in_err-apply.ensures.keeps
+walk_argument-returns-in_err-apply-clause-keeps g t c = keeps_further c.args.r.now c.walk.new.r c.apply.new.r (keeps_further c.args.r.now c.into_product.new.r c.walk.new.r c.in_ok-function.ensures.follows.keeps c.in_ok-argument.ensures.keeps) c.in_err-apply.ensures.keeps
 
 pub walk_argument-returns-in_err-apply-clause-serves : goal.walk_argument-returns-in_err-apply-clause-serves
 walk_argument-returns-in_err-apply-clause-serves g t c = c.in_err-apply.ensures.serves (entries_of c.args.v.now) c.in_ok-argument.ensures.serves
@@ -359,7 +359,7 @@ pub walk_argument-returns-in_err-apply-clause-kept : goal.walk_argument-returns-
 walk_argument-returns-in_err-apply-clause-kept g t c = c.in_ok-argument.ensures.kept
 
 pub walk_argument-returns-clause-keeps : goal.walk_argument-returns-clause-keeps
-walk_argument-returns-clause-keeps g t c = keeps_further c.args.r.now c.walk.new.r c.apply.new.r (keeps_further c.args.r.now c.into_product.new.r c.walk.new.r c.in_ok-function.ensures.keeps c.in_ok-argument.ensures.keeps) c.in_ok-apply.ensures.keeps
+walk_argument-returns-clause-keeps g t c = keeps_further c.args.r.now c.walk.new.r c.apply.new.r (keeps_further c.args.r.now c.into_product.new.r c.walk.new.r c.in_ok-function.ensures.follows.keeps c.in_ok-argument.ensures.keeps) c.in_ok-apply.ensures.keeps
 
 pub walk_argument-returns-clause-serves : goal.walk_argument-returns-clause-serves
 walk_argument-returns-clause-serves g t c = c.in_ok-apply.ensures.serves (entries_of c.args.v.now) c.in_ok-argument.ensures.serves
@@ -368,7 +368,7 @@ pub walk_argument-returns-clause-kept : goal.walk_argument-returns-clause-kept
 walk_argument-returns-clause-kept g t c = c.in_ok-argument.ensures.kept
 
 pub walk_argument-apply-requires-clause-term : goal.walk_argument-apply-requires-clause-term
-walk_argument-apply-requires-clause-term g t c = c.in_ok-argument.ensures.keeps.own c.args.head.term (c.in_ok-function.ensures.keeps.own c.args.head.term c.requires.head.term)
+walk_argument-apply-requires-clause-term g t c = c.in_ok-argument.ensures.keeps.own c.args.head.term (c.in_ok-function.ensures.follows.keeps.own c.args.head.term c.requires.head.term)
 
 pub walk_argument-apply-requires-clause-codomain : goal.walk_argument-apply-requires-clause-codomain
 walk_argument-apply-requires-clause-codomain g t c = c.in_ok-argument.ensures.keeps.own c.in_ok-function.function.codomain c.in_ok-function.ensures.gives.2
