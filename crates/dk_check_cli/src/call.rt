@@ -3,23 +3,16 @@ ghost use Rattle.std.specs.Prelude.{◌≡◌, ◌<◌, IfErr, IfOk, map};
 ghost use Rattle.std.specs.String.{string_bytes};
 ghost use Rattle.command_line.specs.Requests.{request_of};
 ghost use Rattle.dk_model.specs.Limits.{standard};
-ghost use Rattle.file_check.specs.Shelves.{shelf_state};
-ghost use Rattle.dk_check_run.specs.Run.{sink_state};
-ghost use Rattle.dk_check_run.specs.Clauses.{Runs};
+ghost use Rattle.dk_check_run.specs.Run.{shelf_of, sink_of};
+ghost use Rattle.dk_check_run.specs.Table.{Runs};
 ghost use Rattle.dk_check_cli.specs.Calls.{status_without_words};
 
-use dk_check_run::{NoGate, run};
+use dk_check_run::{NoGate, run, status};
 use dk_io::{Shelf, Sink};
 use std::alloc::Global;
 use std::io::ErrorKind;
 use std::sync::Wait;
 use std::thread::Threads;
-
-/// Where memory ends before the words are there.
-pub const NO_MEMORY: u8 = 4;
-
-// Where a word isn't UTF-8.
-const BAD_WORDS: u8 = 2;
 
 /// Asks `run` for these words and answers its status. Where the words couldn't be had, the kind of the error decides, and
 /// nothing is read or written.
@@ -31,16 +24,15 @@ pub fn answer_call<R: Threads + Wait + Sync, H: Shelf, K: Sink>(
     sink: &mut K,
 ) -> u8
     ensures given { IfOk words.now (λ w. Runs standard (request_of (map string_bytes w.items))
-        (shelf_state H.books H.left H.faults H.missed shelf.old)
-        (shelf_state H.books H.left H.faults H.missed shelf.new)
-        (sink_state K.taken K.faults sink.old) (sink_state K.taken K.faults sink.new) result) }
+        (shelf_of H.Shelf shelf.old) (shelf_of H.Shelf shelf.new)
+        (sink_of K.Sink sink.old) (sink_of K.Sink sink.new) result) }
     ensures missing { IfErr words.now (λ kind. (result ≡ status_without_words kind)
         × (shelf.new ≡ shelf.old) × (sink.new ≡ sink.old)) }
     ensures statuses { result < 7 }
 {
     match words {
         Ok(words) => run(rt, alloc, words.as_slice(), shelf, sink, &NoGate),
-        Err(ErrorKind::OutOfMemory) => NO_MEMORY,
-        Err(_) => BAD_WORDS,
+        Err(ErrorKind::OutOfMemory) => status::MEMORY,
+        Err(_) => status::USAGE,
     }
 }

@@ -6,8 +6,8 @@ ghost use Rattle.std.specs.Process.{exit_status};
 
 mod call;
 
-use crate::call::{NO_MEMORY, answer_call};
-use dk_check_run::STACK;
+use crate::call::answer_call;
+use dk_check_run::{STACK, status};
 use dk_io::{OsShelf, OsSink};
 use std::env::Env;
 use std::fs::Files;
@@ -28,7 +28,7 @@ fn main(rt: HostRuntime) -> ExitCode {
             .spawn_scoped(scope, || status_of_call(&rt))
         {
             Ok(handle) => handle.join(&rt),
-            Err(_) => NO_MEMORY,
+            Err(_) => status::MEMORY,
         }
     });
     exit_with(status)

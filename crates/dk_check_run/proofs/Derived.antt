@@ -1,7 +1,7 @@
--- Where a file is accepted, each command has a derivation over the commands before it.
-use Rattle.std.proofs.Common.{◌≡◌, ℕ, ◌+◌, Bool, true, false, List, [], ◌∷◌, ◌++◌, refl, sym, subst, ◌∙◌, arith}
+-- Where a file is accepted, each command has a derivation over the commands before it: a law of the fold alone, with no word on `run`.
+use Rattle.std.proofs.Common.{◌≡◌, ℕ, ◌+◌, Bool, true, false, List, [], ◌∷◌, ◌++◌, refl, sym, subst, arith}
 use Rattle.std.proofs.lemmas.List.{append-nil}
-use Rattle.std.specs.Prelude.{Option, Some, if◌then◌else◌, nat_le}
+use Rattle.std.specs.Prelude.{if◌then◌else◌, nat_le}
 use Rattle.dk_model.specs.Scoping.{PlainCommand}
 use Rattle.dk_model.specs.Signatures.{PlainSignature}
 use Rattle.dk_model.specs.Typing.{by_units}
@@ -10,32 +10,23 @@ use Rattle.dk_model.specs.declared.code.Code.TheVariants.{E08}
 use Rattle.dk_model.specs.declared.code.Verdict.{Verdict}
 use Rattle.dk_model.specs.declared.code.Verdict.TheVariants as verdict
 use Rattle.dk_model.specs.declared.limits.Limits.{Limits}
-use Rattle.dk_lexer.specs.Tokens.{whole}
-use Rattle.dk_parser.specs.FileReading.{Tail, read}
+use Rattle.dk_parser.specs.FileReading.{Tail}
 use Rattle.dk_parser.specs.Written.{WrittenCommand}
 use Rattle.scope_terms.specs.Scopes.{Scoping, scoped, refused, scope_of}
 use Rattle.typing_model.specs.Derivations.{HasDerivation}
 use Rattle.typing_model.proofs.Commands.{accepted_derives}
 use Rattle.typing_model.proofs.Rules.{units_reduce}
-use Rattle.command_line.specs.Requests.{CheckRequest, MakeRequest, Request, to_make}
 use Rattle.verdict_book.specs.Report.{FileReport, status_of}
-use Rattle.file_report.specs.Outcomes.{Theory, by_verdict, no_theory, report_from, scoped_entry, scoped_verdict, theory_after, verdict_after, verdict_at}
-use Rattle.dk_check_run.specs.Answers.{Answers}
-use Rattle.file_check.specs.Shelves.{ShelfState}
-use Rattle.dk_check_run.specs.Run.{AllDerived, AsksFor, IsDerived, IsTheoryDerived, SinkState}
-use Rattle.dk_check_run.proofs.Clauses.{own}
-use Rattle.dk_check_run.proofs.Making.{makes}
-use Rattle.dk_make.specs.Theory.{theory_of}
+use Rattle.file_report.specs.Outcomes.{Theory, by_verdict, report_from, scoped_entry, scoped_verdict, theory_after, verdict_after, verdict_at}
 use Rattle.dk_model.specs.WellFormed.{IsSignature}
-use Rattle.typing_model.proofs.Formed.{command_entry, formed_more, formed_numbered, formed_plain, none_formed}
-use Rattle.std.proofs.Common.{inl}
+use Rattle.typing_model.proofs.Formed.{command_entry, formed_more, formed_numbered, formed_plain}
+use Rattle.dk_check_run.specs.Run.{AllDerived, IsDerived}
 
 scoped_derives : (S : PlainSignature) (budget : ℕ) (T : Theory) (s : Scoping PlainCommand) → T.signature ≡ S → IsSignature S → scoped_verdict S budget s ≡ verdict.Accepted → IsDerived T s
 scoped_derives S budget T (refused code) same formed e = cc
 scoped_derives S budget T (scoped command) same formed e =
-    let numbered = formed_numbered S formed in
     subst (λ (U : PlainSignature). HasDerivation U command) (sym same)
-    (accepted_derives S (by_units S) (units_reduce S numbered) (formed_plain S formed) command budget e)
+    (accepted_derives S (by_units S) (units_reduce S (formed_numbered S formed)) (formed_plain S formed) command budget e)
 
 formed_after : (S : PlainSignature) (budget : ℕ) (s : Scoping PlainCommand) → IsSignature S → IsSignature (S ++ scoped_entry S budget s)
 formed_after S budget (refused code) formed = subst IsSignature (sym (append-nil S)) formed
@@ -52,23 +43,10 @@ accepted_first (verdict.Refused code) n c rest e = absurd (omega (arith, e))
 accepted_first verdict.Ended n c rest e = absurd (omega (arith, e))
 accepted_first verdict.Memory n c rest e = absurd (omega (arith, e))
 
-all_derived : (limits : Limits) (budget : ℕ) (T : Theory) (n : ℕ) (cs : List WrittenCommand) (tail : Tail) → IsSignature T.signature → status_of (report_from limits budget T n cs tail).outcome ≡ 0 → AllDerived budget T cs
+pub all_derived : (limits : Limits) (budget : ℕ) (T : Theory) (n : ℕ) (cs : List WrittenCommand) (tail : Tail) → IsSignature T.signature → status_of (report_from limits budget T n cs tail).outcome ≡ 0 → AllDerived budget T cs
 all_derived limits budget T n [] tail formed e = tt
 all_derived limits budget T n (c ∷ cs) tail formed e =
     let first = accepted_first (verdict_at limits budget T n c.form) n c (report_from limits budget (theory_after T budget c.form) (n + 1) cs tail) e in (
       scoped_derives T.signature budget T (scope_of T.names c.form) refl formed (accepted_after (nat_le limits.commands n) (verdict_after T budget c.form) first.0),
       all_derived limits budget (theory_after T budget c.form) (n + 1) cs tail (formed_after T.signature budget (scope_of T.names c.form) formed) first.1,
     )
-
-pub derived : (limits : Limits) (request : Option Request) (old new : ShelfState) (before after : SinkState) (result : ℕ) → Answers limits request old new before after result
-    → (q : CheckRequest) (bytes : List ℕ) → AsksFor request old.books q (Some bytes) → result ≡ 0 → AllDerived q.budget no_theory (read limits bytes whole).commands
-derived limits request old new before after result answers q bytes asks zero =
-    let report = own limits request old new before after result answers q bytes asks (inl zero) in
-    all_derived limits q.budget no_theory 0 (read limits bytes whole).commands (read limits bytes whole).tail none_formed (sym report.status ∙ zero)
-
--- the same of a made theory
-pub theory_derived : (limits : Limits) (request : Option Request) (old new : ShelfState) (before after : SinkState) (result : ℕ) → Answers limits request old new before after result
-    → (q : MakeRequest) → request ≡ Some (to_make q) → result ≡ 0 → IsTheoryDerived limits q
-theory_derived limits request old new before after result answers q asked zero =
-    let report = makes limits request old new before after result answers q asked (λ f. absurd (omega (arith, zero, f))) (λ f. absurd (omega (arith, zero, f))) in
-    all_derived limits q.budget no_theory 0 (read limits (theory_of q.count) whole).commands (read limits (theory_of q.count) whole).tail none_formed (sym report.status ∙ zero)

@@ -1,6 +1,8 @@
-pub mod Clauses
+pub mod CheckRows
+pub mod Commands
 pub mod Derived
-pub mod Making
-pub mod Running
+pub mod General
+pub mod MakeRows
+pub mod Promises
 pub mod Statuses
 pub mod Summaries

@@ -1,24 +1,23 @@
 -- Trusted: what the program answers, the text and the status that are due (docs/report.md).
-use Rattle.std.specs.Prelude.{◌≡◌, ◌≢◌, ◌⊎◌, ℕ, ◌+◌, List, [], ◌∷◌, ◌++◌, length, take, Option, Some, codes, decimal}
+use Rattle.std.specs.Prelude.{◌≡◌, ◌≢◌, ◌⊎◌, ℕ, List, [], ◌∷◌, ◌++◌, length, Option, None, Some, codes, decimal}
 use Rattle.dk_io.specs.Bytes.{AddsSome, Books, added, book_of}
 use Rattle.dk_io.specs.Causes.{Rose}
+use Rattle.dk_io.specs.declared.shelf.Shelf.{Ghosts as Shelf}
+use Rattle.dk_io.specs.declared.sink.Sink.{Ghosts as Sink}
 use Rattle.dk_model.specs.declared.limits.Limits.{Limits}
-use Rattle.dk_model.specs.declared.code.Verdict.{Verdict}
 use Rattle.dk_model.specs.declared.code.Verdict.TheVariants as verdict
-use Rattle.dk_lexer.specs.Tokens.{broken, whole}
+use Rattle.dk_lexer.specs.Tokens.{whole}
 use Rattle.dk_parser.specs.FileReading.{read}
 use Rattle.dk_parser.specs.Written.{WrittenCommand}
 use Rattle.scope_terms.specs.Scopes.{Scoping, scoped, refused, scope_of}
 use Rattle.dk_model.specs.Scoping.{PlainCommand}
 use Rattle.typing_model.specs.Derivations.{HasDerivation}
-use Rattle.command_line.specs.Requests.{CheckRequest, MakeRequest, Request, to_check}
+use Rattle.command_line.specs.Requests.{CheckRequest, MakeRequest, Request, to_check, to_make}
 use Rattle.verdict_book.specs.Report.{concat, FileReport, last_line, report_of, status_of, stop_line}
 use Rattle.verdict_book.specs.declared.outcome.Outcome.{Outcome}
-use Rattle.verdict_book.specs.declared.outcome.Outcome.TheVariants.{Stopped, Unread}
 use Rattle.dk_make.specs.Theory.{theory_of}
 use Rattle.file_report.specs.Outcomes.{Theory, no_theory, report_of_bytes, theory_after}
-use Rattle.file_report.specs.Memory.{IsMemoryAt}
-use Rattle.file_check.specs.Shelves.{HasHeld, ShelfState}
+use Rattle.file_check.specs.Shelves.{ShelfState, shelf_state}
 
 -- ---- texts
 
@@ -29,10 +28,6 @@ text_of q r = report_of r.names r.outcome q.budget q.quiet
 -- the report of a file that was read whole
 abbrev pub report_for : Limits → CheckRequest → List ℕ → FileReport
 report_for limits q bytes = report_of_bytes limits q.budget bytes whole
-
--- the report of the bytes that were given before a read failed
-abbrev pub report_given : Limits → CheckRequest → List ℕ → FileReport
-report_given limits q given = report_of_bytes limits q.budget given broken
 
 abbrev pub unopened : List ℕ → List ℕ
 unopened file = concat (codes "unopened " ∷ file ∷ codes "\n" ∷ [])
@@ -47,13 +42,13 @@ memory_at_once = stop_line 0 0 verdict.Memory 0
 abbrev pub report_made : Limits → MakeRequest → FileReport
 report_made limits q = report_of_bytes limits q.budget (theory_of q.count) whole
 
--- the line that says what was made
-abbrev pub make_line : MakeRequest → List ℕ
-make_line q = concat (codes "make " ∷ decimal q.count ∷ codes " bytes " ∷ decimal (length (theory_of q.count)) ∷ codes "\n" ∷ [])
+-- the line that says how many theorems and bytes were made
+abbrev pub made_line : ℕ → ℕ → List ℕ
+made_line count size = concat (codes "make " ∷ decimal count ∷ codes " bytes " ∷ decimal size ∷ codes "\n" ∷ [])
 
 -- that line, and the last line of a report
 abbrev pub summary : MakeRequest → Outcome → List ℕ
-summary q outcome = make_line q ++ last_line outcome q.budget
+summary q outcome = made_line q.count (length (theory_of q.count)) ++ last_line outcome q.budget
 
 -- ---- derivations
 
@@ -75,12 +70,6 @@ IsFileDerived limits q bytes = AllDerived q.budget no_theory (read limits bytes 
 abbrev pub IsTheoryDerived : Limits → MakeRequest → Type 0
 IsTheoryDerived limits q = AllDerived q.budget no_theory (read limits (theory_of q.count) whole).commands
 
--- ---- where memory ended
-
--- the first `ok` lines of the file's own report, and the line that says where memory ended
-abbrev pub memory_text : Limits → CheckRequest → List ℕ → ℕ → ℕ → List ℕ
-memory_text limits q bytes accepted line = report_of (take accepted (report_for limits q bytes).names) (Stopped (accepted + 1) line verdict.Memory) q.budget q.quiet
-
 -- ---- answers
 
 -- a sink, as its meanings tell it
@@ -88,9 +77,12 @@ pub record SinkState : Type 0 where
   pub taken : Option (List ℕ)
   pub faults : ℕ
 
--- the sink's meanings together
-abbrev pub sink_state : {S : Type 0} → (S → Option (List ℕ)) → (S → ℕ) → S → SinkState
-sink_state taken faults sink = record { taken = taken sink; faults = faults sink }
+-- the state of a shelf and of a sink, of the members that its trait has
+abbrev pub shelf_of : {S : Type 0} → Shelf S → S → ShelfState
+shelf_of m shelf = shelf_state m.books m.left m.faults m.missed shelf
+
+abbrev pub sink_of : {S : Type 0} → Sink S → S → SinkState
+sink_of m sink = record { taken = m.taken sink; faults = m.faults sink }
 
 -- the words ask to check a book, and the shelf tells what it has under that name: these bytes, or none
 pub record AsksFor (request : Option Request) (books : Option Books) (q : CheckRequest) (book : Option (List ℕ)) : Type 0 where
@@ -99,30 +91,6 @@ pub record AsksFor (request : Option Request) (books : Option Books) (q : CheckR
   pub told : books ≡ Some shelf
   pub has : book_of shelf q.file ≡ book
 
--- The status and the text that are due, a row for each answer (docs/report.md): the file's own report; where a read failed, the
--- report of the bytes that were given before, which ends at a command among them or at the one that was due; that the opening
--- failed; where memory ended; and that it ended before the first command.
-pub data IsDue (limits : Limits) (q : CheckRequest) (book : Option (List ℕ)) (old new : ShelfState) : ℕ → List ℕ → Type 0 where
-  of_the_file : (bytes : List ℕ) → book ≡ Some bytes → HasHeld old new
-      → IsDue limits q book old new (status_of (report_for limits q bytes).outcome) (text_of q (report_for limits q bytes))
-  of_the_given : (given rest : List ℕ) → book ≡ Some (given ++ rest) → new.left ≡ Some rest → Rose old.faults new.faults
-      → (number line : ℕ) (v : Verdict) → (report_given limits q given).outcome ≡ Stopped number line v
-      → IsDue limits q book old new (status_of (Stopped number line v)) (text_of q (report_given limits q given))
-  of_a_failed_read : (given rest : List ℕ) → book ≡ Some (given ++ rest) → new.left ≡ Some rest → Rose old.faults new.faults
-      → (number : ℕ) → (report_given limits q given).outcome ≡ Unread number → IsDue limits q book old new 3 (text_of q (report_given limits q given))
-  of_a_failed_opening : new.left ≡ old.left → Rose (old.missed q.file) (new.missed q.file) → IsDue limits q book old new 3 (unopened q.file)
-  of_memory : (bytes : List ℕ) → book ≡ Some bytes
-      → (accepted line : ℕ) → IsMemoryAt limits q.budget bytes whole accepted line → IsDue limits q book old new 4 (memory_text limits q bytes accepted line)
-  of_no_memory : IsDue limits q book old new 4 memory_at_once
-
--- The same for `make`: the summary of the theory's own report; where memory ended in the check, and that it ended before the first
--- command.
-pub data IsMakeDue (limits : Limits) (q : MakeRequest) : ℕ → List ℕ → Type 0 where
-  of_the_theory : IsMakeDue limits q (status_of (report_made limits q).outcome) (summary q (report_made limits q).outcome)
-  memory_in_it : (accepted line : ℕ) → IsMemoryAt limits q.budget (theory_of q.count) whole accepted line
-      → IsMakeDue limits q 4 (summary q (Stopped (accepted + 1) line verdict.Memory))
-  no_memory_for_it : IsMakeDue limits q 4 memory_at_once
-
 -- the text was written, and this is the status; or the sink failed and took a front of it, and the status is 5
 pub record Writes (old new : SinkState) (text : List ℕ) (status result : ℕ) : Type 0 where
   pub known : (result ≡ status) ⊎ (result ≡ 5)
@@ -130,19 +98,6 @@ pub record Writes (old new : SinkState) (text : List ℕ) (status result : ℕ) 
   pub held : result ≢ 5 → new.faults ≡ old.faults
   pub failed : result ≡ 5 → Rose old.faults new.faults
   pub front : result ≡ 5 → AddsSome old.taken new.taken text
-
--- what was due was written
-pub record WritesDue (limits : Limits) (q : CheckRequest) (book : Option (List ℕ)) (old new : ShelfState) (before after : SinkState) (result : ℕ) : Type 0 where
-  pub status : ℕ
-  pub text : List ℕ
-  pub due : IsDue limits q book old new status text
-  pub writes : Writes before after text status result
-
-pub record WritesMakeDue (limits : Limits) (q : MakeRequest) (before after : SinkState) (result : ℕ) : Type 0 where
-  pub status : ℕ
-  pub text : List ℕ
-  pub due : IsMakeDue limits q status text
-  pub writes : Writes before after text status result
 
 -- the status is that of the file's report, and the sink took its text
 pub record ReportsFile (limits : Limits) (q : CheckRequest) (bytes : List ℕ) (before after : Option (List ℕ)) (result : ℕ) : Type 0 where
@@ -158,14 +113,16 @@ pub record ReportsTheory (limits : Limits) (q : MakeRequest) (before after : Opt
 abbrev pub IsDecided : ℕ → Type 0
 IsDecided result = (result ≡ 0) ⊎ ((result ≡ 1) ⊎ (result ≡ 6))
 
--- ---- the clauses of `run`
+-- ---- the shelf
 
--- the words ask for no check
-abbrev pub ChecksNothing : Option Request → Type 0
-ChecksNothing request = (q : CheckRequest) → request ≢ Some (to_check q)
+-- the words open no book
+abbrev pub OpensNothing : Option Request → Type 0
+OpensNothing None = Unit {0}
+OpensNothing (Some (to_check q)) = ⊥
+OpensNothing (Some (to_make q)) = Unit {0}
 
 -- the text `unopened` was written after an opening of that name failed, or a read failed
-abbrev pub HasShelfFault : CheckRequest → ShelfState → ShelfState → SinkState → SinkState → Type 0
-HasShelfFault q old new before after =
-    ((new.left ≡ old.left) × Rose (old.missed q.file) (new.missed q.file) × (after.taken ≡ added before.taken (unopened q.file)))
+abbrev pub HasShelfFault : List ℕ → ShelfState → ShelfState → SinkState → SinkState → Type 0
+HasShelfFault name old new before after =
+    ((new.left ≡ old.left) × Rose (old.missed name) (new.missed name) × (after.taken ≡ added before.taken (unopened name)))
     ⊎ Rose old.faults new.faults

@@ -5,10 +5,12 @@ mod answering;
 mod gate;
 mod top;
 
+pub use answering::run_with;
 pub use file_check::STACK;
 pub use file_report::{fault_of_history, report_of_history};
 pub use gate::NoGate;
-pub use top::{run, run_with};
+pub use top::run;
+pub use verdict_book::status;
 
 #[cfg(test)]
 mod failure_tests;

@@ -23,9 +23,9 @@ use Rattle.verdict_book.specs.declared.outcome.Outcome.{Outcome}
 use Rattle.verdict_book.specs.declared.outcome.Outcome.TheVariants.{Stopped}
 use Rattle.file_report.specs.Outcomes.{by_verdict, no_theory, report_from, report_of_bytes, tail_outcome, theory_after, with_names}
 use Rattle.file_report.specs.Jobs.{Job, IsJobOf, AreJobsFrom, due_of, is_early, theory_over, titles_of}
-use Rattle.file_report.specs.Memory.{IsNextLine, next_line, reading_at}
+use Rattle.file_report.specs.Memory.{IsCutByMemory, IsNextLine, next_line, reading_at}
 use Rattle.file_report.specs.Ends.{IsReadersEnd, MemoryEnds, report_behind}
-use Rattle.file_report.specs.Histories.{ChecksFile, ChecksJobsOf, IsCutByMemory, Reports}
+use Rattle.file_report.specs.Histories.{ChecksFile, ChecksJobsOf, Reports}
 use Rattle.file_report.proofs.Walk.{Splits, split, verdict_is}
 use Rattle.file_report.proofs.Positive.{next_line_positive}
 use Rattle.file_report.proofs.Dues.{answered_due, below_accepted}

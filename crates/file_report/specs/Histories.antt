@@ -1,5 +1,5 @@
 -- The histories in which a file is checked, and the report that is due (docs/board.md).
-use Rattle.std.specs.Prelude.{◌≡◌, ◌⊎◌, ◌≤◌, ℕ, ◌+◌, Bool, List, [], length, map, take, Some}
+use Rattle.std.specs.Prelude.{◌≡◌, ◌⊎◌, ◌≤◌, ℕ, Bool, List, [], length, map, Some}
 use Rattle.dk_model.specs.declared.limits.Limits.{Limits}
 use Rattle.dk_model.specs.declared.code.Verdict.TheVariants as verdict
 use Rattle.dk_lexer.specs.Tokens.{Ending}
@@ -11,7 +11,7 @@ use Rattle.board_core.specs.Machine.{IsFinished, IsLegal, marks_of}
 use Rattle.verdict_book.specs.declared.outcome.Outcome.{Outcome}
 use Rattle.verdict_book.specs.declared.outcome.Outcome.TheVariants.{Stopped}
 use Rattle.file_report.specs.Outcomes.{no_theory, report_of_bytes}
-use Rattle.file_report.specs.Memory.{IsMemoryAt}
+use Rattle.file_report.specs.Memory.{IsCutByMemory}
 use Rattle.file_report.specs.Jobs.{Job, AreJobsFrom, due_of, is_early}
 use Rattle.file_report.specs.Ends.{IsReadersEnd}
 
@@ -26,12 +26,6 @@ pub record ChecksJobsOf {J : Type 0} (job_of : J → Job) (limits : Limits) (bud
 pub record ChecksFile {J : Type 0} (job_of : J → Job) (limits : Limits) (budget : ℕ) (bytes : List ℕ) (ending : Ending) (jobs : List (J × Bool)) (events : List Event) : Type 0 where
   pub checks : ChecksJobsOf job_of limits budget bytes ending jobs events
   pub ends : (e : End) → end_of events ≡ Some e → IsReadersEnd limits budget bytes ending (length jobs) e
-
--- the first `ok` lines of the bytes' own report, and that memory ended at the next command, at this line
-pub record IsCutByMemory (limits : Limits) (budget : ℕ) (bytes : List ℕ) (ending : Ending) (names : List (List ℕ)) (number line : ℕ) : Type 0 where
-  pub names_are : names ≡ take (length names) (report_of_bytes limits budget bytes ending).names
-  pub number_is : number ≡ length names + 1
-  pub memory : IsMemoryAt limits budget bytes ending (length names) line
 
 -- the line `memory 0 line 0` alone; or the report of the bytes up to where memory ended
 abbrev pub EndsInMemory : Limits → ℕ → List ℕ → Ending → List (List ℕ) → ℕ → ℕ → Type 0

@@ -1,19 +1,20 @@
 //! The report of a board's book: what its jobs and its end come to.
-ghost use Rattle.std.specs.Prelude.{◌≡◌, ◌↔◌, ◌<◌, ◌≤◌, ◌^◌, true, false, length, IsNone, IsSomeAnd};
+ghost use Rattle.std.specs.Prelude.{◌≡◌, ◌↔◌, ◌<◌, ◌≤◌, ◌^◌, ◌++◌, true, false, length, IsNone, IsSomeAnd};
 ghost use Rattle.std.specs.List.{list_any};
 ghost use Rattle.dk_io.specs.Writing.{Wrote};
 ghost use Rattle.dk_io.specs.Causes.{HasCause};
 ghost use Rattle.dk_io.specs.Gathered.{Gathers};
 ghost use Rattle.board_core.specs.Events.{end_of, is_fault, IsFirstFault};
 ghost use Rattle.board_core.specs.Machine.{IsFinished, marks_of};
-ghost use Rattle.verdict_book.specs.Report.{FileReport, ok_lines, report_of};
+ghost use Rattle.verdict_book.specs.Report.{FileReport, last_line, ok_lines, report_of};
+ghost use Rattle.verdict_book.specs.Pieces.{pieces_text};
 ghost use Rattle.verdict_book.specs.Books.{end_outcome, fault_of_end, fault_outcome, IsReportOf, IsWithoutFault, names_of};
 ghost use Rattle.verdict_book.specs.Places.{titled, total};
 ghost use Rattle.verdict_book.specs.Stops.{EndsByItself, IsFault, StopsAtFault};
 
 use crate::report::{put_last, put_ok};
 use crate::title::Place;
-use crate::{Outcome, Titles};
+use crate::{Outcome, Piece, Titles, put_pieces};
 use board_core::{Book, End};
 use dk_io::{Buffer, Failed, Sink};
 use dk_model::Verdict;
@@ -185,6 +186,46 @@ pub fn write_report<J, K: Sink>(
     let mut buffer = Buffer::new();
     match put_lines(&mut buffer, sink, names, shown, outcome, budget, quiet) {
         Ok(()) => buffer.flush(sink),
+        Err(failed) => Err(failed),
+    }
+}
+
+/// Writes these pieces, and the last line of a report behind them. Takes no memory.
+///
+/// After `Failed` the sink has taken a front of that.
+pub fn write_last<K: Sink>(
+    head: &[Piece<'_>],
+    outcome: Outcome,
+    budget: u64,
+    sink: &mut K,
+) -> Result<(), Failed>
+    requires { StopsAtFault outcome }
+    ensures wrote { Wrote (K.taken sink.old) (K.taken sink.new)
+        (pieces_text head.now ++ last_line outcome budget) result }
+    ensures cause { HasCause (K.faults sink.old) (K.faults sink.new) result }
+{
+    let mut lines = Buffer::new();
+    match put_behind(&mut lines, sink, head, outcome, budget) {
+        Ok(()) => lines.flush(sink),
+        Err(failed) => Err(failed),
+    }
+}
+
+// The pieces, and the last line behind them.
+fn put_behind<K: Sink>(
+    buffer: &mut Buffer,
+    sink: &mut K,
+    head: &[Piece<'_>],
+    outcome: Outcome,
+    budget: u64,
+) -> Result<(), Failed>
+    requires { StopsAtFault outcome }
+    ensures put { Gathers (K.taken sink.old) buffer.old (K.taken sink.new) buffer.new
+        (pieces_text head.now ++ last_line outcome budget) result }
+    ensures cause { HasCause (K.faults sink.old) (K.faults sink.new) result }
+{
+    match put_pieces(buffer, sink, head) {
+        Ok(()) => put_last(buffer, sink, outcome, budget),
         Err(failed) => Err(failed),
     }
 }

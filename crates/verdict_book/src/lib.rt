@@ -6,9 +6,10 @@ mod laws;
 mod outcome;
 mod pieces;
 mod report;
+pub mod status;
 mod title;
 
-pub use book::{first_fault, outcome_of, write_report};
+pub use book::{first_fault, outcome_of, write_last, write_report};
 pub use laws::{history_has_one_report, history_has_report};
 pub use outcome::Outcome;
 pub use pieces::{Piece, put_pieces};

@@ -2,6 +2,7 @@
 ghost use Rattle.std.specs.Prelude.{◌≡◌};
 ghost use Rattle.verdict_book.specs.Report.{status_of, stop_status};
 
+use crate::status;
 use dk_model::Verdict;
 
 /// How a file ends: the last line of its report.
@@ -21,9 +22,9 @@ impl Outcome {
         ensures { result ≡ status_of self }
     {
         match self {
-            Outcome::Accepted(_) => 0,
+            Outcome::Accepted(_) => status::ACCEPTED,
             Outcome::Stopped(_, _, verdict) => stopped(verdict),
-            Outcome::Unread(_) => 3,
+            Outcome::Unread(_) => status::UNREAD,
         }
     }
 }
@@ -32,9 +33,9 @@ fn stopped(verdict: Verdict) -> u8
     ensures { result ≡ stop_status verdict }
 {
     match verdict {
-        Verdict::Accepted => 0,
-        Verdict::Refused(_) => 1,
-        Verdict::Memory => 4,
-        Verdict::Ended => 6,
+        Verdict::Accepted => status::ACCEPTED,
+        Verdict::Refused(_) => status::REFUSED,
+        Verdict::Memory => status::MEMORY,
+        Verdict::Ended => status::BUDGET,
     }
 }

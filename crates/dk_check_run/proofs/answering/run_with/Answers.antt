@@ -1,0 +1,13 @@
+use Rattle.std.proofs.Common.{sym}
+use Rattle.command_line.specs.Requests.{to_check, to_make}
+use Rattle.command_line.specs.Views.{plain_check, plain_make}
+use Rattle.dk_check_run.specs.Rows.{of_command}
+use Rattle.dk_check_run.specs.Run.{shelf_of}
+use Rattle.dk_check_run.proofs.answering.run_with.Goals as goal
+
+pub returns-in-Check : goal.returns-in-Check
+returns-in-Check g c = of_command (to_check (plain_check c.in-Check.request)) (sym (rw (c.in-Ok-Some.field-0-is, c.in-Check.is) at c.in-Ok-Some.ensures.ok)) c.check_file.ensures
+
+pub returns-in-Make : goal.returns-in-Make
+returns-in-Make g c =
+    of_command (to_make (plain_make c.in-Make.request)) (sym (rw (c.in-Ok-Some.field-0-is, c.in-Make.is) at c.in-Ok-Some.ensures.ok)) (c.check_theory.ensures (shelf_of g.H.Shelf c.args.shelf.now))

@@ -1,0 +1,21 @@
+-- Trusted: the table of the commands, a line for each.
+use Rattle.std.specs.Prelude.{◌≡◌, ℕ, Option}
+use Rattle.dk_model.specs.declared.limits.Limits.{Limits}
+use Rattle.command_line.specs.Requests.{Request, to_check, to_make}
+use Rattle.file_check.specs.Shelves.{ShelfState}
+use Rattle.dk_check_run.specs.Run.{SinkState}
+use Rattle.dk_check_run.specs.Check as check
+use Rattle.dk_check_run.specs.Make as make
+use Rattle.dk_check_run.specs.Rows.{Answers, Row, WritesRow}
+
+abbrev pub rows_of : Limits → Request → Row
+rows_of limits (to_check q) old new cause status text = check.IsDue limits q old new cause status text
+rows_of limits (to_make q) old new cause status text = (new ≡ old) × make.IsDue limits q cause status text
+
+-- a row of the command was written
+abbrev pub RunsCommand : Limits → Request → ShelfState → ShelfState → SinkState → SinkState → ℕ → Type 0
+RunsCommand limits c = WritesRow (rows_of limits c)
+
+-- what `run` answers
+abbrev pub Runs : Limits → Option Request → ShelfState → ShelfState → SinkState → SinkState → ℕ → Type 0
+Runs limits = Answers (rows_of limits)
