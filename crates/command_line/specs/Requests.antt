@@ -66,7 +66,8 @@ make_in rows = option_and_then (λ count. option_and_then (λ workers. option_ma
 abbrev pub request_in : Text × List Row → Option Request
 request_in found =
     if bytes_eq found.0 (codes "make") then option_map to_make (make_in found.1)
-    else option_map to_check (check_in found.1)
+    else if bytes_eq found.0 (codes "check") then option_map to_check (check_in found.1)
+    else None
 
 -- the request, where no fault stands against it
 abbrev pub unless_fault : Kinds → Option Request → Option Request

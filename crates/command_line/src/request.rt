@@ -83,11 +83,13 @@ fn request_in<'a>(name: &str, found: &ArgMatches<'a>) -> Option<Request<'a>>
             Some(request) => Some(Request::Make(request)),
             None => None,
         }
-    } else {
+    } else if name == "check" {
         match check_in(found) {
             Some(request) => Some(Request::Check(request)),
             None => None,
         }
+    } else {
+        None
     }
 }
 

@@ -17,13 +17,18 @@ abbrev pub fault_outcome : ℕ → ℕ → Verdict → Outcome
 fault_outcome count line verdict.Memory = if line == 0 then Stopped 0 0 verdict.Memory else Stopped (count + 1) line verdict.Memory
 fault_outcome count line v = Stopped (count + 1) line v
 
+-- stands for the outcome of a history that isn't finished: none of its jobs is at fault, and it has no end, or one that only
+-- a job at fault makes
+abbrev pub unfinished : ℕ → Outcome
+unfinished count = Unread (count + 1)
+
 -- the outcome by the end behind so many jobs, where none of them is at fault; a finished history then has one of the first three
 abbrev pub end_outcome : ℕ → Option End → Outcome
 end_outcome count (Some end.Whole) = Accepted count
 end_outcome count (Some end.Unread) = Unread (count + 1)
 end_outcome count (Some (end.Fault line v)) = fault_outcome count line v
-end_outcome count (Some end.Stopped) = Unread (count + 1)
-end_outcome count None = Unread (count + 1)
+end_outcome count (Some end.Stopped) = unfinished count
+end_outcome count None = unfinished count
 
 abbrev pub names_of : List Title → List (List ℕ)
 names_of titles = map (λ (t : Title). t.name) titles

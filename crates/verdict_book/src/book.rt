@@ -71,7 +71,8 @@ fn own_outcome(count: u32, end: Option<End>) -> Outcome
         Some(End::Whole) => Outcome::Accepted(count),
         Some(End::Unread) => Outcome::Unread(count + 1),
         Some(End::Fault(line, verdict)) => reader_outcome(count, line, verdict),
-        _ => unreachable!(),
+        Some(End::Stopped) => unreachable!(),
+        None => unreachable!(),
     }
 }
 
