@@ -1,4 +1,4 @@
--- Tests on single events, and what a list of events says of a number.
+-- For callers: tests on single events, and what a list of events says of a number.
 use Rattle.std.specs.Prelude.{◌≡◌, ℕ, ◌≤◌, Bool, true, false, not, ◌&&◌, ◌==◌, List, [], ◌∷◌, slice_index_or, count_by, cond, ◌-◌, Option, Some, None}
 use Rattle.std.specs.List.{list_any}
 use Rattle.dk_model.specs.declared.code.Verdict.{Verdict}

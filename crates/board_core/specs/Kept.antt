@@ -1,4 +1,4 @@
--- What the fields of a book say of its jobs and its history.
+-- For proofs: what the fields of a book say of its jobs and its history.
 use Rattle.std.specs.Prelude.{◌≡◌, ℕ, ◌+◌, ◌-◌, ◌*◌, ◌^◌, ◌<◌, ◌≤◌, Bool, true, false, ◌==◌, List, [], ◌∷◌, length, map, slice_get, slice_index_or, cond, count_by, is_none, vec_len, vec_capacity, Option, Some, None}
 use Rattle.std.specs.List.{list_any}
 use Rattle.std.specs.Arc.{arc_value}

@@ -1,5 +1,5 @@
--- The board machine: which event may come after a list of events, at a list of jobs, of which each
--- was put as settled or not (docs/board.md).
+-- For callers: the board machine: which event may come after a list of events, at a list of jobs, of which each was
+-- put as settled or not (docs/board.md).
 use Rattle.std.specs.Prelude.{◌≡◌, ◌⊎◌, ℕ, ◌+◌, ◌-◌, ◌<◌, ◌≤◌, Bool, true, false, List, [], ◌∷◌, ◌++◌, length, map, All, slice_get, Some}
 use Rattle.std.specs.List.{list_any}
 use Rattle.dk_model.specs.declared.code.Verdict.{Verdict}

@@ -1,4 +1,4 @@
--- What the parts of a book's calls answer.
+-- For proofs: what the parts of a book's calls answer.
 use Rattle.std.specs.Prelude.{◌≡◌, ℕ, Bool, true, false, List, [], ◌∷◌, nat_le, if◌then◌else◌, Option, Some, None}
 use Rattle.std.specs.Arc.{arc_value}
 use Rattle.dk_model.specs.declared.code.Verdict.{Verdict}

@@ -1,4 +1,4 @@
--- The room for one more job.
+-- For proofs: the room for one more job.
 use Rattle.std.specs.Prelude.{◌≡◌, ℕ, ◌+◌, ◌*◌, ◌≤◌, [], vec_capacity}
 use Rattle.std.specs.VecDeque.{deque_capacity}
 use Rattle.board_core.specs.declared.room.Lists.{Lists}

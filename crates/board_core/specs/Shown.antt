@@ -1,4 +1,4 @@
--- A book as contracts see it, and what its calls answer.
+-- For callers: a book as contracts see it, and what its calls answer.
 use Rattle.std.specs.Prelude.{◌≡◌, ℕ, ◌-◌, ◌⊎◌, true, false, Bool, List, [], ◌∷◌, ◌++◌, map, take, slice_get, Some}
 use Rattle.std.specs.List.{list_any}
 use Rattle.std.specs.Arc.{arc_value}

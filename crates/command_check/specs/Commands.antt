@@ -1,4 +1,4 @@
--- A command whose terms are stored, as plain data, and the entry that a command adds.
+-- For callers: a command whose terms are stored, as plain data, and the entry that a command adds.
 use Rattle.std.specs.Prelude.{◌≡◌, Option, map}
 use Rattle.dk_model.specs.Trees.{Tree}
 use Rattle.dk_model.specs.Signatures.{PlainEntry, PlainSignature, maybe_by}

@@ -1,4 +1,4 @@
--- What the calls answer, and what an accepted command means.
+-- For proofs: what the calls answer, and what an accepted command means.
 use Rattle.std.specs.Prelude.{ℕ, ◌≡◌, Result, Ok, Err, List, map}
 use Rattle.dk_model.specs.Trees.{Tree}
 use Rattle.dk_model.specs.Signatures.{PlainRule, PlainSignature, plain_rule, rule_by}

@@ -1,4 +1,4 @@
--- The facts that the contracts of this crate state, over a version and a reducer before and after a call.
+-- For proofs: the facts that the contracts of this crate state, over a version and a reducer before and after a call.
 use Rattle.std.specs.Prelude.{ℕ, ◌≡◌, ◌<◌, Option, Bool, Result, Ok, List, drop, length}
 use Rattle.std.specs.declared.vec.Vec.{Vec}
 use Rattle.std.specs.declared.alloc.Global.{Global}

@@ -1,4 +1,4 @@
--- What takes the place of the variables of a term of a pool.
+-- For proofs: what takes the place of the variables of a term of a pool.
 use Rattle.std.specs.Prelude.{ℕ, ◌<◌, List}
 use Rattle.dk_model.specs.Trees.{Tree}
 use Rattle.dk_model.specs.Captures.{filled}

@@ -1,4 +1,4 @@
--- What an evaluation gives, by the cases of its result. Want of memory says nothing.
+-- For proofs: what an evaluation gives, by the cases of its result. Want of memory says nothing.
 use Rattle.std.specs.Prelude.{ℕ, ◌≡◌, ◌<◌, Some, None, Bool, Result, Ok, Err, List, length}
 use Rattle.dk_model.specs.Trees.{Tree}
 use Rattle.dk_model.specs.Units.{Units}

@@ -1,4 +1,4 @@
--- How the evaluating code holds a term of a pool: its head beside a stack of arguments.
+-- For proofs: how the evaluating code holds a term of a pool: its head beside a stack of arguments.
 use Rattle.std.specs.Prelude.{Bool, true, false}
 use Rattle.dk_model.specs.Trees.{Tree, symbol, apply, bare}
 use Rattle.dk_model.specs.Matrix.{Column}

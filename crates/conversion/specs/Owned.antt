@@ -1,4 +1,4 @@
--- What stands for a term of a pool.
+-- For proofs: what stands for a term of a pool.
 use Rattle.std.specs.Prelude.{◌<◌, length}
 use Rattle.dk_model.specs.Trees.{Tree}
 use Rattle.shared_term.specs.declared.id.TermId.{TermId}

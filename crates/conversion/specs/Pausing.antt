@@ -1,4 +1,4 @@
--- Selections over terms of a pool, and those that wait for the value of a column.
+-- For proofs: selections over terms of a pool, and those that wait for the value of a column.
 use Rattle.std.specs.Prelude.{ℕ, ◌≡◌, ◌<◌, Option, List, [], ◌∷◌}
 use Rattle.dk_model.specs.Trees.{Tree, symbol}
 use Rattle.dk_model.specs.Signatures.{PlainRule, PlainSignature}

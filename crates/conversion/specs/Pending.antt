@@ -1,4 +1,4 @@
--- What a comparison has still to do: a stack of steps, the next one on top.
+-- For proofs: what a comparison has still to do: a stack of steps, the next one on top.
 use Rattle.std.specs.Prelude.{ℕ, ◌≡◌, ◌<◌, ◌≤◌, Option, Some, None, Bool, false, Result, Ok, Err, List, [], ◌∷◌, ◌++◌, length, if◌then◌else◌}
 use Rattle.dk_model.specs.Trees.{Tree}
 use Rattle.dk_model.specs.Signatures.{PlainSignature}

@@ -1,4 +1,4 @@
--- That what a reducer remembers is so, over one signature.
+-- For proofs: that what a reducer remembers is so, over one signature.
 use Rattle.std.specs.Prelude.{◌≡◌, ℕ, ◌<◌, Option, Some, None, List, [], length, get_or, slice_get}
 use Rattle.dk_model.specs.Trees.{Tree, star}
 use Rattle.dk_model.specs.Signatures.{PlainRule, PlainSignature}

@@ -1,4 +1,4 @@
--- The rules of a symbol, as the evaluating code holds them.
+-- For proofs: the rules of a symbol, as the evaluating code holds them.
 use Rattle.dk_model.specs.Signatures.{Pattern, PlainRule, pattern_by}
 use Rattle.dk_model.specs.declared.signature.Pat.{Pat}
 use Rattle.shared_term.specs.Storage.{stored_term}

@@ -1,4 +1,4 @@
--- The trees that a reducer keeps.
+-- For proofs: the trees that a reducer keeps.
 use Rattle.std.specs.Prelude.{List, [], ◌∷◌}
 use Rattle.dk_model.specs.Signatures.{PlainSignature}
 use Rattle.dk_model.specs.SymbolRules.{rules_of}

@@ -1,4 +1,4 @@
--- What a turn of the weak head form gives, by the cases of its result. Want of memory says nothing.
+-- For proofs: what a turn of the weak head form gives, by the cases of its result. Want of memory says nothing.
 use Rattle.std.specs.Prelude.{ℕ, ◌≡◌, ◌<◌, Some, None, Result, Ok, Err, List, [], length}
 use Rattle.std.specs.declared.vec.Vec.{Vec}
 use Rattle.std.specs.declared.alloc.Global.{Global}

@@ -1,4 +1,4 @@
--- What waits for the normal form of a part: a stack of frames, the innermost one on top.
+-- For proofs: what waits for the normal form of a part: a stack of frames, the innermost one on top.
 use Rattle.std.specs.Prelude.{ℕ, ◌≡◌, ◌<◌, ◌≤◌, Some, None, Result, Ok, Err, List, [], ◌∷◌, length}
 use Rattle.dk_model.specs.Trees.{Tree, apply, bare, annotated, product}
 use Rattle.dk_model.specs.Signatures.{PlainSignature}

@@ -1,4 +1,4 @@
--- What a call on a command asks for and may answer, beside the verdict that is due.
+-- For callers: what a call on a command asks for and may answer, beside the verdict that is due.
 use Rattle.std.specs.Prelude.{Bool, true, false, ◌≡◌, Some, None}
 use Rattle.dk_model.specs.PlainCommands.{PlainCommand, declare, rule_command}
 use Rattle.dk_model.specs.declared.code.Verdict.{Verdict}

@@ -1,4 +1,4 @@
--- Which variables a tree mentions.
+-- For callers: which variables a tree mentions.
 use Rattle.std.specs.Prelude.{ℕ, ◌+◌, ◌<◌}
 use Rattle.dk_model.specs.PlainTerms.{Tree, star, kind, symbol, variable, rule_variable, apply, bare, annotated, product}
 

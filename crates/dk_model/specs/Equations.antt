@@ -1,4 +1,4 @@
--- What a law says: the rules of evaluation as equations without fuel (docs/evaluation.md).
+-- For callers: what a law says: the rules of evaluation as equations without fuel (docs/evaluation.md).
 use Rattle.std.specs.Prelude.{ℕ, suc, ◌+◌, ◌*◌, ◌≡◌, Option, Some, None, Bool, true, false, List, if◌then◌else◌}
 use Rattle.dk_model.specs.PlainTerms.{Tree}
 use Rattle.dk_model.specs.Substitution.{equal}

@@ -1,4 +1,4 @@
--- Why an evaluation or a typing gave no answer.
+-- For proofs: why an evaluation or a typing gave no answer.
 use Rattle.dk_model.specs.declared.stop.Stop.{Stop}
 use Rattle.dk_model.specs.declared.stop.Stop.TheVariants.{Ended as Over, NoMemory as NoRoom}
 use Rattle.dk_model.specs.declared.stop.TypeFault.{TypeFault}

@@ -1,4 +1,4 @@
--- What a computation takes, which makes a remembered answer exact.
+-- For callers: what a computation takes, which makes a remembered answer exact.
 use Rattle.std.specs.Prelude.{◌≡◌, ◌≤◌, ◌<◌, ◌-◌, ℕ, Some, None}
 use Rattle.dk_model.specs.Units.{Units}
 

@@ -1,4 +1,5 @@
--- Well-formed signatures: each entry is one that a command can add to those before it (Saillard 2015, global contexts).
+-- For callers: well-formed signatures: each entry is one that a command can add to those before it (Saillard 2015,
+-- global contexts).
 use Rattle.std.specs.Prelude.{ℕ, ◌≡◌, Option, Some, None, Ok, List, map, take, slice_get}
 use Rattle.dk_model.specs.Erasure.{IsPlain}
 use Rattle.dk_model.specs.PlainTerms.{Tree}

@@ -1,4 +1,4 @@
--- How the reader of a file ends, behind the jobs that it put (docs/board.md).
+-- For proofs: how the reader of a file ends, behind the jobs that it put (docs/board.md).
 use Rattle.std.specs.Prelude.{◌≡◌, ◌⊎◌, ℕ, ◌+◌, List, [], take, drop}
 use Rattle.dk_model.specs.declared.limits.Limits.{Limits}
 use Rattle.dk_model.specs.declared.code.Verdict.TheVariants as verdict

@@ -1,4 +1,4 @@
--- The histories in which a file is checked, and the report that is due (docs/board.md).
+-- For callers: the histories in which a file is checked, and the report that is due (docs/board.md).
 use Rattle.std.specs.Prelude.{◌≡◌, ◌⊎◌, ◌≤◌, ℕ, Bool, List, [], length, map, Some}
 use Rattle.dk_model.specs.declared.limits.Limits.{Limits}
 use Rattle.dk_model.specs.declared.code.Verdict.TheVariants as verdict

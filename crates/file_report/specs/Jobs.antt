@@ -1,4 +1,4 @@
--- The jobs of a file: its commands, each over the commands before it (docs/board.md).
+-- For callers: the jobs of a file: its commands, each over the commands before it (docs/board.md).
 use Rattle.std.specs.Prelude.{◌≡◌, ℕ, Bool, List, [], ◌∷◌, map}
 use Rattle.dk_model.specs.Signatures.{PlainSignature}
 use Rattle.dk_model.specs.Scoping.{PlainCommand}

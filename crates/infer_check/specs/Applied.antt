@@ -1,4 +1,4 @@
--- The type of a function that has been applied, with arguments that are still to be put into it.
+-- For proofs: the type of a function that has been applied, with arguments that are still to be put into it.
 use Rattle.std.specs.Prelude.{ℕ, ◌≡◌, Result, Ok, Err, map}
 use Rattle.dk_model.specs.Trees.{Tree}
 use Rattle.dk_model.specs.Typing.{Judged, answer}

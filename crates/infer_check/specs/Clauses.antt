@@ -1,4 +1,4 @@
--- What each step of typing gives.
+-- For proofs: what each step of typing gives.
 use Rattle.std.specs.Prelude.{ℕ, Result}
 use Rattle.dk_model.specs.Trees.{Tree}
 use Rattle.dk_model.specs.Signatures.{PlainSignature}

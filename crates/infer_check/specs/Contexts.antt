@@ -1,4 +1,4 @@
--- A context as trees, and that its types are a reducer's.
+-- For callers: a context as trees, and that its types are a reducer's.
 use Rattle.std.specs.Prelude.{List, [], ◌∷◌, ◌++◌, map}
 use Rattle.dk_model.specs.Trees.{Tree}
 use Rattle.signature_log.specs.Reducers.{AreOwned}

@@ -1,4 +1,4 @@
--- The outermost node of a weak head form.
+-- For proofs: the outermost node of a weak head form.
 use Rattle.std.specs.Prelude.{ℕ, ◌≡◌, Bool, true, false, Result, Ok, Err, Some, None}
 use Rattle.dk_model.specs.Trees.{Tree}
 use Rattle.dk_model.specs.Units.{Units}

@@ -1,4 +1,4 @@
--- What a step of typing answers, beside what is due.
+-- For callers: what a step of typing answers, beside what is due.
 use Rattle.std.specs.Prelude.{ℕ, ◌≡◌, Result, Ok, Err}
 use Rattle.dk_model.specs.Trees.{Tree}
 use Rattle.dk_model.specs.Typing.{Judged, answer, refused, ended}

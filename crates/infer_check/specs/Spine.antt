@@ -1,4 +1,4 @@
--- Applications along their arguments, and the size of a term.
+-- For proofs: applications along their arguments, and the size of a term.
 use Rattle.std.specs.Prelude.{ℕ, ◌+◌, Bool, true, false, List, [], ◌∷◌}
 use Rattle.dk_model.specs.Trees.{Tree, apply, bare, annotated, product}
 use Rattle.dk_model.specs.Signatures.{PlainSignature}

@@ -1,4 +1,4 @@
--- From one state of a reducer to a later one, and what a walk needs and keeps.
+-- For proofs: from one state of a reducer to a later one, and what a walk needs and keeps.
 use Rattle.std.specs.Prelude.{◌≡◌, ◌≤◌}
 use Rattle.dk_model.specs.Trees.{Tree}
 use Rattle.dk_model.specs.Signatures.{PlainSignature}

@@ -1,4 +1,4 @@
--- What the calls answer, by the cases of the result. Want of memory says nothing.
+-- For proofs: what the calls answer, by the cases of the result. Want of memory says nothing.
 use Rattle.std.specs.Prelude.{◌≡◌, Result, Ok, Err, List, map}
 use Rattle.dk_model.specs.Signatures.{PlainRule, plain_rule, plain_signature}
 use Rattle.dk_model.specs.Scoping.{plain_scoped_rule}

@@ -1,4 +1,4 @@
--- Marks of rule variables: a list with a Bool for each rule variable of a rule.
+-- For proofs: marks of rule variables: a list with a Bool for each rule variable of a rule.
 use Rattle.std.specs.Prelude.{ℕ, Option, Some, None, Bool, true, false, ◌&&◌, List, [], ◌∷◌, map, slice_set, slice_index_or}
 use Rattle.dk_model.specs.Trees.{Tree, tree, rule_variable, apply, bare, annotated, product}
 use Rattle.dk_model.specs.Signatures.{Pattern, Patterns, no_patterns, more_patterns, rule_variable_pattern, wildcard_pattern, guard_pattern, symbol_pattern, variable_pattern, abstraction_pattern, pattern, maybe_tree}

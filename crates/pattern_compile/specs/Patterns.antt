@@ -1,4 +1,4 @@
--- Patterns as a list, and the head of a left side.
+-- For proofs: patterns as a list, and the head of a left side.
 use Rattle.std.specs.Prelude.{ℕ, Option, Some, None, Bool, true, false, List, [], ◌∷◌, map}
 use Rattle.dk_model.specs.Signatures.{Pattern, Patterns, no_patterns, more_patterns, variable_pattern, pattern}
 use Rattle.dk_model.specs.Scoping.{PlainLeft, left_apply}

@@ -1,4 +1,4 @@
--- The facts that the contracts of this crate state, over the program's own types.
+-- For proofs: the facts that the contracts of this crate state, over the program's own types.
 use Rattle.std.specs.Prelude.{ℕ, Option}
 use Rattle.dk_model.specs.Trees.{Tree}
 use Rattle.dk_model.specs.Signatures.{plain_signature}

@@ -1,4 +1,4 @@
--- What each step of rule typing gives in a context.
+-- For proofs: what each step of rule typing gives in a context.
 use Rattle.std.specs.Prelude.{ℕ, List, [], Result, map}
 use Rattle.dk_model.specs.Trees.{Tree}
 use Rattle.dk_model.specs.Signatures.{Pattern, Patterns, PlainRule, PlainSignature}

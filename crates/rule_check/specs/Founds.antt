@@ -1,4 +1,4 @@
--- What a walk has found, as terms, and that its values are a reducer's.
+-- For proofs: what a walk has found, as terms, and that its values are a reducer's.
 use Rattle.std.specs.Prelude.{◌≡◌, List, [], ◌∷◌, Option, Some, None, map}
 use Rattle.dk_model.specs.Trees.{Tree}
 use Rattle.dk_model.specs.Signatures.{maybe_by}

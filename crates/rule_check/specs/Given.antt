@@ -1,4 +1,4 @@
--- What a step of a walk answers, beside what is due.
+-- For proofs: what a step of a walk answers, beside what is due.
 use Rattle.std.specs.Prelude.{ℕ, ◌≡◌, Option, Some, None, Result, Ok, Err, List, map}
 use Rattle.dk_model.specs.Trees.{Tree, apply}
 use Rattle.dk_model.specs.Typing.{Judged, answer}

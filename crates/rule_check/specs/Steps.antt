@@ -1,4 +1,4 @@
--- Stages of the definition of rule typing.
+-- For proofs: stages of the definition of rule typing.
 use Rattle.std.specs.Prelude.{ℕ, List, Option, Some, None, [], length, slice_get}
 use Rattle.dk_model.specs.Trees.{Tree, variable, apply}
 use Rattle.dk_model.specs.Substitution.{shift, substitute}

@@ -1,4 +1,5 @@
--- What the nodes of a tree stand for: the rows that are left once the columns before have had their values.
+-- For proofs: what the nodes of a tree stand for: the rows that are left once the columns before have had their
+-- values.
 use Rattle.std.specs.Prelude.{ℕ, ◌≡◌, Some, List, [], ◌∷◌, map, drop, slice_get}
 use Rattle.dk_model.specs.Signatures.{PlainRule}
 use Rattle.dk_model.specs.Matrix.{Row}

@@ -1,4 +1,4 @@
--- How the code holds columns of terms, and a term as a head beside a stack of arguments.
+-- For callers: how the code holds columns of terms, and a term as a head beside a stack of arguments.
 use Rattle.std.specs.Prelude.{ℕ, zero, suc, ◌≡◌, ◌<◌, ◌+◌, Bool, true, false, List, [], ◌∷◌, ◌++◌, map, take, drop, length}
 use Rattle.dk_model.specs.Trees.{Tree, apply}
 use Rattle.dk_model.specs.Spines.{head, arguments}

@@ -1,4 +1,4 @@
--- The rows of a node by head: for some heads the rows that are kept for each.
+-- For proofs: the rows of a node by head: for some heads the rows that are kept for each.
 use Rattle.std.specs.Prelude.{ℕ, ◌≡◌, Bool, List, [], ◌∷◌, map}
 use Rattle.dk_model.specs.Signatures.{PlainRule}
 use Rattle.dk_model.specs.Matrix.{Row}

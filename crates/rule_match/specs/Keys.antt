@@ -1,4 +1,5 @@
--- The heads that patterns tell apart, and the rows that are kept where a column's value has such a head (docs/evaluation.md).
+-- For proofs: the heads that patterns tell apart, and the rows that are kept where a column's value has such a head
+-- (docs/evaluation.md).
 use Rattle.std.specs.Prelude.{ℕ, ◌+◌, Bool, true, false, ◌&&◌, List, [], ◌∷◌, ◌++◌, take, drop, replicate, eqb, nat_lt, length, map, if◌then◌else◌}
 use Rattle.dk_model.specs.Trees.{Tree, symbol, variable, bare}
 use Rattle.dk_model.specs.Signatures.{symbol_pattern, variable_pattern, abstraction_pattern, pattern_list}

@@ -1,4 +1,4 @@
--- What a matcher stands for: what is left of a selection, and what it asks for next.
+-- For callers: what a matcher stands for: what is left of a selection, and what it asks for next.
 use Rattle.std.specs.Prelude.{ℕ, ◌≡◌, ◌<◌, ◌+◌, ◌^◌, Option, Some, None, Bool, true, false, List, map, length, take, drop}
 use Rattle.dk_model.specs.Trees.{Tree}
 use Rattle.dk_model.specs.Signatures.{PlainRule, PlainSignature}

@@ -1,4 +1,4 @@
--- The rows that are left of a selection, as the code holds them.
+-- For proofs: the rows that are left of a selection, as the code holds them.
 use Rattle.std.specs.Prelude.{ℕ, ◌≡◌, ◌<◌, ◌≤◌, List, [], ◌∷◌, length, map, drop}
 use Rattle.dk_model.specs.Signatures.{PlainRule}
 use Rattle.dk_model.specs.Matrix.{rows_for, width}

@@ -1,4 +1,4 @@
--- How the code holds rows, as the plain data of a selection (docs/evaluation.md).
+-- For callers: how the code holds rows, as the plain data of a selection (docs/evaluation.md).
 use Rattle.std.specs.Prelude.{ℕ, ◌≡◌, ◌<◌, List, [], ◌∷◌, ◌++◌, map, get_or}
 use Rattle.std.specs.declared.vec.Vec.{Vec}
 use Rattle.std.specs.declared.alloc.Global.{Global}

@@ -1,4 +1,4 @@
--- The left sides of a symbol's rules, as the code holds them.
+-- For callers: the left sides of a symbol's rules, as the code holds them.
 use Rattle.std.specs.Prelude.{ℕ, ◌≡◌, List, [], ◌∷◌, map, length, max}
 use Rattle.dk_model.specs.Signatures.{PlainRule}
 use Rattle.dk_model.specs.Matrix.{cell}

@@ -1,4 +1,4 @@
--- Where a selection stands while a row is tried: what is left of it (docs/evaluation.md).
+-- For proofs: where a selection stands while a row is tried: what is left of it (docs/evaluation.md).
 use Rattle.std.specs.Prelude.{ℕ, ◌+◌, Option, Some, None, Bool, false, List, ◌∷◌, ◌++◌, slice_set, take, drop, length, if◌then◌else◌}
 use Rattle.dk_model.specs.Trees.{Tree}
 use Rattle.dk_model.specs.Signatures.{PlainSignature, rule_variable_pattern}

@@ -1,4 +1,5 @@
--- A tree of tests for the rules of a symbol: its nodes stand for the rows that are left, and the first one for all rows.
+-- For callers: a tree of tests for the rules of a symbol: its nodes stand for the rows that are left, and the first
+-- one for all rows.
 use Rattle.std.specs.Prelude.{◌≡◌, IfSome, List}
 use Rattle.dk_model.specs.Signatures.{PlainRule}
 use Rattle.dk_model.specs.Matrix.{rows_for}

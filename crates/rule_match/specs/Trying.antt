@@ -1,4 +1,4 @@
--- What the code that tries a row gives: how far it goes, and what is left to be asked.
+-- For proofs: what the code that tries a row gives: how far it goes, and what is left to be asked.
 use Rattle.std.specs.Prelude.{ℕ, ◌≡◌, ◌<◌, ◌+◌, Option, Some, None, Bool, true, List, map, length, get_or, slice_set}
 use Rattle.dk_model.specs.Trees.{Tree, star}
 use Rattle.dk_model.specs.Substitution.{shift}

@@ -1,4 +1,4 @@
--- Where the walk stands that makes a term of boxes of what a list of nodes spells.
+-- For proofs: where the walk stands that makes a term of boxes of what a list of nodes spells.
 use Rattle.std.specs.Prelude.{◌≡◌, ℕ, ◌<◌, List, [], ◌∷◌, length}
 use Rattle.dk_model.specs.Trees.{Tree, tree}
 use Rattle.dk_model.specs.declared.term.Term.{Term}

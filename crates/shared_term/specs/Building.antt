@@ -1,4 +1,4 @@
--- A walk that builds a term from its parts: what waits, and how much is left to do.
+-- For proofs: a walk that builds a term from its parts: what waits, and how much is left to do.
 use Rattle.std.specs.Prelude.{ℕ, ◌+◌, List, [], ◌∷◌}
 use Rattle.dk_model.specs.Trees.{Tree, apply, bare, annotated, product}
 use Rattle.shared_term.specs.declared.building.Waiting.{Waiting}

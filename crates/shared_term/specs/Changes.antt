@@ -1,4 +1,4 @@
--- What a walk makes of a term: each change is a function of trees, by the number of binders above.
+-- For callers: what a walk makes of a term: each change is a function of trees, by the number of binders above.
 use Rattle.std.specs.Prelude.{ℕ, ◌+◌, ◌<◌, List, [], ◌∷◌, length, map, eqb, slice_get, Option, Some, None, Bool, nat_lt, not, ◌&&◌, ◌-◌, if◌then◌else◌}
 use Rattle.dk_model.specs.Trees.{Tree, apply, annotated, product, variable, bare}
 use Rattle.dk_model.specs.Substitution.{shift, substitute}

@@ -1,4 +1,4 @@
--- What a memo remembers.
+-- For proofs: what a memo remembers.
 use Rattle.std.specs.Prelude.{◌≡◌, ℕ, ◌<◌, Some, slice_get, length, List}
 use Rattle.shared_term.specs.declared.id.TermId.{TermId}
 use Rattle.shared_term.specs.declared.change.Goal.{Goal}

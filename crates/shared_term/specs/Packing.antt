@@ -1,4 +1,4 @@
--- The nodes of a stored term, as they stand in memory.
+-- For proofs: the nodes of a stored term, as they stand in memory.
 use Rattle.std.specs.Prelude.{List, [], ◌∷◌, map, Some, None}
 use Rattle.dk_model.specs.declared.NodeOf.TheVariants as node
 use Rattle.shared_term.specs.declared.id.TermId.{TermId}

@@ -1,4 +1,4 @@
--- Where the walk stands that spells a term of boxes in a list of nodes.
+-- For proofs: where the walk stands that spells a term of boxes in a list of nodes.
 use Rattle.std.specs.Prelude.{◌≡◌, ℕ, ◌<◌, Bool, List, [], ◌∷◌, length, if◌then◌else◌}
 use Rattle.std.specs.Borrow.{Bor}
 use Rattle.dk_model.specs.Trees.{Tree, tree}

@@ -1,4 +1,4 @@
--- A term in a list of its own nodes.
+-- For callers: a term in a list of its own nodes.
 use Rattle.std.specs.Prelude.{◌≡◌, ℕ, ◌<◌, ◌≤◌, Bool, true, List, length, get_or, slice_get, Some, None}
 use Rattle.dk_model.specs.Trees.{Tree, star}
 use Rattle.dk_model.specs.declared.NodeOf.TheVariants.{Star, Kind, Sym, Var, Rvar, App, Abs, Prod}

@@ -1,4 +1,4 @@
--- What is known of a term without a look at its parts.
+-- For proofs: what is known of a term without a look at its parts.
 use Rattle.std.specs.Prelude.{◌≡◌, ℕ, ◌+◌, ◌-◌, ◌<◌, max, true, false, ◌||◌, List, length, get_or, Some, None}
 use Rattle.dk_model.specs.Trees.{Tree, star, kind, symbol, variable, rule_variable, apply, bare, annotated, product}
 use Rattle.dk_model.specs.Bounds.{IsClosedAt}

@@ -1,4 +1,4 @@
--- Where a walk stands: the frames that wait, and how much is left to do.
+-- For proofs: where a walk stands: the frames that wait, and how much is left to do.
 use Rattle.std.specs.Prelude.{◌≡◌, ℕ, ◌+◌, ◌<◌, ◌≤◌, List, [], ◌∷◌, length, Option, Some, None}
 use Rattle.dk_model.specs.Trees.{Tree, variable, apply, bare, annotated, product}
 use Rattle.shared_term.specs.declared.id.TermId.{TermId}

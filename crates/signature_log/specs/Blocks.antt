@@ -1,4 +1,4 @@
--- Blocks in a row, as one list of places.
+-- For proofs: blocks in a row, as one list of places.
 use Rattle.std.specs.Prelude.{ℕ, ◌-◌, ◌*◌, min, ◌≡◌, ◌<◌, ◌≤◌, ◌^◌, List, [], ◌∷◌, length}
 use Rattle.std.specs.List.{flat_map}
 

@@ -1,4 +1,4 @@
--- Values in links, each behind those before it.
+-- For proofs: values in links, each behind those before it.
 use Rattle.std.specs.Prelude.{Option, Some, None, List, [], ◌∷◌, ◌++◌}
 use Rattle.std.specs.declared.sync.Arc.{Arc}
 use Rattle.signature_log.specs.declared.chain.Link.{Link}

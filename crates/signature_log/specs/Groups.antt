@@ -1,4 +1,4 @@
--- The entries of a version: whole groups in blocks, and the last ones in a chain.
+-- For proofs: the entries of a version: whole groups in blocks, and the last ones in a chain.
 use Rattle.std.specs.Prelude.{ℕ, ◌≡◌, ◌<◌, ◌≤◌, List, ◌++◌, length}
 use Rattle.std.specs.List.{All, flat_map}
 use Rattle.signature_log.specs.Blocks.{leaf_places, places_3, IsSound_3}

@@ -1,4 +1,4 @@
--- The rules of a symbol by their places: few, or many.
+-- For proofs: the rules of a symbol by their places: few, or many.
 use Rattle.std.specs.Prelude.{ℕ, List}
 use Rattle.dk_model.specs.declared.signature.Entry.{Entry}
 use Rattle.shared_term.specs.declared.stored.Stored.{Stored}

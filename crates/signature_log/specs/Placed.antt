@@ -1,4 +1,4 @@
--- Rules by their places in the entries of their commands.
+-- For proofs: rules by their places in the entries of their commands.
 use Rattle.std.specs.Prelude.{ℕ, ◌≡◌, ◌<◌, Option, Some, None, List, [], ◌++◌, length, map, get_or}
 use Rattle.dk_model.specs.Trees.{star}
 use Rattle.dk_model.specs.Signatures.{PlainRule, rule_by, entry_by}

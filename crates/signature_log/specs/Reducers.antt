@@ -1,4 +1,4 @@
--- What a call of a reducer gives, and what it leaves as it was.
+-- For callers: what a call of a reducer gives, and what it leaves as it was.
 use Rattle.std.specs.Prelude.{ℕ, ◌≡◌, List, [], ◌∷◌, Some, None, Bool, Result, Ok, Err}
 use Rattle.dk_model.specs.Trees.{Tree, star, kind, symbol, variable, rule_variable, apply, bare, annotated, product}
 use Rattle.dk_model.specs.Units.{Units}

@@ -1,4 +1,4 @@
--- The rows of a symbol as a list of rules.
+-- For callers: the rows of a symbol as a list of rules.
 use Rattle.std.specs.Prelude.{ℕ, Option, Some, None, List, [], ◌∷◌, ◌++◌}
 use Rattle.std.specs.Borrow.{Bor}
 use Rattle.std.specs.Option.{option_copied}

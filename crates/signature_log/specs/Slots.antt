@@ -1,4 +1,4 @@
--- Values at numbers, in blocks that lists of blocks share.
+-- For proofs: values at numbers, in blocks that lists of blocks share.
 use Rattle.std.specs.Prelude.{ℕ, ◌≡◌, ◌≢◌, ◌/◌, ◌%◌, Option, Some, None, List, get_or}
 
 -- the same values, but for this one at a number

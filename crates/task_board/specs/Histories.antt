@@ -1,4 +1,4 @@
--- The history of a board, each event behind the number of its maker.
+-- For callers: the history of a board, each event behind the number of its maker.
 use Rattle.std.specs.Prelude.{◌≡◌, ℕ, Bool, List, map}
 use Rattle.dk_model.specs.declared.code.Verdict.{Verdict}
 use Rattle.board_core.specs.declared.event.Event.{Event}

@@ -1,4 +1,4 @@
--- What a pass of the board shows, and what a turn at the board makes of it (docs/board.md).
+-- For callers: what a pass of the board shows, and what a turn at the board makes of it (docs/board.md).
 use Rattle.std.specs.Prelude.{◌≡◌, ◌⊎◌, ℕ, ◌+◌, ◌-◌, Bool, true, false, List, [], ◌∷◌, ◌++◌, length, slice_get, Some}
 use Rattle.std.specs.List.{list_any}
 use Rattle.std.specs.Arc.{arc_value}

@@ -1,4 +1,4 @@
--- The rule of the three words, the slot and all views, which every step keeps (docs/board-lock.md).
+-- For proofs: the rule of the three words, the slot and all views, which every step keeps (docs/board-lock.md).
 use Rattle.std.specs.Prelude.{◌≡◌, ℕ, zero, suc, ◌+◌, ◌%◌, ◌^◌, ◌<◌, ◌≤◌, Bool, true, false, List, [], ◌∷◌, length, slice_index, cond, Option, Some, None}
 use Rattle.std.specs.List.{All, count_by}
 use mathlib.Core.Option as maybe

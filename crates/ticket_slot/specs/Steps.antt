@@ -1,4 +1,4 @@
--- What each kind of step tells the seat that makes it.
+-- For proofs: what each kind of step tells the seat that makes it.
 use Rattle.std.specs.Prelude.{◌≡◌, ℕ, ◌%◌, ◌^◌, List, [], ◌∷◌, Option, Some}
 use Rattle.atomic_table.specs.Table.{Me, Step}
 use Rattle.ticket_slot.specs.Views.{StartsWith, calls_by, with_ticket, at_turn, added, passed}

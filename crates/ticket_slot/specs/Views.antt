@@ -1,4 +1,4 @@
--- What a pass shows, and what each kind of step makes of it (docs/board-lock.md).
+-- For callers: what a pass shows, and what each kind of step makes of it (docs/board-lock.md).
 use Rattle.std.specs.Prelude.{◌≡◌, ℕ, ◌+◌, ◌<◌, ◌==◌, Bool, true, false, List, [], ◌∷◌, ◌++◌, length, drop, Option, Some, None}
 use Rattle.std.specs.List.{filter, count_by}
 use Rattle.atomic_table.specs.Table.{Me}

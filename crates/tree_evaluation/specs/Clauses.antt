@@ -1,4 +1,4 @@
--- The facts that the contracts of this crate state, over the program's own types.
+-- For proofs: the facts that the contracts of this crate state, over the program's own types.
 use Rattle.std.specs.Prelude.{ℕ, ◌≡◌, Option, Some, None, Bool, Result, List, map, drop, length, if◌then◌else◌}
 use Rattle.std.specs.declared.vec.Vec.{Vec}
 use Rattle.std.specs.declared.alloc.Global.{Global}

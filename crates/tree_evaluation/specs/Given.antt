@@ -1,4 +1,4 @@
--- What a call gives, by the cases of its result. Want of memory says nothing.
+-- For proofs: what a call gives, by the cases of its result. Want of memory says nothing.
 use Rattle.std.specs.Prelude.{ℕ, ◌≡◌, Some, None, Bool, Result, Ok, Err}
 use Rattle.dk_model.specs.Trees.{Tree, tree}
 use Rattle.dk_model.specs.Units.{Units}

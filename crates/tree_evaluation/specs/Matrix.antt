@@ -1,4 +1,5 @@
--- How the selecting code holds its captures and its matrix, as the plain data of a selection (docs/evaluation.md).
+-- For proofs: how the selecting code holds its captures and its matrix, as the plain data of a selection
+-- (docs/evaluation.md).
 use Rattle.std.specs.Prelude.{ℕ, ◌≡◌, ◌+◌, ◌-◌, Option, Bool, true, ◌&&◌, List, [], ◌∷◌, ◌++◌, map, take, drop, replicate, eqb, length}
 use Rattle.std.specs.declared.vec.Vec.{Vec}
 use Rattle.std.specs.declared.alloc.Global.{Global}

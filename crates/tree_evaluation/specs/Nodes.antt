@@ -1,4 +1,4 @@
--- The outermost node of a boxed term.
+-- For proofs: the outermost node of a boxed term.
 use Rattle.std.specs.Prelude.{Some, None}
 use Rattle.dk_model.specs.Trees.{Tree, star, kind, symbol, variable, rule_variable, apply, bare, annotated, product, tree}
 use Rattle.dk_model.specs.declared.term.Term.{Term}

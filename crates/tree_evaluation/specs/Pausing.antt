@@ -1,4 +1,4 @@
--- Selections that wait for the value of a column.
+-- For proofs: selections that wait for the value of a column.
 use Rattle.std.specs.Prelude.{ℕ, Option, Some, None, List, [], ◌∷◌, ◌++◌, map, drop, length}
 use Rattle.std.specs.declared.vec.Vec.{Vec}
 use Rattle.std.specs.declared.alloc.Global.{Global}

@@ -1,4 +1,4 @@
--- How the comparing code holds the pairs that are still to be compared: a stack, the next pair on top.
+-- For proofs: how the comparing code holds the pairs that are still to be compared: a stack, the next pair on top.
 use Rattle.std.specs.Prelude.{ℕ, Option, Some, None, Bool, List, [], ◌∷◌, ◌++◌}
 use Rattle.dk_model.specs.Trees.{Tree, tree}
 use Rattle.dk_model.specs.Signatures.{PlainSignature}

@@ -1,4 +1,4 @@
--- What the steps of a selection give, by the cases of a result. Want of memory says nothing.
+-- For proofs: what the steps of a selection give, by the cases of a result. Want of memory says nothing.
 use Rattle.std.specs.Prelude.{ℕ, ◌≡◌, Option, Some, None, Bool, true, false, Result, Ok, Err, List, [], ◌∷◌}
 use Rattle.std.specs.declared.vec.Vec.{Vec}
 use Rattle.std.specs.declared.alloc.Global.{Global}

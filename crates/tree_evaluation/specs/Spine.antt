@@ -1,4 +1,4 @@
--- The arguments of an application behind references, and the size of a term.
+-- For proofs: the arguments of an application behind references, and the size of a term.
 use Rattle.std.specs.Prelude.{ℕ, ◌+◌, List, [], ◌∷◌, map}
 use Rattle.std.specs.Borrow.{Bor}
 use Rattle.dk_model.specs.Trees.{Tree, apply, bare, annotated, product, tree}

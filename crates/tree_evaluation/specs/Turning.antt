@@ -1,4 +1,4 @@
--- What a turn of the weak head form gives, by the cases of its result. Want of memory says nothing.
+-- For proofs: what a turn of the weak head form gives, by the cases of its result. Want of memory says nothing.
 use Rattle.std.specs.Prelude.{ℕ, ◌≡◌, Some, None, false, Result, Ok, Err, List, []}
 use Rattle.dk_model.specs.Trees.{Tree, symbol, tree}
 use Rattle.dk_model.specs.Signatures.{PlainSignature}

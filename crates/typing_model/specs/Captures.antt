@@ -1,4 +1,5 @@
--- What a law says: what a capture stands for, the part that it was made of, once it is applied to its rule variable's arguments.
+-- For callers: what a law says: what a capture stands for, the part that it was made of, once it is applied to its
+-- rule variable's arguments.
 use Rattle.std.specs.Prelude.{ℕ, ◌≡◌, false, List, [], map}
 use Rattle.dk_model.specs.PlainTerms.{Tree, variable}
 use Rattle.dk_model.specs.Substitution.{shift}

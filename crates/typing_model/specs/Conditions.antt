@@ -1,4 +1,5 @@
--- What some laws ask of a signature that needn't be well formed: rules number their variables, and nothing has annotations.
+-- For callers: what some laws ask of a signature that needn't be well formed: rules number their variables, and
+-- nothing has annotations.
 use Rattle.std.specs.Prelude.{ℕ, ◌<◌, Option, Some, None, List, [], ◌∷◌}
 use Rattle.dk_model.specs.Trees.{Tree}
 use Rattle.dk_model.specs.Erasure.{IsPlain}

@@ -1,4 +1,5 @@
--- What the laws say: the answers of evaluation and of typing have the meaning that reduction and derivations give them.
+-- For callers: what the laws say: the answers of evaluation and of typing have the meaning that reduction and
+-- derivations give them.
 use Rattle.std.specs.Prelude.{ℕ, ◌≡◌, Option, Some, Ok, true, List, [], ◌∷◌, ◌++◌}
 use Rattle.dk_model.specs.PlainTerms.{Tree}
 use Rattle.dk_model.specs.PlainEntries.{PlainRule, PlainSignature}
