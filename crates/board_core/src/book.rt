@@ -9,8 +9,6 @@ ghost use Rattle.board_core.specs.Rooms.{IsRoomBehind};
 ghost use Rattle.board_core.specs.Shown.{added, put_on, ClaimReply, HoldsGiven, IsRefusal};
 
 mod replay;
-#[cfg(test)]
-mod tests;
 
 use crate::event::{End, Event};
 use crate::past::Past;

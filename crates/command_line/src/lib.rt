@@ -10,6 +10,3 @@ mod usage;
 
 pub use request::{CheckRequest, MakeRequest, Request, read_request};
 pub use usage::usage_text;
-
-#[cfg(test)]
-mod tests;

@@ -9,6 +9,3 @@ mod theory;
 
 pub use made_text::MadeText;
 pub use theory::make;
-
-#[cfg(test)]
-mod tests;

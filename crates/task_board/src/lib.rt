@@ -12,6 +12,3 @@ mod passes;
 pub use board::Board;
 pub use judged::Judged;
 pub use passes::{ReaderPass, SealedPass, WorkerPass};
-
-#[cfg(test)]
-mod tests;

@@ -2,6 +2,7 @@ ghost use Rattle.std.specs.Prelude.{◌<◌};
 
 use dk_io::{Book, Buffer, Failed, MemShelf, MemSink, OsShelf, OsSink, Shelf, Sink, put};
 use std::alloc::{AllocError, Global};
+use std::fs::Files;
 use std::io;
 use std::io::Write;
 use std::test::Fail;
@@ -69,8 +70,7 @@ fn answers(
     Ok(found.as_slice() == due.as_bytes())
 }
 
-#[test]
-fn a_shelf_fails_at_the_listed_calls_and_at_a_missing_book(rt: HostRuntime) -> Result<(), Fail> {
+fn shelves_answer(alloc: Global) -> Result<bool, Fail> {
     for (piece, failing, script, due) in [
         // before any book there is nothing to read; after the end there is nothing more
         (9, [0, 0], "rarrrr", "0o4300"),
@@ -84,10 +84,11 @@ fn a_shelf_fails_at_the_listed_calls_and_at_a_missing_book(rt: HostRuntime) -> R
         // a book that isn't there
         (9, [0, 0], "barbr", "Fo4F3"),
     ] {
-        let as_told = answers(rt.alloc(), piece, failing.as_slice(), script, due)?;
-        assert!(rt; as_told, "{script}");
+        if !answers(alloc, piece, failing.as_slice(), script, due)? {
+            return Ok(false);
+        }
     }
-    Ok(())
+    Ok(true)
 }
 
 // Whether a sink takes just this of a line, and says whether that is all.
@@ -100,8 +101,7 @@ fn takes(alloc: Global, room: usize, piece: usize, failing: u64, taken: &str) ->
     Ok(sink.bytes() == taken.as_bytes() && whole == (taken.len() == 9))
 }
 
-#[test]
-fn a_sink_fails_at_the_listed_calls_and_where_it_is_full(rt: HostRuntime) -> Result<(), Fail> {
+fn sinks_take(alloc: Global) -> Result<bool, Fail> {
     for (room, piece, failing, taken) in [
         (99, 99, 0, "ok 1 nat\n"),
         // five calls of one byte, and the sixth fails
@@ -111,10 +111,11 @@ fn a_sink_fails_at_the_listed_calls_and_where_it_is_full(rt: HostRuntime) -> Res
         (5, 2, 0, "ok 1 "),
         (9, 2, 0, "ok 1 nat\n"),
     ] {
-        let as_told = takes(rt.alloc(), room, piece, failing, taken)?;
-        assert!(rt; as_told, "{room} {piece}");
+        if !takes(alloc, room, piece, failing, taken)? {
+            return Ok(false);
+        }
     }
-    Ok(())
+    Ok(true)
 }
 
 fn put_lines(buffer: &mut Buffer, sink: &mut MemSink, lines: usize) -> bool {
@@ -138,8 +139,7 @@ fn put_in_pieces(alloc: Global, lines: usize, failing: u64) -> Result<(bool, usi
 }
 
 // A line has nine bytes, so a buffer of 4,096 is full after 455 of them and a byte.
-#[test]
-fn lines_go_out_in_few_large_pieces(rt: HostRuntime) -> Result<(), Fail> {
+fn lines_go_out_in_few_large_pieces(alloc: Global) -> Result<bool, Fail> {
     for (lines, failing, whole, taken) in [
         (0, 1, true, 0),
         (1, 1, false, 0),
@@ -149,10 +149,11 @@ fn lines_go_out_in_few_large_pieces(rt: HostRuntime) -> Result<(), Fail> {
         (1000, 3, false, 8192),
         (1000, 4, true, 9000),
     ] {
-        let found = put_in_pieces(rt.alloc(), lines, failing)?;
-        assert!(rt; found == (whole, taken), "{lines}");
+        if put_in_pieces(alloc, lines, failing)? != (whole, taken) {
+            return Ok(false);
+        }
     }
-    Ok(())
+    Ok(true)
 }
 
 // A writer that takes up to so many bytes a call, and whose flush fails if it is told so.
@@ -176,8 +177,7 @@ impl Write for Slow {
     }
 }
 
-#[test]
-fn an_output_flushes_and_takes_at_least_a_byte(rt: HostRuntime) -> Result<(), Fail> {
+fn outputs_flush_and_take_at_least_a_byte() -> bool {
     for (most, flushes, answer) in [
         (9, true, Ok(3)),
         (2, true, Ok(2)),
@@ -185,20 +185,30 @@ fn an_output_flushes_and_takes_at_least_a_byte(rt: HostRuntime) -> Result<(), Fa
         (9, false, Err(Failed)),
     ] {
         let mut sink = OsSink::new(Slow { most, flushes });
-        let found = sink.write(b"abc");
-        assert!(rt; found == answer, "{most}");
+        if sink.write(b"abc") != answer {
+            return false;
+        }
     }
-    Ok(())
+    true
 }
 
-#[test]
-fn a_shelf_of_files_opens_what_is_there(rt: HostRuntime) -> Result<(), Fail> {
-    let mut shelf = OsShelf::new(&rt);
+// Whether the shelf of files opens what is there.
+fn files_open<R: Files>(rt: &R) -> bool {
+    let mut shelf = OsShelf::new(rt);
     let mut buf = [0u8; 4];
     let before = shelf.read(&mut buf);
     let missing = shelf.open_book("no/such/file.dk");
     let there = shelf.open_book("/dev/zero");
     let found = shelf.read(&mut buf);
-    assert!(rt; before == Ok(0) && missing == Err(Failed) && there == Ok(()) && found == Ok(4));
+    before == Ok(0) && missing == Err(Failed) && there == Ok(()) && found == Ok(4)
+}
+
+#[test]
+fn shelves_and_sinks_answer_and_fail_as_listed(rt: HostRuntime) -> Result<(), Fail> {
+    let alloc = rt.alloc();
+    let memory = shelves_answer(alloc)? && sinks_take(alloc)?;
+    let lines = lines_go_out_in_few_large_pieces(alloc)?;
+    let system = outputs_flush_and_take_at_least_a_byte() && files_open(&rt);
+    assert!(rt; memory && lines && system);
     Ok(())
 }

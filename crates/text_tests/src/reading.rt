@@ -137,8 +137,7 @@ fn refused(line: u32, code: Code) -> ReadEnd {
     ReadEnd::Halted(Halt::Refused(line, code))
 }
 
-#[test]
-fn reads_up_to_the_first_fault(rt: HostRuntime) -> Result<(), Fail> {
+fn reads_up_to_the_first_fault(alloc: Global) -> Result<Option<&'static str>, Fail> {
     for (text, taken, end) in [
         ("", 0, ReadEnd::Whole),
         ("a : b. (; c ;)\n", 1, ReadEnd::Whole),
@@ -152,14 +151,14 @@ fn reads_up_to_the_first_fault(rt: HostRuntime) -> Result<(), Fail> {
         ("a : Type. thm t : a.", 1, refused(1, Code::E02)),
         ("a : Type.\n_. c : a.", 1, refused(2, Code::E02)),
     ] {
-        let as_told = is_told(rt.alloc(), text, READING, taken, None, end)?;
-        assert!(rt; as_told, "at {text}");
+        if !is_told(alloc, text, READING, taken, None, end)? {
+            return Ok(Some(text));
+        }
     }
-    Ok(())
+    Ok(None)
 }
 
-#[test]
-fn ends_where_the_judge_or_the_shelf_does(rt: HostRuntime) -> Result<(), Fail> {
+fn ends_where_the_judge_or_the_shelf_does(alloc: Global) -> Result<Option<&'static str>, Fail> {
     let judged = ReadEnd::Halted(Halt::Judged);
     for (text, most, failing, taken, end) in [
         ("a : Type. b : a.", 9, 0, 2, ReadEnd::Whole),
@@ -173,14 +172,14 @@ fn ends_where_the_judge_or_the_shelf_does(rt: HostRuntime) -> Result<(), Fail> {
             failing,
             ..READING
         };
-        let as_told = is_told(rt.alloc(), text, asked, taken, None, end)?;
-        assert!(rt; as_told, "at {text}, {most}, {failing}");
+        if !is_told(alloc, text, asked, taken, None, end)? {
+            return Ok(Some(text));
+        }
     }
-    Ok(())
+    Ok(None)
 }
 
-#[test]
-fn reads_each_form_of_command(rt: HostRuntime) -> Result<(), Fail> {
+fn reads_each_form_of_command(alloc: Global) -> Result<Option<&'static str>, Fail> {
     for (text, taken) in [
         ("{|x|} : ((Type)). y : m.n. z : _.", 3),
         ("nat : Type. z : nat. thm t : nat := z.", 3),
@@ -208,14 +207,14 @@ fn reads_each_form_of_command(rt: HostRuntime) -> Result<(), Fail> {
         ("{m.n} [] f --> a {r} [] g --> b. x : Type.", 2),
         ("[x : a -> b, y] f (_ => x) {m.n} --> x.", 1),
     ] {
-        let as_told = is_told(rt.alloc(), text, READING, taken, None, ReadEnd::Whole)?;
-        assert!(rt; as_told, "at {text}");
+        if !is_told(alloc, text, READING, taken, None, ReadEnd::Whole)? {
+            return Ok(Some(text));
+        }
     }
-    Ok(())
+    Ok(None)
 }
 
-#[test]
-fn refuses_what_is_no_command(rt: HostRuntime) -> Result<(), Fail> {
+fn refuses_what_is_no_command(alloc: Global) -> Result<Option<&'static str>, Fail> {
     let end = refused(1, Code::E02);
     for text in [
         // terms
@@ -250,10 +249,11 @@ fn refuses_what_is_no_command(rt: HostRuntime) -> Result<(), Fail> {
         "[] --> a.",
         "{r} f : a.",
     ] {
-        let as_told = is_told(rt.alloc(), text, READING, 0, None, end)?;
-        assert!(rt; as_told, "at {text}");
+        if !is_told(alloc, text, READING, 0, None, end)? {
+            return Ok(Some(text));
+        }
     }
-    Ok(())
+    Ok(None)
 }
 
 // Words, and others behind them so many times.
@@ -265,8 +265,7 @@ fn repeated(alloc: Global, first: &str, words: &str, times: u32) -> Result<Strin
     Ok(text)
 }
 
-#[test]
-fn ends_levels_and_arguments_at_the_limit(rt: HostRuntime) -> Result<(), Fail> {
+fn ends_levels_and_arguments_at_the_limit(alloc: Global) -> Result<Option<&'static str>, Fail> {
     for (words, count, code) in [
         (" (", 1_000, Code::E03),
         (" (", 1_001, Code::E04),
@@ -277,12 +276,13 @@ fn ends_levels_and_arguments_at_the_limit(rt: HostRuntime) -> Result<(), Fail> {
         (" (a)", 1_000, Code::E03),
         (" (a)", 1_001, Code::E04),
     ] {
-        let text = repeated(rt.alloc(), "x : a", words, count)?;
+        let text = repeated(alloc, "x : a", words, count)?;
         let end = refused(1, code);
-        let as_told = is_told(rt.alloc(), text.as_str(), READING, 0, None, end)?;
-        assert!(rt; as_told, "at {count} of {words}");
+        if !is_told(alloc, text.as_str(), READING, 0, None, end)? {
+            return Ok(Some(words));
+        }
     }
-    Ok(())
+    Ok(None)
 }
 
 // Whether a text is whole with so many levels, and not with one less.
@@ -293,8 +293,7 @@ fn takes_levels(alloc: Global, text: &str, levels: u32) -> Result<bool, Fail> {
     Ok(whole == ReadEnd::Whole && cut == refused(1, Code::E04))
 }
 
-#[test]
-fn counts_the_levels_of_parameters_and_rules(rt: HostRuntime) -> Result<(), Fail> {
+fn counts_the_levels_of_parameters_and_rules(alloc: Global) -> Result<Option<&'static str>, Fail> {
     for (text, levels) in [
         ("c (x : A -> B) : A.", 2),
         ("def c (x : A) : A -> A := a.", 2),
@@ -309,13 +308,14 @@ fn counts_the_levels_of_parameters_and_rules(rt: HostRuntime) -> Result<(), Fail
         ("[] f (a) {b} --> c.", 2),
         ("[x : (a)] f --> c.", 1),
     ] {
-        assert!(rt; takes_levels(rt.alloc(), text, levels)?, "at {text}");
+        if !takes_levels(alloc, text, levels)? {
+            return Ok(Some(text));
+        }
     }
-    Ok(())
+    Ok(None)
 }
 
-#[test]
-fn scopes_up_to_the_first_refusal(rt: HostRuntime) -> Result<(), Fail> {
+fn scopes_up_to_the_first_refusal(alloc: Global) -> Result<Option<&'static str>, Fail> {
     let judged = ReadEnd::Halted(Halt::Judged);
     for (text, taken, code, end) in [
         ("a : Type. b : a. c : a -> b.", 3, None, ReadEnd::Whole),
@@ -341,8 +341,25 @@ fn scopes_up_to_the_first_refusal(rt: HostRuntime) -> Result<(), Fail> {
             scopes: true,
             ..READING
         };
-        let as_told = is_told(rt.alloc(), text, asked, taken, code, end)?;
-        assert!(rt; as_told, "at {text}");
+        if !is_told(alloc, text, asked, taken, code, end)? {
+            return Ok(Some(text));
+        }
     }
+    Ok(None)
+}
+
+#[test]
+fn reads_and_scopes_up_to_the_first_fault(rt: HostRuntime) -> Result<(), Fail> {
+    let alloc = rt.alloc();
+    let found = [
+        reads_up_to_the_first_fault(alloc)?,
+        ends_where_the_judge_or_the_shelf_does(alloc)?,
+        reads_each_form_of_command(alloc)?,
+        refuses_what_is_no_command(alloc)?,
+        ends_levels_and_arguments_at_the_limit(alloc)?,
+        counts_the_levels_of_parameters_and_rules(alloc)?,
+        scopes_up_to_the_first_refusal(alloc)?,
+    ];
+    assert_eq!(rt; found, [None; 7], "of the texts");
     Ok(())
 }

@@ -18,6 +18,3 @@ pub use crossing::crosses_threads;
 pub use kept::Kept;
 pub use slot::{NoMemory, Pass, Slot};
 pub use view::{Ended, View};
-
-#[cfg(test)]
-mod tests;

@@ -14,6 +14,3 @@ pub use laws::{history_has_one_report, history_has_report};
 pub use outcome::Outcome;
 pub use pieces::{Piece, put_pieces};
 pub use title::{Title, Titles};
-
-#[cfg(test)]
-mod tests;

@@ -10,6 +10,3 @@ mod worker;
 
 pub use crew::{Reading, run_crew};
 pub use worker::work;
-
-#[cfg(test)]
-mod tests;

@@ -1,0 +1,194 @@
+//! The worked history of two workers, on a shared board. Each job is its own verdict.
+ghost use Rattle.std.specs.Prelude.{◌≡◌, ◌+◌, ◌<◌, true, length};
+ghost use Rattle.std.specs.Arc.{arc_value};
+ghost use Rattle.std.specs.List.{list_any};
+ghost use Rattle.board_core.specs.Events.{is_fault};
+ghost use Rattle.task_board.specs.Histories.{events_in};
+ghost use Rattle.task_board.specs.Passes.{HasTask, IsIdle};
+
+use crate::passes::{last_pass, pass_back};
+use crate::told::Told;
+use board_core::{Book, Claimed, End, Event, PutRefused, Task};
+use dk_model::{Code, Listed, Verdict};
+use std::alloc::Global;
+use std::process::Abort;
+use std::sync::{Arc, Wait};
+use task_board::{Board, ReaderPass, WorkerPass};
+
+// Puts an open job that isn't refused.
+fn put<R: Wait + Abort>(
+    rt: &R,
+    alloc: Global,
+    board: &Board<Told>,
+    pass: &mut ReaderPass<Told>,
+    job: Verdict,
+) -> u32
+    requires own { pass.old.seat.table_id ≡ board.now }
+    requires few { length pass.old.seat.me.0.known < 4294967294 }
+    ensures own { pass.new.seat.table_id ≡ board.now }
+    ensures made { pass.new.seat.me.0.made ≡ pass.old.seat.me.0.made }
+    ensures known { length pass.new.seat.me.0.known ≡ length pass.old.seat.me.0.known + 1 }
+{
+    let job = Arc::new(alloc, job).expect(rt, "memory for a job");
+    match board.put(rt, pass, job, false) {
+        Ok(number) => number,
+        Err(_) => panic!(rt; "the job was refused"),
+    }
+}
+
+// Puts a job that is refused: the number and the verdict of the fault, and the job.
+fn put_late<R: Wait + Abort>(
+    rt: &R,
+    alloc: Global,
+    board: &Board<Told>,
+    pass: &mut ReaderPass<Told>,
+    job: Verdict,
+) -> (u32, Verdict, Verdict)
+    requires own { pass.old.seat.table_id ≡ board.now }
+    requires few { length pass.old.seat.me.0.known < 4294967294 }
+    ensures own { pass.new.seat.table_id ≡ board.now }
+    ensures made { pass.new.seat.me.0.made ≡ pass.old.seat.me.0.made }
+    ensures stopped { list_any is_fault (events_in pass.new.seat.me.0.seen) ≡ true }
+{
+    let job = Arc::new(alloc, job).expect(rt, "memory for a job");
+    match board.put(rt, pass, job, false) {
+        Err(
+            PutRefused::Stopped {
+                number,
+                verdict,
+                job,
+            },
+        ) => (number, verdict, *job),
+        _ => panic!(rt; "the job was put"),
+    }
+}
+
+// The task that the worker is given.
+fn must_claim<R: Wait + Abort>(
+    rt: &R,
+    board: &Board<Told>,
+    pass: &mut WorkerPass<Told>,
+) -> Task<Verdict>
+    requires own { pass.old.seat.table_id ≡ board.now }
+    requires idle { IsIdle pass.old.seat.me.0 }
+    ensures own { pass.new.seat.table_id ≡ board.now }
+    ensures task { HasTask pass.new.seat.me.0 result.number (arc_value result.job) }
+{
+    match board.claim(rt, pass) {
+        Claimed::Task(task) => task,
+        _ => panic!(rt; "there was a task"),
+    }
+}
+
+// Whether all is over, for a worker that is given no task.
+fn finds_nothing<R: Wait + Abort>(rt: &R, board: &Board<Told>, pass: &mut WorkerPass<Told>) -> bool
+    requires own { pass.old.seat.table_id ≡ board.now }
+    requires idle { IsIdle pass.old.seat.me.0 }
+    ensures own { pass.new.seat.table_id ≡ board.now }
+    ensures idle { IsIdle pass.new.seat.me.0 }
+{
+    match board.claim(rt, pass) {
+        Claimed::Empty => false,
+        Claimed::Over => true,
+        Claimed::Task(Task { number: _, job: _ }) => panic!(rt; "there was no task"),
+    }
+}
+
+// Answers a task with its job's verdict.
+fn answer<R: Wait + Abort>(
+    rt: &R,
+    board: &Board<Told>,
+    pass: &mut WorkerPass<Told>,
+    task: Task<Verdict>,
+)
+    requires own { pass.old.seat.table_id ≡ board.now }
+    requires task { HasTask pass.old.seat.me.0 task.number (arc_value task.job) }
+    ensures own { pass.new.seat.table_id ≡ board.now }
+    ensures idle { IsIdle pass.new.seat.me.0 }
+{
+    let verdict = *task.job;
+    board.answer(rt, pass, task, verdict);
+}
+
+// Whether the book has two jobs, a fault at the first one, and this history.
+fn is_stopped_at_the_first(book: &Book<Verdict>) -> bool {
+    let fault = Verdict::Refused(Code::E21);
+    let history = [
+        Event::Put(1),
+        Event::Put(2),
+        Event::Claim(1, 1),
+        Event::Claim(2, 2),
+        Event::Answer(2, 2, Verdict::Accepted),
+        Event::Answer(1, 1, fault),
+        Event::Seal(End::Stopped),
+    ];
+    book.len() == 2
+        && book.fault() == Some((1, fault))
+        && book.end() == Some(End::Stopped)
+        && book.history() == &history[..]
+}
+
+#[test]
+fn keeps_two_workers_apart_and_stops_at_a_fault(rt: HostRuntime) {
+    let alloc = rt.alloc();
+    let fault = Verdict::Refused(Code::E21);
+    let (board, mut reader, passes) = Board::<Told>::new(alloc, 2).expect(
+        &rt,
+        "memory for a board",
+    );
+    let mut passes = passes.into_vec();
+    let mut second = last_pass(&rt, &board, &mut passes);
+    let mut first = last_pass(&rt, &board, &mut passes);
+    let one = put(&rt, alloc, &board, &mut reader, fault);
+    let two = put(&rt, alloc, &board, &mut reader, Verdict::Accepted);
+    let task = must_claim(&rt, &board, &mut first);
+    let other = must_claim(&rt, &board, &mut second);
+    let numbers = [one, two, task.number, other.number];
+    answer(&rt, &board, &mut second, other);
+    let waits = !finds_nothing(&rt, &board, &mut second);
+    answer(&rt, &board, &mut first, task);
+    let refused = put_late(&rt, alloc, &board, &mut reader, Verdict::Ended);
+    let over = finds_nothing(&rt, &board, &mut first);
+    let sealed = board.seal(&rt, reader, End::Stopped);
+    let mut passes = Listed::new(alloc);
+    pass_back(&rt, &board, &mut passes, first);
+    pass_back(&rt, &board, &mut passes, second);
+    let book = board.close(sealed, passes);
+    let told = numbers == [1, 2, 1, 2] && waits && refused == (1, fault, Verdict::Ended) && over;
+    assert!(rt; told && is_stopped_at_the_first(&book));
+}
+
+// The board keeps no share of a settled job, and of an answered one only until the next put or the seal. Beside the shares
+// of the job: that of this test, and that of the job that waits, is checked, or waits for the reader.
+#[test]
+fn lets_a_job_go(rt: HostRuntime) {
+    let alloc = rt.alloc();
+    let (board, mut reader, passes) = Board::<Told>::new(alloc, 1).expect(
+        &rt,
+        "memory for a board",
+    );
+    let mut passes = passes.into_vec();
+    let mut worker = last_pass(&rt, &board, &mut passes);
+    let job = Arc::new(alloc, Verdict::Accepted).expect(&rt, "memory for a job");
+    let open = job.clone().expect(&rt, "a share");
+    let first = board.put(&rt, &mut reader, open, false).is_ok();
+    let settled = job.clone().expect(&rt, "a share");
+    let second = board.put(&rt, &mut reader, settled, true).is_ok();
+    let waits = Arc::strong_count(&job);
+    let task = must_claim(&rt, &board, &mut worker);
+    let checked = Arc::strong_count(&job);
+    answer(&rt, &board, &mut worker, task);
+    let answered = Arc::strong_count(&job);
+    let open = job.clone().expect(&rt, "a share");
+    let third = board.put(&rt, &mut reader, open, false).is_ok();
+    let again = Arc::strong_count(&job);
+    let task = must_claim(&rt, &board, &mut worker);
+    answer(&rt, &board, &mut worker, task);
+    let sealed = board.seal(&rt, reader, End::Whole);
+    let let_go = Arc::strong_count(&job);
+    let mut passes = Listed::new(alloc);
+    pass_back(&rt, &board, &mut passes, worker);
+    let book = board.close(sealed, passes);
+    let put = first && second && third && book.len() == 3;
+    assert!(rt; put && [waits, checked, answered, again, let_go] == [2, 2, 2, 2, 1]);
+}

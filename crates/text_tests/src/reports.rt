@@ -1,0 +1,218 @@
+//! Reports of books, row by row.
+ghost use Rattle.std.specs.Prelude.{◌≡◌, ◌+◌, ◌<◌, ◌≤◌, ℕ, true, false, length};
+ghost use Rattle.std.specs.List.{list_any};
+ghost use Rattle.board_core.specs.Events.{is_seal};
+ghost use Rattle.board_core.specs.Machine.{Holds, HoldsNone, IsFinished, marks_of};
+
+use board_core::{Book, Claimed, End, Task, finished_when_drained};
+use dk_io::MemSink;
+use dk_model::{Code, Listed, Verdict};
+use std::alloc::Global;
+use std::process::Abort;
+use std::sync::Arc;
+use std::test::Fail;
+use verdict_book::{Title, Titles, first_fault, write_report};
+
+// The report, the jobs with the verdict that each is answered with and whether it is settled, the end, and the first fault. Job K
+// stands at line K + 10.
+struct Row {
+    text: &'static str,
+    jobs: &'static [(&'static str, Verdict, bool)],
+    end: End,
+    fault: Option<(u32, Verdict)>,
+}
+
+const ROWS: [Row; 9] = [
+    Row {
+        text: "accepted 0\n",
+        jobs: &[],
+        end: End::Whole,
+        fault: None,
+    },
+    Row {
+        text: "ok 1 a\nok 2 b\naccepted 2\n",
+        jobs: &[
+            ("a", Verdict::Accepted, false),
+            ("b", Verdict::Accepted, true),
+        ],
+        end: End::Whole,
+        fault: None,
+    },
+    Row {
+        text: "ok 1 a\nrefused 2 line 12 E21\n",
+        jobs: &[
+            ("a", Verdict::Accepted, false),
+            ("b", Verdict::Refused(Code::E21), false),
+            ("c", Verdict::Refused(Code::E20), false),
+        ],
+        end: End::Whole,
+        fault: Some((2, Verdict::Refused(Code::E21))),
+    },
+    Row {
+        text: "ok 1 a\nbudget 2 line 12 7\n",
+        jobs: &[("a", Verdict::Accepted, true), ("b", Verdict::Ended, false)],
+        end: End::Unread,
+        fault: Some((2, Verdict::Ended)),
+    },
+    Row {
+        text: "memory 1 line 11\n",
+        jobs: &[("a", Verdict::Memory, false)],
+        end: End::Fault(20, Verdict::Ended),
+        fault: Some((1, Verdict::Memory)),
+    },
+    Row {
+        text: "ok 1 a\nunread 2\n",
+        jobs: &[("a", Verdict::Accepted, false)],
+        end: End::Unread,
+        fault: None,
+    },
+    Row {
+        text: "ok 1 a\nrefused 2 line 20 E02\n",
+        jobs: &[("a", Verdict::Accepted, false)],
+        end: End::Fault(20, Verdict::Refused(Code::E02)),
+        fault: Some((2, Verdict::Refused(Code::E02))),
+    },
+    Row {
+        text: "ok 1 a\nmemory 2 line 20\n",
+        jobs: &[("a", Verdict::Accepted, false)],
+        end: End::Fault(20, Verdict::Memory),
+        fault: Some((2, Verdict::Memory)),
+    },
+    Row {
+        text: "memory 0 line 0\n",
+        jobs: &[],
+        end: End::Fault(0, Verdict::Memory),
+        fault: Some((1, Verdict::Memory)),
+    },
+];
+
+// A book with these jobs, which nobody has claimed, and their titles.
+fn put_jobs<R: Abort>(
+    rt: &R,
+    alloc: Global,
+    jobs: &[(&str, Verdict, bool)],
+    titles: &mut Titles,
+) -> Book<Verdict>
+    ensures unsealed { list_any is_seal result.events ≡ false }
+    ensures idle { (w : ℕ) → HoldsNone w result.events }
+{
+    let mut book: Book<Verdict> = Book::new(alloc).expect(rt, "memory for a book");
+    let mut line = 11;
+    for (name, verdict, settled) in jobs {
+        assert!(rt; line < 100);
+        put_job(rt, alloc, &mut book, *verdict, *settled);
+        let name = Listed::from_slice(alloc, name.as_bytes()).expect(rt, "memory for a name");
+        titles
+            .push(&Title { name, line })
+            .expect(rt, "memory for a title");
+        line += 1;
+    }
+    book
+}
+
+fn put_job<R: Abort>(
+    rt: &R,
+    alloc: Global,
+    book: &mut Book<Verdict>,
+    verdict: Verdict,
+    settled: bool,
+)
+    requires few { length book.old.jobs < 4294967294 }
+    requires unsealed { list_any is_seal book.old.events ≡ false }
+    ensures one_more { length book.new.jobs ≡ length book.old.jobs + 1 }
+    ensures unsealed { list_any is_seal book.new.events ≡ false }
+    ensures idle { (w : ℕ) → HoldsNone w book.old.events → HoldsNone w book.new.events }
+{
+    let share = Arc::new(alloc, verdict).expect(rt, "memory for a job");
+    match book.put(share, settled) {
+        Ok(_) => {}
+        Err(_) => panic!(rt; "the job was refused"),
+    }
+}
+
+// Seals a board of which no job has been answered yet.
+fn seal<R: Abort>(rt: &R, book: &mut Book<Verdict>, end: End)
+    requires unsealed { list_any is_seal book.old.events ≡ false }
+    ensures sealed { list_any is_seal book.new.events ≡ true }
+    ensures idle { (w : ℕ) → HoldsNone w book.old.events → HoldsNone w book.new.events }
+    ensures jobs { book.new.jobs ≡ book.old.jobs }
+{
+    match end {
+        End::Stopped => panic!(rt; "no job is at fault"),
+        End::Fault(_, Verdict::Accepted) => panic!(rt; "a fault is never accepted"),
+        _ => book.seal(end),
+    }
+}
+
+// Worker 1 claims a job and answers it, unless all is over.
+fn answer_one<R: Abort>(rt: &R, book: &mut Book<Verdict>) -> bool
+    requires sealed { list_any is_seal book.old.events ≡ true }
+    requires idle { (w : ℕ) → HoldsNone w book.old.events }
+    ensures sealed { list_any is_seal book.new.events ≡ true }
+    ensures idle { (w : ℕ) → HoldsNone w book.new.events }
+    ensures jobs { length book.new.jobs ≡ length book.old.jobs }
+    ensures over { result ≡ true → IsFinished (marks_of book.new.jobs) book.new.events }
+{
+    match book.claim(1) {
+        Claimed::Task(Task { number, job }) => {
+            book.answer(1, number, *job);
+            false
+        }
+        Claimed::Empty => panic!(rt; "the board is open"),
+        Claimed::Over => {
+            finished_when_drained();
+            true
+        }
+    }
+}
+
+// Worker 1 works until all is over.
+fn answer_all<R: Abort>(rt: &R, book: &mut Book<Verdict>)
+    requires sealed { list_any is_seal book.old.events ≡ true }
+    requires idle { (w : ℕ) → HoldsNone w book.old.events }
+    ensures jobs { length book.new.jobs ≡ length book.old.jobs }
+    ensures finished { IsFinished (marks_of book.new.jobs) book.new.events }
+{
+    for _turn in 0..100u32 {
+        if answer_one(rt, book) {
+            return;
+        }
+    }
+    panic!(rt; "more than 100 jobs");
+}
+
+// Whether the report of a finished book is this text. The budget of each job is 7.
+pub fn is_reported(
+    alloc: Global,
+    book: &Book<Verdict>,
+    titles: &Titles,
+    text: &str,
+) -> Result<bool, Fail>
+    requires finished { IsFinished (marks_of book.now.jobs) book.now.events }
+{
+    let mut sink = MemSink::new(alloc, 1000, 7, Vec::new(alloc))?;
+    let wrote = titles.len() == book.len()
+        && write_report(book, titles, 7, false, &mut sink).is_ok();
+    Ok(wrote && sink.bytes() == text.as_bytes())
+}
+
+// Whether the row's jobs, put, sealed and answered, have its report and its first fault.
+fn is_row<R: Abort>(rt: &R, alloc: Global, row: &Row) -> Result<bool, Fail> {
+    let mut titles = Titles::new(alloc);
+    let mut book = put_jobs(rt, alloc, row.jobs, &mut titles);
+    seal(rt, &mut book, row.end);
+    answer_all(rt, &mut book);
+    Ok(first_fault(&book) == row.fault && is_reported(alloc, &book, &titles, row.text)?)
+}
+
+#[test]
+fn tells_the_first_fault_or_the_end(rt: HostRuntime) -> Result<(), Fail> {
+    for row in &ROWS {
+        assert!(rt;
+            is_row(&rt, rt.alloc(), row)?,
+            "where {:?} is due",
+            row.text
+        );
+    }
+    Ok(())
+}

@@ -1,0 +1,76 @@
+//! A checker whose jobs are their own verdicts, and a gate that keeps nothing.
+use board_core::{Checker, Gate};
+use dk_model::Verdict;
+use std::sync::atomic::{AtomicU64, Ordering};
+use std::thread;
+
+/// How often a check that waits for another looks for it before it gives up.
+const LOOKS: u32 = 10_000_000;
+
+/// A checker whose jobs are their own verdicts. Where jobs meet, the check of an accepted job and the
+/// check of another wait for each other.
+#[derive(Drop)]
+pub struct Told {
+    meet: bool,
+    accepted: AtomicU64,
+    others: AtomicU64,
+    pub met: AtomicU64,
+}
+
+impl Told {
+    pub fn new(meet: bool) -> Told {
+        Told {
+            meet,
+            accepted: AtomicU64::new(0),
+            others: AtomicU64::new(0),
+            met: AtomicU64::new(0),
+        }
+    }
+
+    /// Raises its own flag, and looks for the other one.
+    fn wait_for_the_other(&self, own: &AtomicU64, other: &AtomicU64) {
+        own.store(1, Ordering::SeqCst);
+        for _ in 0..LOOKS {
+            if other.load(Ordering::SeqCst) == 1 {
+                self.met.fetch_add(1, Ordering::SeqCst);
+                return;
+            }
+            thread::yield_now();
+        }
+    }
+}
+
+impl Checker for Told {
+    ghost use Rattle.std.specs.Prelude.{true};
+
+    type Job = Verdict;
+
+    type Kit = ();
+
+    ghost due = { λ job. job };
+
+    ghost early = { λ _. true };
+
+    fn kit(&self) {}
+
+    fn check(&self, _kit: &mut (), job: &Verdict) -> Verdict {
+        let verdict = *job;
+        if self.meet {
+            if verdict == Verdict::Accepted {
+                self.wait_for_the_other(&self.accepted, &self.others);
+            } else {
+                self.wait_for_the_other(&self.others, &self.accepted);
+            }
+        }
+        verdict
+    }
+}
+
+/// A gate that keeps nothing.
+pub struct NoGate;
+
+impl Gate for NoGate {
+    fn enter(&self, _: u32) {}
+
+    fn leave(&self, _: u32) {}
+}

@@ -1,4 +1,0 @@
-use Rattle.verdict_book.proofs.tests.assert_reports.Goals as goal
-
-pub answer_all-requires-clause-idle : goal.answer_all-requires-clause-idle
-answer_all-requires-clause-idle g c = λ w. c.seal.ensures.idle w (c.put_jobs-book.ensures.idle w)
