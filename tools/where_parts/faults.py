@@ -35,6 +35,7 @@ FAULTS = [
     ("E01", "", "@ℕ : Type."),
     ("E01", "nat", "thm @{|a : nat := nat.\n"),
     ("E01", "nat", "set @- union : nat."),
+    ("E01", "nat", "one : nat.\r\ntwo : @\x1b nat.\r\n"),
     ("E02", "nat", "thm t : nat := zero : nat@."),
     ("E02", "nat", "one @:= zero."),
     ("E02", "nat", "thm t @:= zero."),

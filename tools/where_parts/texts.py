@@ -16,6 +16,7 @@ IN_NAME = re.compile(rb"[A-Za-z0-9_!?']")
 KEYWORDS = {b"Type", b"def", b"thm"}
 WORDS_OUTSIDE = {b"defac", b"defacu", b"injective", b"private"}
 SHOWN_BYTES = 200
+CONTROL = re.compile("[\x00-\x08\x0b-\x1f\x7f-\x9f]")
 
 
 class Token:
@@ -111,7 +112,8 @@ def place(text, at):
 
 
 def readable(text):
-    return text.decode("utf-8", "backslashreplace")
+    """The text as a terminal may have it: what controls one is written by its number."""
+    return CONTROL.sub(lambda it: "\\x%02x" % ord(it.group()), text.decode("utf-8", "backslashreplace"))
 
 
 def cut(text):
@@ -122,6 +124,7 @@ def cut(text):
 
 def cut_line(line, at):
     """A line with no more than some bytes of it, those round a place in it."""
+    line = line.rstrip(b"\r")
     if len(line) <= SHOWN_BYTES:
         return readable(line)
     first = max(0, min(at - SHOWN_BYTES // 2, len(line) - SHOWN_BYTES))
