@@ -67,7 +67,10 @@ fn head_name(alloc: Global, left: &RawPat) -> Result<Listed<u8>, NoMemory>
     match left {
         RawPat::Name(name) => name.copy(alloc),
         RawPat::App(f, _) => head_name(alloc, f),
-        _ => Ok(Listed::new(alloc)),
+        RawPat::Abs(_, _) => Ok(Listed::new(alloc)),
+        RawPat::Qualified(_, _) => Ok(Listed::new(alloc)),
+        RawPat::Wild => Ok(Listed::new(alloc)),
+        RawPat::Guard(_) => Ok(Listed::new(alloc)),
     }
 }
 

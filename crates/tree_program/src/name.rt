@@ -25,6 +25,9 @@ fn head_name(left: &RawPat) -> &[u8]
     match left {
         RawPat::Name(name) => name.as_slice(),
         RawPat::App(function, _) => head_name(function),
-        _ => b"",
+        RawPat::Abs(_, _) => b"",
+        RawPat::Qualified(_, _) => b"",
+        RawPat::Wild => b"",
+        RawPat::Guard(_) => b"",
     }
 }
