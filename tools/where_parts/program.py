@@ -15,13 +15,14 @@ class Program:
         self.path, self.budget, self.runs, self.seconds = path, budget, 0, 0.0
 
     def report_of(self, name):
-        """The last line of the quiet report on a file of this name, and the status."""
+        """The last line of the quiet report on a file of this name, and the status, as a shell has it."""
         budget = [] if self.budget is None else ["--budget", self.budget]
         words = [self.path, "check", *budget, "--quiet", "--", name]
         begun = time.monotonic()
         done = subprocess.run(words, stdin=subprocess.DEVNULL, stdout=subprocess.PIPE, check=False)
         self.seconds = time.monotonic() - begun
-        return (done.stdout.split(b"\n")[:-1] or [b""])[-1], done.returncode
+        status = done.returncode if done.returncode >= 0 else 128 - done.returncode
+        return (done.stdout.split(b"\n")[:-1] or [b""])[-1], status
 
     def answer(self, text):
         """The last line's first word and its last, a code mostly, on a file of this text."""
