@@ -22,11 +22,13 @@ pub mod Parts
 pub mod Evaluation
 pub mod Equations
 pub mod TypingOver
+pub mod ByUnits
 pub mod Typing
 pub mod RuleTypingOver
 pub mod RuleTyping
 pub mod Shapes
 pub mod CommandTypingOver
+pub mod CommandTyping
 pub mod Verdicts
 pub mod Answering
 pub mod WellFormed

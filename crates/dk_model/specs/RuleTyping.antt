@@ -1,4 +1,4 @@
--- Trusted: rule typing over evaluation with units (docs/typing.md). What is said of it stands in RuleTypingOver.
+-- For callers: the words of rule typing over evaluation with units; what they mean stands in RuleTypingOver.
 use Rattle.std.specs.Prelude.{ℕ, Option, List}
 use Rattle.dk_model.specs.PlainTerms.{Tree}
 use Rattle.dk_model.specs.PlainEntries.{Pattern, Patterns, PlainRule, PlainSignature}

@@ -1,5 +1,5 @@
 -- Trusted: the verdict on a command and the entry that an accepted one adds (docs/typing.md).
-use Rattle.std.specs.Prelude.{ℕ, Option, Some, None, Result, Ok, Err, List, []}
+use Rattle.std.specs.Prelude.{ℕ, Option, Some, None}
 use Rattle.dk_model.specs.PlainTerms.{Tree, kind}
 use Rattle.dk_model.specs.Erasure.{erased}
 use Rattle.dk_model.specs.PlainEntries.{PlainRule, PlainEntry, symbol_entry, rules_entry, PlainSignature}
@@ -7,7 +7,8 @@ use Rattle.dk_model.specs.Shapes.{shapes_of, kept_rules}
 use Rattle.dk_model.specs.PlainCommands.{PlainCommand, declare, rule_command}
 use Rattle.dk_model.specs.TypingOver.{JudgedIn, answer, refused, ended}
 use Rattle.dk_model.specs.CommandTypingOver as over
-use Rattle.dk_model.specs.Typing.{Judged, by_units}
+use Rattle.dk_model.specs.ByUnits.{by_units}
+pub use Rattle.dk_model.specs.CommandTyping.{body_checked, body_type, declaration_checked, rules_checked, command_checked}
 use Rattle.dk_model.specs.declared.signature.SymSort.{SymSort}
 use Rattle.dk_model.specs.declared.signature.SymSort.TheVariants.{Static, Definable, Theorem}
 use Rattle.dk_model.specs.declared.code.Code.{Code}
@@ -19,26 +20,9 @@ verdict (answer a n) = Accepted
 verdict (refused c n) = Refused c
 verdict ended = Ended
 
--- by evaluation with units
-module _ (S : PlainSignature) where
-  abbrev pub body_checked : Tree → Option Tree → ℕ → Judged (Unit {0})
-  body_checked = over.body_checked (by_units S) S
-
-  abbrev pub body_type : Tree → ℕ → Judged Tree
-  body_type = over.body_type (by_units S) S
-
-  abbrev pub declaration_checked : Option Tree → Option Tree → ℕ → Judged (Unit {0})
-  declaration_checked = over.declaration_checked (by_units S) S
-
-  abbrev pub rules_checked : Result (List PlainRule) Code → ℕ → Judged (Unit {0})
-  rules_checked = over.rules_checked (by_units S) S
-
-  abbrev pub command_checked : PlainCommand → ℕ → Judged (Unit {0})
-  command_checked = over.command_checked (by_units S) S
-
 -- `Ended` exactly where the check needs more units than the budget
 abbrev pub verdict_of : PlainSignature → PlainCommand → ℕ → Verdict
-verdict_of S c budget = verdict (command_checked S c budget)
+verdict_of S c budget = verdict (over.command_checked (by_units S) S c budget)
 
 abbrev pub answer_of : {X A : Type 0} → JudgedIn X A → Option A
 answer_of (answer a n) = Some a
@@ -47,7 +31,7 @@ answer_of ended = None
 
 -- the type that is inferred for a definition without a declared type, where it is accepted
 abbrev pub inferred_type : PlainSignature → PlainCommand → ℕ → Option Tree
-inferred_type S (declare s None (Some b)) budget = answer_of (body_type S b budget)
+inferred_type S (declare s None (Some b)) budget = answer_of (over.body_type (by_units S) S b budget)
 inferred_type S (declare s None None) budget = None
 inferred_type S (declare s (Some A) b) budget = None
 inferred_type S (rule_command rs) budget = None
