@@ -16,12 +16,16 @@ use std::process::ExitCode;
 use std::sync::Wait;
 use std::thread::{self, Builder, Threads};
 use std::{env, io};
+use worker_crew::has_room;
 
 #[cfg(test)]
 mod tests;
 
-// The status comes from a thread with that stack. Where it can't be had, memory has ended before the call.
+// The status comes from a thread with that stack. Where that has no room, memory has ended before the call.
 fn main(rt: HostRuntime) -> ExitCode {
+    if !has_room(&rt, STACK) {
+        return exit_with(NO_MEMORY);
+    }
     let status = thread::scope(thread::scope_env(), &rt, |scope| {
         match Builder::new()
             .stack_size(STACK)

@@ -1,10 +1,10 @@
 //! The door before the tickets. While one thread has the turn, others wait here and not in the queue:
 //! a queue is served in its order, so in it one thread that the system doesn't let run stops all the
-//! others. Nothing that is proved rests on the door: who has waited long enough draws its ticket.
+//! others. Nothing that is proved rests on the door.
+use crate::pause::Pause;
 use std::sync::Wait;
 use std::sync::atomic::{AtomicU64, Ordering};
 use std::thread;
-use std::time::Duration;
 
 // What the word says: nobody is inside; somebody is; somebody is, and others may sleep.
 const FREE: u64 = 0;
@@ -12,14 +12,6 @@ const FREE: u64 = 0;
 const TAKEN: u64 = 1;
 
 const AWAITED: u64 = 2;
-
-/// How often a thread yields before it sleeps.
-const YIELDS: u32 = 16;
-
-/// How often it sleeps at most, each time until it is woken or so many microseconds have passed.
-const SLEEPS: u32 = 16;
-
-const LONGEST_SLEEP: u64 = 1000;
 
 /// The door of a slot (docs/board-lock.md).
 #[derive(Drop)]
@@ -35,20 +27,24 @@ impl Door {
         }
     }
 
-    /// Waits until nobody is inside, or long enough.
+    /// Waits until nobody is inside.
     pub fn enter<R: Wait>(&self, rt: &R) {
-        for _ in 0..YIELDS {
-            if self.take() {
-                return;
+        let mut pause = Pause::new();
+        for _ in rt.forever() {
+            match pause.next() {
+                None => {
+                    if self.take() {
+                        return;
+                    }
+                    thread::yield_now();
+                }
+                Some(sleep) => {
+                    if self.word.swap(AWAITED, Ordering::SeqCst) == FREE {
+                        return;
+                    }
+                    self.word.park_timeout(rt, AWAITED as u32, sleep);
+                }
             }
-            thread::yield_now();
-        }
-        for _ in 0..SLEEPS {
-            if self.word.swap(AWAITED, Ordering::SeqCst) == FREE {
-                return;
-            }
-            self.word
-                .park_timeout(rt, AWAITED as u32, Duration::from_micros(LONGEST_SLEEP));
         }
     }
 

@@ -10,6 +10,7 @@
 mod crossing;
 mod door;
 mod kept;
+mod pause;
 mod slot;
 mod steps;
 mod view;

@@ -5,6 +5,7 @@ ghost use Rattle.ticket_slot.specs.Views.{IsFree, IsReader, HasTurn, TookTurn, A
 
 use crate::door::Door;
 use crate::kept::Kept;
+use crate::pause::Pause;
 use crate::steps::{Adding, Count, Draw, Give, Look, Seating, Turns};
 use crate::view::View;
 use atomic_table::{Seat, Table};
@@ -121,8 +122,8 @@ impl<V: Kept> Slot<V> {
         value
     }
 
-    /// Passes the door, draws a ticket, waits for its turn, and takes the value. While it waits it
-    /// yields. At the turn the pass's `seen` is the whole history, and `known` the reader's list.
+    /// Passes the door, draws a ticket, waits for its turn, and takes the value. At the turn the pass's
+    /// `seen` is the whole history, and `known` the reader's list.
     pub fn lock<R: Wait>(&self, rt: &R, pass: &mut Pass<V>) -> V
         requires own { pass.old.table_id ≡ self.now }
         requires free { IsFree pass.old.me }
@@ -137,14 +138,19 @@ impl<V: Kept> Slot<V> {
         self.door.enter(rt);
         let shared = &self.table.shared;
         let ticket = shared.fetch_add::<Draw>(pass, NEXT, 1);
+        let mut pause = Pause::new();
         for _ in rt.forever() {
-            if shared.load::<Look<V>>(pass, SERVING) == ticket {
+            let serving = shared.load::<Look<V>>(pass, SERVING);
+            if serving == ticket {
                 let Some(value) = shared.exchange(pass, 0, None) else {
                     unreachable!()
                 };
                 return value;
             }
-            thread::yield_now();
+            match pause.next() {
+                None => thread::yield_now(),
+                Some(sleep) => shared.park_timeout(rt, SERVING, low_half(serving), sleep),
+            }
         }
         unreachable!()
     }
@@ -196,6 +202,11 @@ impl<V: Kept> Slot<V> {
         shared.fetch_add::<Give>(pass, SERVING, 1);
         self.door.leave();
     }
+}
+
+// The half of a word that a sleep on it looks at.
+fn low_half(word: u64) -> u32 {
+    (word & 0xffff_ffff) as u32
 }
 
 // The value in the one slot.

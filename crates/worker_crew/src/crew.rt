@@ -2,7 +2,9 @@
 ghost use Rattle.std.specs.Prelude.{◌≡◌, ◌≤◌, [], All, OnOk, length, vec_capacity, vec_len};
 ghost use Rattle.task_board.specs.Passes.{IsIdle, IsOver};
 
-use crate::worker::work;
+use crate::bell::Bell;
+use crate::room::with_room;
+use crate::worker::{work, work_until_rung};
 use board_core::{Checker, Gate};
 use core::thread::Stack;
 use dk_model::{Listed, NoMemory};
@@ -48,9 +50,9 @@ impl<C: Checker> Promise<WorkerPass<C>> for Returned<C> {
 }
 
 /// Starts a worker for each pass, with a stack of so many bytes, lets the reader read, works itself
-/// with the passes whose threads couldn't be made, and gives all passes back with what the reader
-/// gave. The reader has to seal the board, or no worker ends. Where there is no memory for the
-/// workers' handles no thread is made.
+/// with the passes whose threads had no room or couldn't be made, and gives all passes back with what
+/// the reader gave. The reader has to seal the board, or no worker ends. Where there is no memory for
+/// the workers' handles no thread is made.
 pub fn run_crew<
     R: Threads + Wait + Sync,
     C: Checker + Send + Sync,
@@ -77,6 +79,8 @@ where
     ensures over { All (λ p. (p.seat.table_id ≡ board.now)
         × IsIdle p.seat.me.0 × IsOver p.seat.me.0) result.1 }
 {
+    let bell = Bell::of_machine(rt);
+    let bell = &bell;
     thread::scope(
         thread::scope_env(),
         rt,
@@ -95,7 +99,11 @@ where
                 let passes = work_off(rt, board, passes, checker, gate);
                 return (given, Listed::from_vec(passes));
             };
-            while let Some(pass) = passes.pop() {
+            let spare = passes.len() - with_room(rt, stack, passes.len());
+            while passes.len() > spare {
+                let Some(pass) = passes.pop() else {
+                    unreachable!()
+                };
                 let given = Snapshot::of(&pass);
                 match Stack::new().stack_size(stack).spawn_scoped_with(
                     scope,
@@ -104,13 +112,15 @@ where
                         requires { (pass.seat.table_id ≡ board.now) × IsIdle pass.seat.me.0 }
                         ensures { (result.seat.table_id ≡ pass.seat.table_id)
                             × IsIdle result.seat.me.0 × IsOver result.seat.me.0 }
-                    { work(rt, board, pass, checker, gate) },
+                    { work_until_rung(rt, board, pass, checker, gate, bell) },
                 ) {
                     Ok(child) => handles.push_reserved(child),
                     Err(refused) => late.push_reserved(refused.value),
                 }
             }
             let given = reading.read();
+            bell.ring();
+            let mut passes = work_off(rt, board, passes, checker, gate);
             while let Some(worker) = late.pop() {
                 passes.push_reserved(worker());
             }

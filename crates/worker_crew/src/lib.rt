@@ -4,9 +4,12 @@
 //! be claimed any more (docs/board.md). Begin at `work`, then `run_crew`.
 #![tactic(auto)]
 
+mod bell;
 mod crew;
 mod patience;
+mod room;
 mod worker;
 
 pub use crew::{Reading, run_crew};
+pub use room::has_room;
 pub use worker::work;

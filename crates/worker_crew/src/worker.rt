@@ -3,6 +3,7 @@ ghost use Rattle.std.specs.Prelude.{◌≡◌, ◌⊎◌};
 ghost use Rattle.dk_model.specs.declared.code.Verdict.TheVariants.{Memory};
 ghost use Rattle.task_board.specs.Passes.{IsIdle, IsOver};
 
+use crate::bell::Bell;
 use crate::patience::Patience;
 use board_core::{Checker, Claimed, Gate};
 use dk_model::Verdict;
@@ -14,7 +15,7 @@ use task_board::{Board, WorkerPass};
 pub fn work<R: Wait, C: Checker, G: Gate>(
     rt: &R,
     board: &Board<C>,
-    mut pass: WorkerPass<C>,
+    pass: WorkerPass<C>,
     checker: &C,
     gate: &G,
 ) -> WorkerPass<C>
@@ -28,16 +29,38 @@ where
     ensures idle { IsIdle result.seat.me.0 }
     ensures over { IsOver result.seat.me.0 }
 {
+    work_until_rung(rt, board, pass, checker, gate, &Bell::new(1))
+}
+
+/// The same, where the bell ends each rest.
+pub fn work_until_rung<R: Wait, C: Checker, G: Gate>(
+    rt: &R,
+    board: &Board<C>,
+    mut pass: WorkerPass<C>,
+    checker: &C,
+    gate: &G,
+    bell: &Bell,
+) -> WorkerPass<C>
+where
+    C::Job: Drop,
+    C::Kit: Drop,
+    requires own { pass.seat.table_id ≡ board.now }
+    requires idle { IsIdle pass.seat.me.0 }
+    ensures own { result.seat.table_id ≡ board.now }
+    ensures number { result.number ≡ pass.number }
+    ensures idle { IsIdle result.seat.me.0 }
+    ensures over { IsOver result.seat.me.0 }
+{
     let mut kit = checker.kit();
-    let mut patience = Patience::of(pass.number);
+    let mut patience = Patience::of(pass.number, bell);
     for _ in rt.forever() {
         match board.claim(rt, &mut pass) {
             Claimed::Over => return pass,
-            Claimed::Empty => patience.rest(rt),
+            Claimed::Empty => patience.rest(rt, bell),
             Claimed::Task(task) => {
                 let verdict = gated(checker, gate, &mut kit, task.number, &*task.job);
                 board.answer(rt, &mut pass, task, verdict);
-                patience = Patience::of(pass.number);
+                patience = Patience::of(pass.number, bell);
             }
         }
     }

@@ -14,8 +14,8 @@ returns-in_default g c = let e = c.work_off-passes.ensures in let items = c.from
   subst (All (λ p. (p.seat.table_id ≡ c.captures.board.now) × IsIdle p.seat.me.0 × IsOver p.seat.me.0)) (sym items) e.over,
 )
 
-pub loop-pass-init : goal.loop-pass-init
-loop-pass-init g c = let m = c.make_room.ensures in let r = c.in-Ok.ensures in let n = c.len.ensures in record {
+pub loop-stack-init : goal.loop-stack-init
+loop-stack-init g c = let m = c.make_room.ensures in let r = c.in-Ok.ensures in let n = c.len.ensures in record {
   waiting = subst (All (λ p. (p.seat.table_id ≡ c.captures.board.now) × IsIdle p.seat.me.0)) (sym c.into_vec-passes.ensures) c.requires.0;
   refused = rw m.late (All-nil _);
   started = rw m.handles (All-nil _);
@@ -26,10 +26,10 @@ loop-pass-init g c = let m = c.make_room.ensures in let r = c.in-Ok.ensures in l
 }
 
 pub spawn_scoped_with-requires-clause-runs : goal.spawn_scoped_with-requires-clause-runs
-spawn_scoped_with-requires-clause-runs g c κs h = let t = all_take (λ p. (p.seat.table_id ≡ c.captures.board.now) × IsIdle p.seat.me.0) _ _ _ c.in-Some.ensures.items c.loop-pass.invariant.waiting in (t.1.0, t.1.1)
+spawn_scoped_with-requires-clause-runs g c κs h = let t = all_take (λ p. (p.seat.table_id ≡ c.captures.board.now) × IsIdle p.seat.me.0) _ _ _ c.in-Some.ensures.items c.loop-stack.invariant.waiting in (t.1.0, t.1.1)
 
-pub loop-pass-preserved-in-Ok-spawn_scoped_with : goal.loop-pass-preserved-in-Ok-spawn_scoped_with
-loop-pass-preserved-in-Ok-spawn_scoped_with g c = let i = c.loop-pass.invariant in let e = c.push_reserved.ensures in let p = c.in-Some.ensures in
+pub loop-stack-preserved-in-Ok-spawn_scoped_with : goal.loop-stack-preserved-in-Ok-spawn_scoped_with
+loop-stack-preserved-in-Ok-spawn_scoped_with g c = let i = c.loop-stack.invariant in let e = c.push_reserved.ensures in let p = c.in-Some.ensures in
     let t = all_take (λ p. (p.seat.table_id ≡ c.captures.board.now) × IsIdle p.seat.me.0) _ _ _ p.items i.waiting in record {
       waiting = t.0;
       refused = i.refused;
@@ -41,8 +41,8 @@ loop-pass-preserved-in-Ok-spawn_scoped_with g c = let i = c.loop-pass.invariant 
       handles_room = let a = e.capacity in let d = i.handles_room in omega (arith, a, d);
     }
 
-pub loop-pass-preserved : goal.loop-pass-preserved
-loop-pass-preserved g c = let i = c.loop-pass.invariant in let e = c.push_reserved-in-Err.ensures in let p = c.in-Some.ensures in
+pub loop-stack-preserved : goal.loop-stack-preserved
+loop-stack-preserved g c = let i = c.loop-stack.invariant in let e = c.push_reserved-in-Err.ensures in let p = c.in-Some.ensures in
     let t = all_take (λ p. (p.seat.table_id ≡ c.captures.board.now) × IsIdle p.seat.me.0) _ _ _ p.items i.waiting in record {
       waiting = t.0;
       refused = all_put (λ f. (f.1.now ≡ c.captures.board.now) × (f.2.seat.table_id ≡ c.captures.board.now) × IsIdle f.2.seat.me.0) _ _ _ e.items i.refused
@@ -76,10 +76,13 @@ loop-child-preserved g c = let i = c.loop-child.invariant in let e = c.push_rese
       room = let a = e.capacity in let d = i.room in omega (arith, a, d);
     }
 
+pub work_off-passes-requires-2 : goal.work_off-passes-requires-2
+work_off-passes-requires-2 g c = record { waiting = c.loop-stack.invariant.waiting }
+
 pub returns : goal.returns
 returns g c = let i = c.loop-child.invariant in let items = c.from_vec-2.ensures in (
   c.read-given-2.ensures,
-  (let a = ap length items in let b = i.count in let d = ap length c.into_vec-passes.ensures in let w = c.loop-worker.invariant.count in let s = c.loop-pass.invariant.count in
-      let z : vec_len c.loop-child.handles ≡ 0 = search rules in let y : vec_len c.loop-worker.late ≡ 0 = search rules in let x : vec_len c.loop-pass.passes ≡ 0 = search rules in omega (arith, a, b, d, w, s, x, y, z)),
+  (let a = ap length items in let b = i.count in let d = ap length c.into_vec-passes.ensures in let w = c.loop-worker.invariant.count in let s = c.loop-stack.invariant.count in let o = c.work_off-passes-2.ensures.count in
+      let z : vec_len c.loop-child.handles ≡ 0 = search rules in let y : vec_len c.loop-worker.late ≡ 0 = search rules in omega (arith, a, b, d, w, s, o, y, z)),
   subst (All (λ p. (p.seat.table_id ≡ c.captures.board.now) × IsIdle p.seat.me.0 × IsOver p.seat.me.0)) (sym items) i.over,
 )

@@ -2,8 +2,8 @@ use Rattle.std.proofs.Common.{◌≡◌, ◌+◌, ◌≤◌, All, vec_len, vec_c
 use Rattle.task_board.specs.Passes.{IsIdle, IsOver}
 use Rattle.worker_crew.proofs.crew.fn.run_crew.scope.Given as goal
 
-abbrev pub invariant-loop-pass : goal.invariant-loop-pass
-invariant-loop-pass g l = record {
+abbrev pub invariant-loop-stack : goal.invariant-loop-stack
+invariant-loop-stack g l = record {
   waiting : All (λ p. (p.seat.table_id ≡ l.board) × IsIdle p.seat.me.0) l.passes.items;
   refused : All (λ f. (f.1.now ≡ l.board) × (f.2.seat.table_id ≡ l.board) × IsIdle f.2.seat.me.0) l.late.items;
   started : All (λ h. h.promise.given.value.seat.table_id ≡ l.board) l.handles.items;
@@ -13,8 +13,8 @@ invariant-loop-pass g l = record {
   handles_room : vec_len l.initial.passes ≤ vec_capacity l.handles;
 }
 
-abbrev pub decreases-loop-pass : goal.decreases-loop-pass
-decreases-loop-pass g l = vec_len l.passes
+abbrev pub decreases-loop-stack : goal.decreases-loop-stack
+decreases-loop-stack g l = vec_len l.passes
 
 abbrev pub invariant-loop-worker : goal.invariant-loop-worker
 invariant-loop-worker g l = record {

@@ -1,6 +1,6 @@
 use Rattle.std.proofs.Common.{◌≡◌}
 use Rattle.task_board.specs.Passes.{IsIdle}
-use Rattle.worker_crew.proofs.worker.work.Given as goal
+use Rattle.worker_crew.proofs.worker.work_until_rung.Given as goal
 
 abbrev pub invariant-loop : goal.invariant-loop
 invariant-loop g l = record {
