@@ -23,7 +23,7 @@ mod tests;
 
 // The status comes from a thread with that stack. Where that has no room, memory has ended before the call.
 fn main(rt: HostRuntime) -> ExitCode {
-    if !has_room(&rt, STACK) {
+    if !has_room(rt.alloc(), STACK) {
         return exit_with(NO_MEMORY);
     }
     let status = thread::scope(thread::scope_env(), &rt, |scope| {

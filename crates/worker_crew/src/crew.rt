@@ -99,7 +99,7 @@ where
                 let passes = work_off(rt, board, passes, checker, gate);
                 return (given, Listed::from_vec(passes));
             };
-            let spare = passes.len() - with_room(rt, stack, passes.len());
+            let spare = passes.len() - with_room(alloc, stack, passes.len());
             while passes.len() > spare {
                 let Some(pass) = passes.pop() else {
                     unreachable!()

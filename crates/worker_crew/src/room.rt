@@ -1,10 +1,9 @@
 //! How many threads have room in the address space that is left. A stack may take the last of it, and then the thread has
-//! no area of the allocator: each piece of memory that it asks for is a mapping of its own, and soon there is none. So a
-//! thread is asked for that does nothing, with a stack as large as all that is wanted.
+//! no area of the allocator: each piece of memory that it asks for is a mapping of its own, and soon there is none. So as
+//! much as is wanted is asked for at once, and given back.
 ghost use Rattle.std.specs.Prelude.{◌≤◌};
 
-use core::thread::{Anything, Stack};
-use std::thread::Threads;
+use std::alloc::Global;
 
 /// What the allocator takes for the area of a thread, and what it asks for at first to find a place for it, in bytes.
 const AREA: usize = 1 << 26;
@@ -15,34 +14,26 @@ const PLACE_OF_AREA: usize = 1 << 27;
 const BESIDE: usize = 1 << 29;
 
 /// Whether a thread with a stack of so many bytes has room for its area too.
-pub fn has_room<R: Threads>(rt: &R, stack: usize) -> bool {
-    can_be_had(rt, stack.saturating_add(PLACE_OF_AREA))
+pub fn has_room(alloc: Global, stack: usize) -> bool {
+    can_be_had(alloc, stack.saturating_add(PLACE_OF_AREA))
 }
 
 /// How many workers, of those wanted, have room, each with a stack of so many bytes.
-pub fn with_room<R: Threads>(rt: &R, stack: usize, wanted: usize) -> usize
+pub fn with_room(alloc: Global, stack: usize, wanted: usize) -> usize
     ensures few { result ≤ wanted }
 {
     let each = stack.saturating_add(AREA);
     for fewer in 0..wanted {
         let count = wanted - fewer;
-        if can_be_had(rt, each.saturating_mul(count).saturating_add(BESIDE)) {
+        if can_be_had(alloc, each.saturating_mul(count).saturating_add(BESIDE)) {
             return count;
         }
     }
     0
 }
 
-/// Whether a stack of so many bytes can be had now.
-fn can_be_had<R: Threads>(rt: &R, size: usize) -> bool {
-    match Stack::new()
-        .stack_size(size)
-        .spawn_with(rt, Anything, || ())
-    {
-        Ok(child) => {
-            child.join(rt);
-            true
-        }
-        Err(_) => false,
-    }
+/// Whether so many bytes can be had now.
+fn can_be_had(alloc: Global, size: usize) -> bool {
+    let mut bytes: Vec<u8> = Vec::new(alloc);
+    bytes.reserve(size).is_ok()
 }
