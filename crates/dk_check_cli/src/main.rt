@@ -24,7 +24,7 @@ mod tests;
 // The status comes from a thread with that stack. Where that has no room, memory has ended before the call.
 fn main(rt: HostRuntime) -> ExitCode {
     if !has_room(rt.alloc(), STACK) {
-        return exit_with(NO_MEMORY);
+        return exit_with(status::MEMORY);
     }
     let status = thread::scope(thread::scope_env(), &rt, |scope| {
         match Builder::new()
