@@ -61,12 +61,12 @@ fn entry_body(alloc: Global, sort: SymSort, body: &Option<Term>) -> Result<Optio
 #[tactic(auto, using(crate::proofs::Entering::rules_kept))]
 fn entry_rules(
     alloc: Global,
-    v: &Version,
+    version: &Version,
     rules: &Listed<ScopedRule>,
 ) -> Result<Listed<Rule<Stored>>, TypeFault>
-    ensures { GivesRules (command_shapes (entries_of v.now) rules.now) result }
+    ensures { GivesRules (command_shapes (entries_of version.now) rules.now) result }
 {
-    let kept = erase_all(alloc, shapes_of(alloc, v, rules)?)?;
+    let kept = erase_all(alloc, shapes_of(alloc, version, rules)?)?;
     Ok(store_rules(alloc, kept.as_slice())?)
 }
 
@@ -75,13 +75,13 @@ fn entry_rules(
 /// Each rule of a command has its shape, or the first code of the first rule that has one (E31, E32, E33, then E30).
 pub fn entry_of(
     alloc: Global,
-    v: &Version,
+    version: &Version,
     command: &Scoped,
     inferred: Option<Stored>,
 ) -> Result<Entry<Stored>, TypeFault>
     ensures ok { IfOk result (λ e. stored_entry e
-        ≡ entry_of (entries_of v.now) (plain_command command.now) (maybe_by stored_term inferred)) }
-    ensures err { IfErr result (IsEntryFault (entries_of v.now) (plain_command command.now)) }
+        ≡ entry_of (entries_of version.now) (plain_command command.now) (maybe_by stored_term inferred)) }
+    ensures err { IfErr result (IsEntryFault (entries_of version.now) (plain_command command.now)) }
 {
     match command {
         Scoped::Declare { sort, typ, body } => Ok(Entry::Symbol {
@@ -89,6 +89,6 @@ pub fn entry_of(
             typ: entry_type(alloc, typ, inferred)?,
             body: entry_body(alloc, *sort, body)?,
         }),
-        Scoped::Rules(rules) => Ok(Entry::Rules(entry_rules(alloc, v, rules)?)),
+        Scoped::Rules(rules) => Ok(Entry::Rules(entry_rules(alloc, version, rules)?)),
     }
 }

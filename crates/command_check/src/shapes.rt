@@ -10,10 +10,10 @@ use signature_log::Version;
 use std::alloc::Global;
 
 /// Whether the symbol was declared by `def`.
-fn is_definable(v: &Version, symbol: u32) -> bool
-    ensures { result ≡ is_definable (entries_of v.now) symbol }
+fn is_definable(version: &Version, symbol: u32) -> bool
+    ensures { result ≡ is_definable (entries_of version.now) symbol }
 {
-    match v.get(symbol) {
+    match version.get(symbol) {
         Some(Entry::Symbol { sort, .. }) => match sort {
             SymSort::Definable => true,
             SymSort::Static => false,
@@ -33,10 +33,10 @@ fn room_for(alloc: Global, count: usize) -> Result<Listed<Rule>, NoMemory>
 /// The rules of a command, or the first code of the first rule that has one (E31, E32, E33, then E30).
 pub fn shapes_of(
     alloc: Global,
-    v: &Version,
+    version: &Version,
     rules: &Listed<ScopedRule>,
 ) -> Result<Listed<Rule>, TypeFault>
-    ensures { GivesShapes (command_shapes (entries_of v.now) rules.now) result }
+    ensures { GivesShapes (command_shapes (entries_of version.now) rules.now) result }
 {
     let mut shapes = room_for(alloc, rules.len())?;
     for rule in rules.as_slice() {
@@ -45,7 +45,7 @@ pub fn shapes_of(
             Err(Fault::Refused(code)) => return Err(TypeFault::Refused(code)),
             Err(Fault::NoMemory) => return Err(TypeFault::NoMemory),
         };
-        if !is_definable(v, rule.head) {
+        if !is_definable(version, rule.head) {
             return Err(TypeFault::Refused(Code::E30));
         }
         shapes.push(rule)?;

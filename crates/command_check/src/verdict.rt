@@ -1,5 +1,5 @@
 //! The verdict on a command, and the type of a definition without one.
-ghost use Rattle.std.specs.Prelude.{◌≡◌, IfErr, IfOk, IsTrue, Some, map};
+ghost use Rattle.std.specs.Prelude.{◌≡◌, ◌≤◌, IfErr, IfOk, IsTrue, Some, map};
 ghost use Rattle.dk_model.specs.Trees.{tree};
 ghost use Rattle.dk_model.specs.Signatures.{maybe_by, plain_rule};
 ghost use Rattle.dk_model.specs.RuleTyping.{rules_typed};
@@ -10,6 +10,7 @@ ghost use Rattle.shared_term.specs.Storage.{stored_term};
 ghost use Rattle.signature_log.specs.Versions.{entries_of, stored_entry};
 ghost use Rattle.signature_log.specs.Reducers.{Keeps};
 ghost use Rattle.infer_check.specs.Given.{GivesFit};
+ghost use Rattle.infer_check.specs.Walks.{Follows};
 ghost use Rattle.dk_model.specs.WellFormed.{IsSignature};
 ghost use Rattle.typing_model.specs.Conditions.{HasNoAnnotations, IsNumbered};
 ghost use Rattle.typing_model.specs.Derivations.{HasDerivation};
@@ -38,83 +39,86 @@ fn fault_verdict(fault: TypeFault) -> Verdict
 }
 
 /// That the rules of a command have their shapes, which takes no unit, and that each is typed.
-#[tactic(auto, using(crate::proofs::Verdicts::shapes_fail))]
+#[tactic(auto, using(crate::proofs::Verdicts::shapes_fail, signature_log::proofs::Keeping::keeps_none, signature_log::proofs::Keeping::keeps_further, infer_check::proofs::Walks::follows))]
 fn check_rules<R: Reducer>(
     r: &mut R,
-    v: &Version,
+    version: &Version,
     rules: &Listed<ScopedRule>,
     left: &mut u64,
 ) -> Result<(), TypeFault>
-    requires { R.serves (entries_of v.now) r.old }
-    ensures gives { GivesFit (rules_checked (entries_of v.now)
-        (command_shapes (entries_of v.now) rules.now) left.old) result left.new }
-    ensures keeps { Keeps R.owns R.denotes r.old r.new }
-    ensures serves { R.serves (entries_of v.now) r.new }
+    requires { R.serves (entries_of version.now) r.old }
+    ensures gives { GivesFit (rules_checked (entries_of version.now)
+        (command_shapes (entries_of version.now) rules.now) left.old) result left.new }
+    ensures follows { Follows R.owns R.denotes R.serves (entries_of version.now) r.old r.new }
+    ensures spent { left.new ≤ left.old }
 {
-    let shapes = shapes_of(r.alloc(), v, rules)?;
-    type_rules(r, v, shapes.as_slice(), left)
+    let shapes = shapes_of(r.alloc(), version, rules)?;
+    type_rules(r, version, shapes.as_slice(), left)
 }
 
 /// That each rule is typed, in file order, over the commands before: none is used in its own command.
+#[tactic(auto, using(signature_log::proofs::Keeping::keeps_none, signature_log::proofs::Keeping::keeps_further, infer_check::proofs::Walks::follows))]
 fn type_rules<R: Reducer>(
     r: &mut R,
-    v: &Version,
+    version: &Version,
     rules: &[Rule],
     left: &mut u64,
 ) -> Result<(), TypeFault>
-    requires { R.serves (entries_of v.now) r.old }
+    requires { R.serves (entries_of version.now) r.old }
     ensures gives { GivesFit
-        (rules_typed (entries_of v.now) (map plain_rule rules.now) left.old) result left.new }
-    ensures keeps { Keeps R.owns R.denotes r.old r.new }
-    ensures serves { R.serves (entries_of v.now) r.new }
+        (rules_typed (entries_of version.now) (map plain_rule rules.now) left.old) result left.new }
+    ensures follows { Follows R.owns R.denotes R.serves (entries_of version.now) r.old r.new }
+    ensures spent { left.new ≤ left.old }
 {
     let mut rest = rules;
     while let Some((rule, others)) = rest.split_first() {
-        check_rule(r, v, rule, left)?;
+        check_rule(r, version, rule, left)?;
         rest = others;
     }
     Ok(())
 }
 
 /// The check of a command with the units that are left.
+#[tactic(auto, using(signature_log::proofs::Keeping::keeps_none, signature_log::proofs::Keeping::keeps_further, infer_check::proofs::Walks::follows))]
 fn judge<R: Reducer>(
     r: &mut R,
-    v: &Version,
+    version: &Version,
     command: &Scoped,
     left: &mut u64,
 ) -> Result<(), TypeFault>
-    requires { R.serves (entries_of v.now) r.old }
+    requires { R.serves (entries_of version.now) r.old }
     ensures gives { GivesFit
-        (command_checked (entries_of v.now) (plain_command command.now) left.old) result left.new }
-    ensures keeps { Keeps R.owns R.denotes r.old r.new }
-    ensures serves { R.serves (entries_of v.now) r.new }
+        (command_checked (entries_of version.now) (plain_command command.now) left.old) result left.new }
+    ensures follows { Follows R.owns R.denotes R.serves (entries_of version.now) r.old r.new }
+    ensures spent { left.new ≤ left.old }
 {
     match command {
         Scoped::Declare { typ, body, .. } => {
-            check_declaration::<R, Boxed>(r, v, typ, body, left)
+            check_declaration::<R, Boxed>(r, version, typ, body, left)
         }
-        Scoped::Rules(rules) => check_rules(r, v, rules, left),
+        Scoped::Rules(rules) => check_rules(r, version, rules, left),
     }
 }
 
 /// The same of a command whose terms are stored.
+#[tactic(auto, using(signature_log::proofs::Keeping::keeps_none, signature_log::proofs::Keeping::keeps_further, infer_check::proofs::Walks::follows))]
 fn judge_stored<R: Reducer>(
     r: &mut R,
-    v: &Version,
+    version: &Version,
     command: &StoredCommand,
     left: &mut u64,
 ) -> Result<(), TypeFault>
-    requires { R.serves (entries_of v.now) r.old }
+    requires { R.serves (entries_of version.now) r.old }
     ensures gives { GivesFit
-        (command_checked (entries_of v.now) (stored_command command.now) left.old) result left.new }
-    ensures keeps { Keeps R.owns R.denotes r.old r.new }
-    ensures serves { R.serves (entries_of v.now) r.new }
+        (command_checked (entries_of version.now) (stored_command command.now) left.old) result left.new }
+    ensures follows { Follows R.owns R.denotes R.serves (entries_of version.now) r.old r.new }
+    ensures spent { left.new ≤ left.old }
 {
     match command {
         StoredCommand::Declare { typ, body, .. } => {
-            check_declaration::<R, InLists>(r, v, typ, body, left)
+            check_declaration::<R, InLists>(r, version, typ, body, left)
         }
-        StoredCommand::Rules(rules) => check_rules(r, v, rules, left),
+        StoredCommand::Rules(rules) => check_rules(r, version, rules, left),
     }
 }
 
@@ -124,20 +128,25 @@ fn judge_stored<R: Reducer>(
 /// accepted has a derivation, where the version is a well-formed signature, as that of accepted commands is, or where it
 /// numbers the rule variables of its rules as shapes do and has no annotations.
 #[tactic(auto, using(crate::proofs::Verdicts::fit_verdict, crate::proofs::Verdicts::fault_due, crate::proofs::Verdicts::fault_refuses, crate::proofs::Verdicts::derived))]
-pub fn check_command<R: Reducer>(reducer: &mut R, v: &Version, c: &Scoped, budget: u64) -> Verdict
-    requires { R.serves (entries_of v.now) reducer.old }
+pub fn check_command<R: Reducer>(
+    reducer: &mut R,
+    version: &Version,
+    c: &Scoped,
+    budget: u64,
+) -> Verdict
+    requires { R.serves (entries_of version.now) reducer.old }
     ensures due { IsVerdictOrMemory
-        (verdict_of (entries_of v.now) (plain_command c.now) budget) result }
-    ensures derivation { result ≡ Verdict.Accepted → IsSignature (entries_of v.now)
-        → HasDerivation (entries_of v.now) (plain_command c.now) }
-    ensures numbered { result ≡ Verdict.Accepted → IsNumbered (entries_of v.now)
-        → HasNoAnnotations (entries_of v.now) → HasDerivation (entries_of v.now) (plain_command c.now) }
+        (verdict_of (entries_of version.now) (plain_command c.now) budget) result }
+    ensures derivation { result ≡ Verdict.Accepted → IsSignature (entries_of version.now)
+        → HasDerivation (entries_of version.now) (plain_command c.now) }
+    ensures numbered { result ≡ Verdict.Accepted → IsNumbered (entries_of version.now)
+        → HasNoAnnotations (entries_of version.now) → HasDerivation (entries_of version.now) (plain_command c.now) }
     ensures keeps { Keeps R.owns R.denotes reducer.old reducer.new }
-    ensures serves { R.serves (entries_of v.now) reducer.new }
+    ensures serves { R.serves (entries_of version.now) reducer.new }
 {
     accepted_has_derivation();
     let mut left = budget;
-    match judge(reducer, v, c, &mut left) {
+    match judge(reducer, version, c, &mut left) {
         Ok(()) => Verdict::Accepted,
         Err(fault) => fault_verdict(fault),
     }
@@ -147,21 +156,21 @@ pub fn check_command<R: Reducer>(reducer: &mut R, v: &Version, c: &Scoped, budge
 #[tactic(auto, using(crate::proofs::Verdicts::fit_verdict, crate::proofs::Verdicts::fault_due, crate::proofs::Verdicts::fault_refuses, crate::proofs::Verdicts::derived))]
 pub fn check_stored<R: Reducer>(
     reducer: &mut R,
-    v: &Version,
+    version: &Version,
     c: &StoredCommand,
     budget: u64,
 ) -> Verdict
-    requires { R.serves (entries_of v.now) reducer.old }
+    requires { R.serves (entries_of version.now) reducer.old }
     ensures due { IsVerdictOrMemory
-        (verdict_of (entries_of v.now) (stored_command c.now) budget) result }
-    ensures derivation { result ≡ Verdict.Accepted → IsSignature (entries_of v.now)
-        → HasDerivation (entries_of v.now) (stored_command c.now) }
+        (verdict_of (entries_of version.now) (stored_command c.now) budget) result }
+    ensures derivation { result ≡ Verdict.Accepted → IsSignature (entries_of version.now)
+        → HasDerivation (entries_of version.now) (stored_command c.now) }
     ensures keeps { Keeps R.owns R.denotes reducer.old reducer.new }
-    ensures serves { R.serves (entries_of v.now) reducer.new }
+    ensures serves { R.serves (entries_of version.now) reducer.new }
 {
     accepted_has_derivation();
     let mut left = budget;
-    match judge_stored(reducer, v, c, &mut left) {
+    match judge_stored(reducer, version, c, &mut left) {
         Ok(()) => Verdict::Accepted,
         Err(refusal) => fault_verdict(refusal),
     }
@@ -171,20 +180,20 @@ pub fn check_stored<R: Reducer>(
 #[tactic(auto, using(crate::proofs::Verdicts::fault_due, crate::proofs::Verdicts::fault_refuses, signature_log::proofs::Keeping::keeps_further))]
 fn infer_untyped<R: Reducer>(
     reducer: &mut R,
-    v: &Version,
+    version: &Version,
     body: &Term,
     budget: u64,
 ) -> Result<Stored, Verdict>
-    requires { R.serves (entries_of v.now) reducer.old }
-    ensures ok { IfOk result (λ t. HasBodyType (entries_of v.now) (tree body.now) budget (stored_term t)) }
+    requires { R.serves (entries_of version.now) reducer.old }
+    ensures ok { IfOk result (λ t. HasBodyType (entries_of version.now) (tree body.now) budget (stored_term t)) }
     ensures err { IfErr result (IsVerdictOrMemory
-        (verdict (body_type (entries_of v.now) (tree body.now) budget))) }
+        (verdict (body_type (entries_of version.now) (tree body.now) budget))) }
     ensures refused { IfErr result (λ v. ¬ (v ≡ Verdict.Accepted)) }
     ensures keeps { Keeps R.owns R.denotes reducer.old reducer.new }
-    ensures serves { R.serves (entries_of v.now) reducer.new }
+    ensures serves { R.serves (entries_of version.now) reducer.new }
 {
     let mut left = budget;
-    match infer_body::<R, Boxed>(reducer, v, body, &mut left) {
+    match infer_body::<R, Boxed>(reducer, version, body, &mut left) {
         Ok(typ) => match reducer.send(&typ) {
             Ok(typ) => Ok(typ),
             Err(_) => Err(Verdict::Memory),
@@ -197,30 +206,30 @@ fn infer_untyped<R: Reducer>(
 #[tactic(auto, using(crate::proofs::Verdicts::body_verdict, crate::proofs::Verdicts::body_due, crate::proofs::Verdicts::body_inferred, crate::proofs::Verdicts::derived))]
 pub fn infer_type<R: Reducer>(
     reducer: &mut R,
-    v: &Version,
+    version: &Version,
     c: &Scoped,
     budget: u64,
 ) -> Result<Stored, Verdict>
     requires untyped { IsTrue (is_untyped (plain_command c.now)) }
-    requires serves { R.serves (entries_of v.now) reducer.old }
-    ensures ok { IfOk result (λ t. inferred_type (entries_of v.now) (plain_command c.now) budget
+    requires serves { R.serves (entries_of version.now) reducer.old }
+    ensures ok { IfOk result (λ t. inferred_type (entries_of version.now) (plain_command c.now) budget
         ≡ Some (stored_term t)) }
-    ensures accepted { IfOk result (λ _. verdict_of (entries_of v.now) (plain_command c.now) budget
+    ensures accepted { IfOk result (λ _. verdict_of (entries_of version.now) (plain_command c.now) budget
         ≡ Verdict.Accepted) }
-    ensures derivation { IfOk result (λ _. IsNumbered (entries_of v.now)
-        → HasDerivation (entries_of v.now) (plain_command c.now)) }
+    ensures derivation { IfOk result (λ _. IsNumbered (entries_of version.now)
+        → HasDerivation (entries_of version.now) (plain_command c.now)) }
     ensures err { IfErr result (IsVerdictOrMemory
-        (verdict_of (entries_of v.now) (plain_command c.now) budget)) }
+        (verdict_of (entries_of version.now) (plain_command c.now) budget)) }
     ensures refused { IfErr result (λ v. ¬ (v ≡ Verdict.Accepted)) }
     ensures keeps { Keeps R.owns R.denotes reducer.old reducer.new }
-    ensures serves { R.serves (entries_of v.now) reducer.new }
+    ensures serves { R.serves (entries_of version.now) reducer.new }
 {
     accepted_has_derivation();
     match c {
         Scoped::Declare { typ, body, .. } => match typ {
             Some(_) => unreachable!(),
             None => match body {
-                Some(body) => infer_untyped(reducer, v, body, budget),
+                Some(body) => infer_untyped(reducer, version, body, budget),
                 None => unreachable!(),
             },
         },
@@ -232,24 +241,24 @@ pub fn infer_type<R: Reducer>(
 #[tactic(auto, using(crate::proofs::Verdicts::no_type_inferred))]
 pub fn enter_command<R: Reducer>(
     reducer: &mut R,
-    v: &Version,
+    version: &Version,
     c: &Scoped,
     budget: u64,
 ) -> Result<Entry<Stored>, Verdict>
-    requires { R.serves (entries_of v.now) reducer.old }
+    requires { R.serves (entries_of version.now) reducer.old }
     ensures ok { IfOk result (λ e. stored_entry e
-        ≡ entry_of (entries_of v.now) (plain_command c.now)
-        (inferred_type (entries_of v.now) (plain_command c.now) budget)) }
-    ensures accepted { IfOk result (λ _. verdict_of (entries_of v.now) (plain_command c.now) budget
+        ≡ entry_of (entries_of version.now) (plain_command c.now)
+        (inferred_type (entries_of version.now) (plain_command c.now) budget)) }
+    ensures accepted { IfOk result (λ _. verdict_of (entries_of version.now) (plain_command c.now) budget
         ≡ Verdict.Accepted) }
     ensures err { IfErr result (IsVerdictOrMemory
-        (verdict_of (entries_of v.now) (plain_command c.now) budget)) }
+        (verdict_of (entries_of version.now) (plain_command c.now) budget)) }
     ensures refused { IfErr result (λ v. ¬ (v ≡ Verdict.Accepted)) }
     ensures keeps { Keeps R.owns R.denotes reducer.old reducer.new }
-    ensures serves { R.serves (entries_of v.now) reducer.new }
+    ensures serves { R.serves (entries_of version.now) reducer.new }
 {
-    let inferred = accepted_type(reducer, v, c, budget)?;
-    match entry_of(reducer.alloc(), v, c, inferred) {
+    let inferred = accepted_type(reducer, version, c, budget)?;
+    match entry_of(reducer.alloc(), version, c, inferred) {
         Ok(entry) => Ok(entry),
         Err(_) => Err(Verdict::Memory),
     }
@@ -260,25 +269,25 @@ pub fn enter_command<R: Reducer>(
 #[tactic(auto, using(crate::proofs::Verdicts::no_type_inferred))]
 fn accepted_type<R: Reducer>(
     reducer: &mut R,
-    v: &Version,
+    version: &Version,
     c: &Scoped,
     budget: u64,
 ) -> Result<Option<Stored>, Verdict>
-    requires { R.serves (entries_of v.now) reducer.old }
+    requires { R.serves (entries_of version.now) reducer.old }
     ensures ok { IfOk result (λ t. maybe_by stored_term t
-        ≡ inferred_type (entries_of v.now) (plain_command c.now) budget) }
-    ensures accepted { IfOk result (λ _. verdict_of (entries_of v.now) (plain_command c.now) budget
+        ≡ inferred_type (entries_of version.now) (plain_command c.now) budget) }
+    ensures accepted { IfOk result (λ _. verdict_of (entries_of version.now) (plain_command c.now) budget
         ≡ Verdict.Accepted) }
     ensures err { IfErr result (IsVerdictOrMemory
-        (verdict_of (entries_of v.now) (plain_command c.now) budget)) }
+        (verdict_of (entries_of version.now) (plain_command c.now) budget)) }
     ensures refused { IfErr result (λ v. ¬ (v ≡ Verdict.Accepted)) }
     ensures keeps { Keeps R.owns R.denotes reducer.old reducer.new }
-    ensures serves { R.serves (entries_of v.now) reducer.new }
+    ensures serves { R.serves (entries_of version.now) reducer.new }
 {
     if is_untyped(c) {
-        Ok(Some(infer_type(reducer, v, c, budget)?))
+        Ok(Some(infer_type(reducer, version, c, budget)?))
     } else {
-        match check_command(reducer, v, c, budget) {
+        match check_command(reducer, version, c, budget) {
             Verdict::Accepted => Ok(None),
             verdict => Err(verdict),
         }

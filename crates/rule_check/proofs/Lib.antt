@@ -5,3 +5,4 @@ pub mod Guarding
 pub mod Sizes
 pub mod Walking
 pub mod Terms
+pub mod Continuing

@@ -4,6 +4,7 @@ ghost use Rattle.std.specs.Option.{option_copied};
 ghost use Rattle.rule_check.specs.Steps.{found_at};
 
 use dk_model::{Listed, NoMemory};
+use infer_check::Walk;
 use std::alloc::Global;
 
 /// A guard, which is checked once the left side is walked.
@@ -24,6 +25,13 @@ pub struct Guard<T> {
 pub struct Found<T> {
     pub types: Vec<Option<T>>,
     pub guards: Vec<Guard<T>>,
+}
+
+/// What the walk of a left side changes: the variables that are bound at its place, the units, and what it finds.
+#[derive(Drop)]
+pub struct LeftWalk<T> {
+    pub walk: Walk<T>,
+    pub found: Found<T>,
 }
 
 /// A head with the patterns that it is applied to, as a term.

@@ -1,5 +1,5 @@
 //! Guards: as terms below the variables bound at their place, kept until the left side is walked, and checked then.
-ghost use Rattle.std.specs.Prelude.{◌≡◌, IfOk};
+ghost use Rattle.std.specs.Prelude.{◌≤◌, IfOk};
 ghost use Rattle.dk_model.specs.Trees.{tree};
 ghost use Rattle.dk_model.specs.Erasure.{erased};
 ghost use Rattle.dk_model.specs.Substitution.{shift};
@@ -7,6 +7,7 @@ ghost use Rattle.dk_model.specs.Signatures.{PlainSignature};
 ghost use Rattle.signature_log.specs.Versions.{entries_of};
 ghost use Rattle.signature_log.specs.Reducers.{Keeps, Makes, AreOwned};
 ghost use Rattle.infer_check.specs.Contexts.{OwnsContext};
+ghost use Rattle.infer_check.specs.Walks.{Follows};
 ghost use Rattle.rule_check.specs.Founds.{OwnsGuard, OwnsGuards};
 ghost use Rattle.rule_check.specs.Given.{IsCopied, IsGuardAt, GivesTypes};
 ghost use Rattle.rule_check.specs.Clauses.{guard_due, guards_due};
@@ -19,7 +20,8 @@ use signature_log::{Reducer, Version};
 /// The term of a guard without annotations, below this many bound variables.
 #[tactic(auto, using(signature_log::proofs::Keeping::keeps_further))]
 pub(crate) fn guard_term<R: Reducer>(r: &mut R, depth: u64, term: &Term) -> Result<R::T, NoMemory>
-    ensures makes { IfOk result (Makes R.owns R.denotes r.new (shift 0 depth (erased (tree term.now)))) }
+    ensures makes { IfOk result
+        (Makes R.owns R.denotes r.new (shift 0 depth (erased (tree term.now)))) }
     ensures keeps { Keeps R.owns R.denotes r.old r.new }
     ensures serves { (S : PlainSignature) → R.serves S r.old → R.serves S r.new }
 {
@@ -56,7 +58,8 @@ pub(crate) fn guard_at<R: Reducer>(
     requires context { OwnsContext R.owns r.old context.now }
     requires term { R.owns r.old term.now }
     requires typ { R.owns r.old typ.now }
-    ensures guard { IfOk result (IsGuardAt R.owns R.denotes r.old context.now term.now typ.now r.new) }
+    ensures guard { IfOk result
+        (IsGuardAt R.owns R.denotes r.old context.now term.now typ.now r.new) }
     ensures keeps { Keeps R.owns R.denotes r.old r.new }
     ensures serves { (S : PlainSignature) → R.serves S r.old → R.serves S r.new }
 {
@@ -67,20 +70,22 @@ pub(crate) fn guard_at<R: Reducer>(
 }
 
 /// That a guard fits the type at its place, where the rule variables have these types. Gives them back.
+#[tactic(auto, using(signature_log::proofs::Keeping::keeps_none, signature_log::proofs::Keeping::keeps_further, infer_check::proofs::Walks::follows))]
 fn check_guard<R: Reducer>(
     r: &mut R,
-    v: &Version,
+    version: &Version,
     types: Listed<R::T>,
     guard: &Guard<R::T>,
     left: &mut u64,
 ) -> Result<Listed<R::T>, TypeFault>
     requires types { AreOwned R.owns r.old types }
     requires guard { OwnsGuard R.owns r.old guard.now }
-    requires serves { R.serves (entries_of v.now) r.old }
+    requires serves { R.serves (entries_of version.now) r.old }
     ensures gives { GivesTypes types
-        (guard_due R.denotes (entries_of v.now) r.old types guard.now left.old) result left.new }
-    ensures keeps { Keeps R.owns R.denotes r.old r.new }
-    ensures serves { R.serves (entries_of v.now) r.new }
+        (guard_due R.denotes (entries_of version.now) r.old types guard.now left.old) result
+        left.new }
+    ensures follows { Follows R.owns R.denotes R.serves (entries_of version.now) r.old r.new }
+    ensures spent { left.new ≤ left.old }
 {
     let bound = copies(r, guard.bound.as_slice())?;
     let context = Context {
@@ -91,32 +96,34 @@ fn check_guard<R: Reducer>(
         context,
         left: *left,
     };
-    let fits = check(r, v, &mut walk, &guard.term, &guard.typ);
+    let fits = check(r, version, &mut walk, &guard.term, &guard.typ);
     *left = walk.left;
     fits?;
     Ok(walk.context.rule_vars)
 }
 
 /// The same for each guard, from left to right.
+#[tactic(auto, using(signature_log::proofs::Keeping::keeps_none, signature_log::proofs::Keeping::keeps_further, infer_check::proofs::Walks::follows))]
 pub(crate) fn check_guards<R: Reducer>(
     r: &mut R,
-    v: &Version,
+    version: &Version,
     types: Listed<R::T>,
     guards: &[Guard<R::T>],
     left: &mut u64,
 ) -> Result<Listed<R::T>, TypeFault>
     requires types { AreOwned R.owns r.old types }
     requires guards { OwnsGuards R.owns r.old guards.now }
-    requires serves { R.serves (entries_of v.now) r.old }
+    requires serves { R.serves (entries_of version.now) r.old }
     ensures gives { GivesTypes types
-        (guards_due R.denotes (entries_of v.now) r.old types guards.now left.old) result left.new }
-    ensures keeps { Keeps R.owns R.denotes r.old r.new }
-    ensures serves { R.serves (entries_of v.now) r.new }
+        (guards_due R.denotes (entries_of version.now) r.old types guards.now left.old) result
+        left.new }
+    ensures follows { Follows R.owns R.denotes R.serves (entries_of version.now) r.old r.new }
+    ensures spent { left.new ≤ left.old }
 {
     let mut types = types;
     let mut rest = guards;
     while let Some((guard, others)) = rest.split_first() {
-        types = check_guard(r, v, types, guard, left)?;
+        types = check_guard(r, version, types, guard, left)?;
         rest = others;
     }
     Ok(types)

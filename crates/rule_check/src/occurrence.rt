@@ -8,15 +8,23 @@ ghost use Rattle.dk_model.specs.Typing.{variable_type};
 ghost use Rattle.dk_model.specs.RuleTyping.{as_convertible, occurrence, outermost_first};
 ghost use Rattle.signature_log.specs.Versions.{entries_of};
 ghost use Rattle.signature_log.specs.Reducers.{Keeps, Makes};
-ghost use Rattle.infer_check.specs.Contexts.{bound_types, OwnsContext};
+ghost use Rattle.infer_check.specs.Contexts.{bound_types};
 ghost use Rattle.infer_check.specs.Given.{GivesFit};
+ghost use Rattle.infer_check.specs.Walks.{IsReady, Continues};
 ghost use Rattle.rule_check.specs.Clauses.{Binds, GivesFirst, GivesStep, GivesLater};
 
 use crate::compare::{as_convertible, bound_type};
 use dk_model::{Code, Listed, NoMemory, NodeOf, TypeFault};
-use infer_check::{Context, into_product, variable_type};
+use infer_check::{Walk, into_product, variable_type};
 use signature_log::{Reducer, Version};
 use std::alloc::Global;
+
+/// The arguments of a rule variable: those whose types stand in front already, and the others.
+#[derive(Drop)]
+struct Arguments<'a> {
+    before: Listed<u32>,
+    rest: &'a [u32],
+}
 
 /// The type of a rule variable that stands first with these arguments, where a type is expected.
 ///
@@ -25,101 +33,106 @@ use std::alloc::Global;
 /// ----------------------------------------------------------------------------------------------------------
 /// k x1 .. xn stands first against A: k : x1 : A1 -> .. -> xn : An -> A
 /// ```
-#[tactic(auto, using(crate::proofs::Moving::first_moved, infer_check::proofs::Contexts::context_kept, signature_log::proofs::Keeping::keeps_further))]
+#[tactic(auto, using(crate::proofs::Moving::first_moved, infer_check::proofs::Contexts::context_kept, signature_log::proofs::Keeping::keeps_further, infer_check::proofs::Walks::continues, infer_check::proofs::Walks::ready))]
 pub(crate) fn first_type<R: Reducer>(
     r: &mut R,
-    v: &Version,
-    context: &Context<R::T>,
+    version: &Version,
+    walk: &mut Walk<R::T>,
     arguments: &[u32],
     expected: &R::T,
-    left: &mut u64,
 ) -> Result<R::T, TypeFault>
     requires expected { R.owns r.old expected.now }
-    requires context { OwnsContext R.owns r.old context.now }
-    requires serves { R.serves (entries_of v.now) r.old }
-    ensures gives { GivesFirst R.owns R.denotes (entries_of v.now) r.old context.now [] arguments.now
-        (R.denotes r.old expected.now) left.old r.new result left.new }
-    ensures keeps { Keeps R.owns R.denotes r.old r.new }
-    ensures serves { R.serves (entries_of v.now) r.new }
+    requires ready { IsReady R.owns R.serves (entries_of version.now) r.old walk.old }
+    ensures gives { GivesFirst R.owns R.denotes (entries_of version.now) r.old walk.old.context []
+        arguments.now
+        (R.denotes r.old expected.now) walk.old.left r.new result walk.new.left }
+    ensures continues { Continues R.owns R.denotes R.serves (entries_of version.now)
+        r.old walk.old r.new walk.new }
 {
-    let before = Listed::new(r.alloc());
     let expected = r.copy(expected)?;
-    product_of(r, v, context, before, arguments, expected, left)
+    let arguments = Arguments {
+        before: Listed::new(r.alloc()),
+        rest: arguments,
+    };
+    product_of(r, version, walk, arguments, expected)
 }
 
-/// The product of the types of `rest`, each over the arguments before it, ending in the expected type.
+/// The product of the types of the other arguments, each over the arguments before it, ending in the expected type.
+#[tactic(auto, using(infer_check::proofs::Contexts::context_kept, signature_log::proofs::Keeping::keeps_further, infer_check::proofs::Walks::continues, infer_check::proofs::Walks::ready))]
 fn product_of<R: Reducer>(
     r: &mut R,
-    v: &Version,
-    context: &Context<R::T>,
-    before: Listed<u32>,
-    rest: &[u32],
+    version: &Version,
+    walk: &mut Walk<R::T>,
+    arguments: Arguments,
     expected: R::T,
-    left: &mut u64,
 ) -> Result<R::T, TypeFault>
     requires expected { R.owns r.old expected }
-    requires context { OwnsContext R.owns r.old context.now }
-    requires serves { R.serves (entries_of v.now) r.old }
-    ensures gives { GivesFirst R.owns R.denotes (entries_of v.now) r.old context.now before rest.now
-        (R.denotes r.old expected) left.old r.new result left.new }
-    ensures keeps { Keeps R.owns R.denotes r.old r.new }
-    ensures serves { R.serves (entries_of v.now) r.new }
+    requires ready { IsReady R.owns R.serves (entries_of version.now) r.old walk.old }
+    ensures gives { GivesFirst R.owns R.denotes (entries_of version.now) r.old walk.old.context
+        arguments.entry.before arguments.entry.rest.now
+        (R.denotes r.old expected) walk.old.left r.new result walk.new.left }
+    ensures continues { Continues R.owns R.denotes R.serves (entries_of version.now)
+        r.old walk.old r.new walk.new }
 {
+    let Arguments { before, rest } = arguments;
     match rest.split_first() {
-        None => bound_type(r, v, context, before.as_slice(), expected, left),
+        None => bound_type(r, version, walk, before.as_slice(), expected),
         Some((first, others)) => {
-            let domain = argument_type(r, v, context, before.as_slice(), *first, left)?;
+            let domain = argument_type(r, version, walk, before.as_slice(), *first)?;
             let mut before = before;
             before.push(*first)?;
-            let codomain = product_of(r, v, context, before, others, expected, left)?;
+            let arguments = Arguments {
+                before,
+                rest: others,
+            };
+            let codomain = product_of(r, version, walk, arguments, expected)?;
             Ok(r.build(NodeOf::Prod(domain, codomain))?)
         }
     }
 }
 
 /// The type of an argument over the arguments before it.
-#[tactic(auto, using(infer_check::proofs::Contexts::context_kept, infer_check::proofs::Contexts::bound_types_kept, signature_log::proofs::Keeping::keeps_further))]
+#[tactic(auto, using(infer_check::proofs::Contexts::context_kept, infer_check::proofs::Contexts::bound_types_kept, signature_log::proofs::Keeping::keeps_further, infer_check::proofs::Walks::continues, infer_check::proofs::Walks::ready))]
 fn argument_type<R: Reducer>(
     r: &mut R,
-    v: &Version,
-    context: &Context<R::T>,
+    version: &Version,
+    walk: &mut Walk<R::T>,
     before: &[u32],
     argument: u32,
-    left: &mut u64,
 ) -> Result<R::T, TypeFault>
-    requires context { OwnsContext R.owns r.old context.now }
-    requires serves { R.serves (entries_of v.now) r.old }
-    ensures gives { Binds R.owns R.denotes (entries_of v.now) r.old context.now before.now
-        (variable_type (bound_types R.denotes r.old context.now) argument)
-        left.old r.new result left.new }
-    ensures keeps { Keeps R.owns R.denotes r.old r.new }
-    ensures serves { R.serves (entries_of v.now) r.new }
+    requires ready { IsReady R.owns R.serves (entries_of version.now) r.old walk.old }
+    ensures gives { Binds R.owns R.denotes (entries_of version.now) r.old walk.old.context
+        before.now
+        (variable_type (bound_types R.denotes r.old walk.old.context) argument)
+        walk.old.left r.new result walk.new.left }
+    ensures continues { Continues R.owns R.denotes R.serves (entries_of version.now)
+        r.old walk.old r.new walk.new }
 {
-    let typ = variable_type(r, context, u64::from(argument))?;
-    bound_type(r, v, context, before, typ, left)
+    let typ = variable_type(r, &walk.context, u64::from(argument))?;
+    bound_type(r, version, walk, before, typ)
 }
 
 /// The type of a term of this type applied to these variables.
+#[tactic(auto, using(infer_check::proofs::Contexts::context_kept, signature_log::proofs::Keeping::keeps_further, infer_check::proofs::Walks::continues, infer_check::proofs::Walks::ready))]
 pub(crate) fn later_type<R: Reducer>(
     r: &mut R,
-    v: &Version,
-    context: &Context<R::T>,
+    version: &Version,
+    walk: &mut Walk<R::T>,
     arguments: &[u32],
     typ: R::T,
-    left: &mut u64,
 ) -> Result<R::T, TypeFault>
     requires typ { R.owns r.old typ }
-    requires context { OwnsContext R.owns r.old context.now }
-    requires serves { R.serves (entries_of v.now) r.old }
-    ensures gives { GivesLater R.owns R.denotes (entries_of v.now) r.old context.now arguments.now
-        (R.denotes r.old typ) left.old r.new result left.new }
-    ensures keeps { Keeps R.owns R.denotes r.old r.new }
-    ensures serves { R.serves (entries_of v.now) r.new }
+    requires ready { IsReady R.owns R.serves (entries_of version.now) r.old walk.old }
+    ensures gives { GivesLater R.owns R.denotes (entries_of version.now) r.old walk.old.context
+        arguments.now
+        (R.denotes r.old typ) walk.old.left r.new result walk.new.left }
+    ensures continues { Continues R.owns R.denotes R.serves (entries_of version.now)
+        r.old walk.old r.new walk.new }
 {
     let mut typ = typ;
     let mut rest = arguments;
     while let Some((first, others)) = rest.split_first() {
-        typ = applied_type(r, v, context, *first, typ, left)?;
+        typ = applied_type(r, version, walk, *first, typ)?;
         rest = others;
     }
     Ok(typ)
@@ -132,48 +145,46 @@ pub(crate) fn later_type<R: Reducer>(
 /// --------------------------------------------------------------------------
 /// t y : B with y in the place of x, where t : F
 /// ```
+#[tactic(auto, using(infer_check::proofs::Contexts::context_kept, signature_log::proofs::Keeping::keeps_further, infer_check::proofs::Walks::continues, infer_check::proofs::Walks::ready))]
 fn applied_type<R: Reducer>(
     r: &mut R,
-    v: &Version,
-    context: &Context<R::T>,
+    version: &Version,
+    walk: &mut Walk<R::T>,
     variable: u32,
     typ: R::T,
-    left: &mut u64,
 ) -> Result<R::T, TypeFault>
     requires typ { R.owns r.old typ }
-    requires context { OwnsContext R.owns r.old context.now }
-    requires serves { R.serves (entries_of v.now) r.old }
-    ensures gives { GivesStep R.owns R.denotes (entries_of v.now) r.old context.now variable
-        (R.denotes r.old typ) left.old r.new result left.new }
-    ensures keeps { Keeps R.owns R.denotes r.old r.new }
-    ensures serves { R.serves (entries_of v.now) r.new }
+    requires ready { IsReady R.owns R.serves (entries_of version.now) r.old walk.old }
+    ensures gives { GivesStep R.owns R.denotes (entries_of version.now) r.old walk.old.context
+        variable
+        (R.denotes r.old typ) walk.old.left r.new result walk.new.left }
+    ensures continues { Continues R.owns R.denotes R.serves (entries_of version.now)
+        r.old walk.old r.new walk.new }
 {
-    let function = into_product(r, v, Code::E34, typ, left)?;
-    fit_variable(r, v, context, variable, &function.domain, left)?;
+    let function = into_product(r, version, Code::E34, typ, &mut walk.left)?;
+    fit_variable(r, version, walk, variable, &function.domain)?;
     Ok(put_variable(r, &function.codomain, variable)?)
 }
 
 /// That the type of a variable is convertible with a domain.
-#[tactic(auto, using(infer_check::proofs::Contexts::bound_types_kept, signature_log::proofs::Keeping::keeps_further))]
+#[tactic(auto, using(infer_check::proofs::Contexts::bound_types_kept, signature_log::proofs::Keeping::keeps_further, infer_check::proofs::Walks::continues, infer_check::proofs::Walks::ready))]
 fn fit_variable<R: Reducer>(
     r: &mut R,
-    v: &Version,
-    context: &Context<R::T>,
+    version: &Version,
+    walk: &mut Walk<R::T>,
     variable: u32,
     domain: &R::T,
-    left: &mut u64,
 ) -> Result<(), TypeFault>
     requires domain { R.owns r.old domain.now }
-    requires context { OwnsContext R.owns r.old context.now }
-    requires serves { R.serves (entries_of v.now) r.old }
-    ensures gives { GivesFit (as_convertible (entries_of v.now)
-        (variable_type (bound_types R.denotes r.old context.now) variable)
-        (R.denotes r.old domain.now) left.old) result left.new }
-    ensures keeps { Keeps R.owns R.denotes r.old r.new }
-    ensures serves { R.serves (entries_of v.now) r.new }
+    requires ready { IsReady R.owns R.serves (entries_of version.now) r.old walk.old }
+    ensures gives { GivesFit (as_convertible (entries_of version.now)
+        (variable_type (bound_types R.denotes r.old walk.old.context) variable)
+        (R.denotes r.old domain.now) walk.old.left) result walk.new.left }
+    ensures continues { Continues R.owns R.denotes R.serves (entries_of version.now)
+        r.old walk.old r.new walk.new }
 {
-    let typ = variable_type(r, context, u64::from(variable))?;
-    as_convertible(r, v, &typ, domain, left)
+    let typ = variable_type(r, &walk.context, u64::from(variable))?;
+    as_convertible(r, version, &typ, domain, &mut walk.left)
 }
 
 /// Puts a variable in the place of variable 0.

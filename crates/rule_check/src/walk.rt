@@ -8,32 +8,40 @@ ghost use Rattle.dk_model.specs.RuleTyping.{patterns_of};
 ghost use Rattle.signature_log.specs.Versions.{entries_of};
 ghost use Rattle.signature_log.specs.Reducers.{Keeps};
 ghost use Rattle.infer_check.specs.Contexts.{bound_types, OwnsContext};
+ghost use Rattle.infer_check.specs.Walks.{IsReady, Continues};
 ghost use Rattle.rule_check.specs.Founds.{OwnsFound};
 ghost use Rattle.rule_check.specs.Given.{IsHeaded, IsApplied, OwnsHeaded};
 ghost use Rattle.rule_check.specs.Clauses.{Walks, WalksHeaded, WalksArgument, WalksSpine};
 
 use crate::compare::as_convertible;
-use crate::found::{Found, Headed};
+use crate::found::{Headed, LeftWalk};
 use crate::guards::{guard_at, guard_term};
-use crate::variables::{walk_variable, walk_wildcard};
+use crate::variables::{RuleVariable, walk_variable, walk_wildcard};
 use dk_model::{Code, NoMemory, NodeOf, Pat, Term, TypeFault};
 use infer_check::{Context, as_product, into_product, symbol_type, variable_type};
 use signature_log::{Reducer, Version};
+
+/// A head and the patterns that it is applied to.
+#[derive(Drop)]
+pub(crate) struct Application<'a, T> {
+    pub(crate) head: Headed<T>,
+    pub(crate) arguments: &'a [Pat],
+}
 
 /// A symbol as a head.
 #[tactic(auto, using(signature_log::proofs::Keeping::keeps_further))]
 pub(crate) fn symbol_head<R: Reducer>(
     r: &mut R,
-    v: &Version,
+    version: &Version,
     number: u32,
 ) -> Result<Headed<R::T>, NoMemory>
     ensures head { IfOk result (IsHeaded R.owns R.denotes (symbol number)
-        (symbol_type (entries_of v.now) number) r.new) }
+        (symbol_type (entries_of version.now) number) r.new) }
     ensures keeps { Keeps R.owns R.denotes r.old r.new }
     ensures serves { (S : PlainSignature) → R.serves S r.old → R.serves S r.new }
 {
     let term = r.build(NodeOf::Sym(number))?;
-    let typ = symbol_type(r, v, number)?;
+    let typ = symbol_type(r, version, number)?;
     Ok(Headed { term, typ })
 }
 
@@ -56,90 +64,73 @@ fn variable_head<R: Reducer>(
 
 /// A pattern against a type, as a term.
 ///
-/// The context has the types of the variables that are bound there, and is at exit as at entry.
+/// The context of the walk has the types of the variables that are bound there, and is at exit as at entry.
 #[cycle(walking)]
+#[tactic(auto, using(signature_log::proofs::Keeping::keeps_none, signature_log::proofs::Keeping::keeps_further, infer_check::proofs::Walks::continues, infer_check::proofs::Walks::ready))]
 fn walk<R: Reducer>(
     r: &mut R,
-    v: &Version,
-    context: &mut Context<R::T>,
+    version: &Version,
+    side: &mut LeftWalk<R::T>,
     pattern: &Pat,
     expected: &R::T,
-    found: &mut Found<R::T>,
-    left: &mut u64,
 ) -> Result<R::T, TypeFault>
     requires expected { R.owns r.old expected.now }
-    requires context { OwnsContext R.owns r.old context.old }
-    requires found { OwnsFound R.owns r.old found.old }
-    requires serves { R.serves (entries_of v.now) r.old }
-    ensures gives { Walks R.owns R.denotes (entries_of v.now) r.old context.old found.old
+    requires found { OwnsFound R.owns r.old side.old.found }
+    requires ready { IsReady R.owns R.serves (entries_of version.now) r.old side.old.walk }
+    ensures gives { Walks R.owns R.denotes (entries_of version.now) r.old side.old.walk.context
+        side.old.found
         (plain pattern.now) (R.denotes r.old expected.now)
-        left.old r.new found.new result left.new }
-    ensures keeps { Keeps R.owns R.denotes r.old r.new }
-    ensures serves { R.serves (entries_of v.now) r.new }
-    ensures kept { context.new ≡ context.old }
+        side.old.walk.left r.new side.new.found result side.new.walk.left }
+    ensures continues { Continues R.owns R.denotes R.serves (entries_of version.now)
+        r.old side.old.walk r.new side.new.walk }
 {
     match pattern {
         Pat::Rvar(number, arguments) => {
-            let arguments = arguments.as_slice();
-            walk_variable(r, v, context, *number, arguments, expected, found, left)
+            let variable = RuleVariable {
+                number: *number,
+                arguments: arguments.as_slice(),
+            };
+            walk_variable(r, version, side, &variable, expected)
         }
-        Pat::Any => walk_wildcard(r, v, context, expected, found, left),
-        Pat::Guard(term) => walk_guard(r, v, context, term, expected, found, left),
+        Pat::Any => walk_wildcard(r, version, side, expected),
+        Pat::Guard(term) => walk_guard(r, version, side, term, expected),
         Pat::Sym(number, arguments) => {
-            let head = symbol_head(r, v, *number)?;
-            walk_headed(
-                r,
-                v,
-                context,
-                head,
-                arguments.as_slice(),
-                expected,
-                found,
-                left,
-            )
+            let head = symbol_head(r, version, *number)?;
+            let arguments = arguments.as_slice();
+            walk_headed(r, version, side, Application { head, arguments }, expected)
         }
         Pat::Var(number, arguments) => {
-            let head = variable_head(r, context, *number)?;
-            walk_headed(
-                r,
-                v,
-                context,
-                head,
-                arguments.as_slice(),
-                expected,
-                found,
-                left,
-            )
+            let head = variable_head(r, &side.walk.context, *number)?;
+            let arguments = arguments.as_slice();
+            walk_headed(r, version, side, Application { head, arguments }, expected)
         }
-        Pat::Abs(body) => walk_abstraction(r, v, context, body, expected, found, left),
+        Pat::Abs(body) => walk_abstraction(r, version, side, body, expected),
     }
 }
 
 /// A guard, which is checked once the left side is walked. Takes no unit.
+#[tactic(auto, using(signature_log::proofs::Keeping::keeps_none, signature_log::proofs::Keeping::keeps_further, infer_check::proofs::Walks::continues, infer_check::proofs::Walks::ready))]
 fn walk_guard<R: Reducer>(
     r: &mut R,
-    v: &Version,
-    context: &Context<R::T>,
+    version: &Version,
+    side: &mut LeftWalk<R::T>,
     term: &Term,
     expected: &R::T,
-    found: &mut Found<R::T>,
-    left: &mut u64,
 ) -> Result<R::T, TypeFault>
     requires expected { R.owns r.old expected.now }
-    requires context { OwnsContext R.owns r.old context.now }
-    requires found { OwnsFound R.owns r.old found.old }
-    requires serves { R.serves (entries_of v.now) r.old }
-    ensures gives { Walks R.owns R.denotes (entries_of v.now) r.old context.now found.old
+    requires found { OwnsFound R.owns r.old side.old.found }
+    requires ready { IsReady R.owns R.serves (entries_of version.now) r.old side.old.walk }
+    ensures gives { Walks R.owns R.denotes (entries_of version.now) r.old side.old.walk.context
+        side.old.found
         (guard_pattern (tree term.now)) (R.denotes r.old expected.now)
-        left.old r.new found.new result left.new }
-    ensures keeps { Keeps R.owns R.denotes r.old r.new }
-    ensures serves { R.serves (entries_of v.now) r.new }
+        side.old.walk.left r.new side.new.found result side.new.walk.left }
+    ensures continues { Continues R.owns R.denotes R.serves (entries_of version.now)
+        r.old side.old.walk r.new side.new.walk }
 {
-    let _ = v;
-    let _ = left;
-    let term = guard_term(r, context.bound.len() as u64, term)?;
-    let guard = guard_at(r, context, &term, expected)?;
-    found.push_guard(guard)?;
+    let _ = version;
+    let term = guard_term(r, side.walk.context.bound.len() as u64, term)?;
+    let guard = guard_at(r, &side.walk.context, &term, expected)?;
+    side.found.push_guard(guard)?;
     Ok(term)
 }
 
@@ -151,30 +142,28 @@ fn walk_guard<R: Reducer>(
 /// G |- h p1 .. pn against A
 /// ```
 #[cycle(walking)]
+#[tactic(auto, using(signature_log::proofs::Keeping::keeps_none, signature_log::proofs::Keeping::keeps_further, infer_check::proofs::Walks::continues, infer_check::proofs::Walks::ready))]
 fn walk_headed<R: Reducer>(
     r: &mut R,
-    v: &Version,
-    context: &mut Context<R::T>,
-    head: Headed<R::T>,
-    arguments: &[Pat],
+    version: &Version,
+    side: &mut LeftWalk<R::T>,
+    application: Application<R::T>,
     expected: &R::T,
-    found: &mut Found<R::T>,
-    left: &mut u64,
 ) -> Result<R::T, TypeFault>
-    requires head { OwnsHeaded R.owns r.old head }
+    requires head { OwnsHeaded R.owns r.old application.head }
     requires expected { R.owns r.old expected.now }
-    requires context { OwnsContext R.owns r.old context.old }
-    requires found { OwnsFound R.owns r.old found.old }
-    requires serves { R.serves (entries_of v.now) r.old }
-    ensures gives { WalksHeaded R.owns R.denotes (entries_of v.now) r.old context.old found.old
-        head (patterns_of (map plain arguments.now)) (R.denotes r.old expected.now)
-        left.old r.new found.new result left.new }
-    ensures keeps { Keeps R.owns R.denotes r.old r.new }
-    ensures serves { R.serves (entries_of v.now) r.new }
-    ensures kept { context.new ≡ context.old }
+    requires found { OwnsFound R.owns r.old side.old.found }
+    requires ready { IsReady R.owns R.serves (entries_of version.now) r.old side.old.walk }
+    ensures gives { WalksHeaded R.owns R.denotes (entries_of version.now) r.old
+        side.old.walk.context side.old.found
+        application.entry.head (patterns_of (map plain application.entry.arguments.now))
+        (R.denotes r.old expected.now)
+        side.old.walk.left r.new side.new.found result side.new.walk.left }
+    ensures continues { Continues R.owns R.denotes R.serves (entries_of version.now)
+        r.old side.old.walk r.new side.new.walk }
 {
-    let walked = walk_spine(r, v, context, head, arguments, found, left)?;
-    as_convertible(r, v, &walked.typ, expected, left)?;
+    let walked = walk_spine(r, version, side, application)?;
+    as_convertible(r, version, &walked.typ, expected, &mut side.walk.left)?;
     Ok(walked.term)
 }
 
@@ -186,59 +175,56 @@ fn walk_headed<R: Reducer>(
 /// G |- (x => p) against A
 /// ```
 #[cycle(walking)]
+#[tactic(auto, using(signature_log::proofs::Keeping::keeps_none, signature_log::proofs::Keeping::keeps_further, infer_check::proofs::Walks::continues, infer_check::proofs::Walks::ready))]
 fn walk_abstraction<R: Reducer>(
     r: &mut R,
-    v: &Version,
-    context: &mut Context<R::T>,
+    version: &Version,
+    side: &mut LeftWalk<R::T>,
     body: &Pat,
     expected: &R::T,
-    found: &mut Found<R::T>,
-    left: &mut u64,
 ) -> Result<R::T, TypeFault>
     requires expected { R.owns r.old expected.now }
-    requires context { OwnsContext R.owns r.old context.old }
-    requires found { OwnsFound R.owns r.old found.old }
-    requires serves { R.serves (entries_of v.now) r.old }
-    ensures gives { Walks R.owns R.denotes (entries_of v.now) r.old context.old found.old
+    requires found { OwnsFound R.owns r.old side.old.found }
+    requires ready { IsReady R.owns R.serves (entries_of version.now) r.old side.old.walk }
+    ensures gives { Walks R.owns R.denotes (entries_of version.now) r.old side.old.walk.context
+        side.old.found
         (abstraction_pattern (plain body.now)) (R.denotes r.old expected.now)
-        left.old r.new found.new result left.new }
-    ensures keeps { Keeps R.owns R.denotes r.old r.new }
-    ensures serves { R.serves (entries_of v.now) r.new }
-    ensures kept { context.new ≡ context.old }
+        side.old.walk.left r.new side.new.found result side.new.walk.left }
+    ensures continues { Continues R.owns R.denotes R.serves (entries_of version.now)
+        r.old side.old.walk r.new side.new.walk }
 {
-    let function = as_product(r, v, Code::E34, expected, left)?;
-    context.bind(function.domain)?;
-    let body = walk(r, v, context, body, &function.codomain, found, left);
-    let _domain = context.leave();
+    let function = as_product(r, version, Code::E34, expected, &mut side.walk.left)?;
+    side.walk.context.bind(function.domain)?;
+    let body = walk(r, version, side, body, &function.codomain);
+    let _domain = side.walk.context.leave();
     Ok(r.build(NodeOf::Abs(None, body?))?)
 }
 
 /// A head applied to patterns, from left to right.
 #[cycle(walking)]
+#[tactic(auto, using(signature_log::proofs::Keeping::keeps_none, signature_log::proofs::Keeping::keeps_further, infer_check::proofs::Walks::continues, infer_check::proofs::Walks::ready))]
 pub(crate) fn walk_spine<R: Reducer>(
     r: &mut R,
-    v: &Version,
-    context: &mut Context<R::T>,
-    head: Headed<R::T>,
-    arguments: &[Pat],
-    found: &mut Found<R::T>,
-    left: &mut u64,
+    version: &Version,
+    side: &mut LeftWalk<R::T>,
+    application: Application<R::T>,
 ) -> Result<Headed<R::T>, TypeFault>
-    requires head { OwnsHeaded R.owns r.old head }
-    requires context { OwnsContext R.owns r.old context.old }
-    requires found { OwnsFound R.owns r.old found.old }
-    requires serves { R.serves (entries_of v.now) r.old }
-    ensures gives { WalksSpine R.owns R.denotes (entries_of v.now) r.old context.old found.old
-        (R.denotes r.old head.term) (R.denotes r.old head.typ) (patterns_of (map plain arguments.now))
-        left.old r.new found.new result left.new }
-    ensures keeps { Keeps R.owns R.denotes r.old r.new }
-    ensures serves { R.serves (entries_of v.now) r.new }
-    ensures kept { context.new ≡ context.old }
+    requires head { OwnsHeaded R.owns r.old application.head }
+    requires found { OwnsFound R.owns r.old side.old.found }
+    requires ready { IsReady R.owns R.serves (entries_of version.now) r.old side.old.walk }
+    ensures gives { WalksSpine R.owns R.denotes (entries_of version.now) r.old
+        side.old.walk.context side.old.found
+        (R.denotes r.old application.entry.head.term) (R.denotes r.old application.entry.head.typ)
+        (patterns_of (map plain application.entry.arguments.now))
+        side.old.walk.left r.new side.new.found result side.new.walk.left }
+    ensures continues { Continues R.owns R.denotes R.serves (entries_of version.now)
+        r.old side.old.walk r.new side.new.walk }
 {
+    let Application { head, arguments } = application;
     let mut walked = head;
     let mut rest = arguments;
     while let Some((argument, others)) = rest.split_first() {
-        walked = walk_argument(r, v, context, walked, argument, found, left)?;
+        walked = walk_argument(r, version, side, walked, argument)?;
         rest = others;
     }
     Ok(walked)
@@ -252,29 +238,27 @@ pub(crate) fn walk_spine<R: Reducer>(
 /// G |- h p : B with p in the place of x, where h : F
 /// ```
 #[cycle(walking)]
+#[tactic(auto, using(signature_log::proofs::Keeping::keeps_none, signature_log::proofs::Keeping::keeps_further, infer_check::proofs::Walks::continues, infer_check::proofs::Walks::ready))]
 fn walk_argument<R: Reducer>(
     r: &mut R,
-    v: &Version,
-    context: &mut Context<R::T>,
+    version: &Version,
+    side: &mut LeftWalk<R::T>,
     head: Headed<R::T>,
     argument: &Pat,
-    found: &mut Found<R::T>,
-    left: &mut u64,
 ) -> Result<Headed<R::T>, TypeFault>
     requires head { OwnsHeaded R.owns r.old head }
-    requires context { OwnsContext R.owns r.old context.old }
-    requires found { OwnsFound R.owns r.old found.old }
-    requires serves { R.serves (entries_of v.now) r.old }
-    ensures gives { WalksArgument R.owns R.denotes (entries_of v.now) r.old context.old found.old
+    requires found { OwnsFound R.owns r.old side.old.found }
+    requires ready { IsReady R.owns R.serves (entries_of version.now) r.old side.old.walk }
+    ensures gives { WalksArgument R.owns R.denotes (entries_of version.now) r.old
+        side.old.walk.context side.old.found
         (R.denotes r.old head.term) (R.denotes r.old head.typ) (plain argument.now)
-        left.old r.new found.new result left.new }
-    ensures keeps { Keeps R.owns R.denotes r.old r.new }
-    ensures serves { R.serves (entries_of v.now) r.new }
-    ensures kept { context.new ≡ context.old }
+        side.old.walk.left r.new side.new.found result side.new.walk.left }
+    ensures continues { Continues R.owns R.denotes R.serves (entries_of version.now)
+        r.old side.old.walk r.new side.new.walk }
 {
     let Headed { term, typ } = head;
-    let function = into_product(r, v, Code::E34, typ, left)?;
-    let argument = walk(r, v, context, argument, &function.domain, found, left)?;
+    let function = into_product(r, version, Code::E34, typ, &mut side.walk.left)?;
+    let argument = walk(r, version, side, argument, &function.domain)?;
     Ok(apply(r, term, argument, &function.codomain)?)
 }
 

@@ -8,5 +8,5 @@ use Rattle.command_check.proofs.shapes.shapes_of.Given as goal
 
 abbrev pub invariant-loop-rule : goal.invariant-loop-rule
 invariant-loop-rule l =
-    shapes_of (entries_of l.v) (map plain_scoped_rule l.rules)
-    ≡ behind (map plain_rule l.shapes) (shapes_of (entries_of l.v) (map plain_scoped_rule (drop l.rule-index l.rules)))
+    shapes_of (entries_of l.version) (map plain_scoped_rule l.rules)
+    ≡ behind (map plain_rule l.shapes) (shapes_of (entries_of l.version) (map plain_scoped_rule (drop l.rule-index l.rules)))

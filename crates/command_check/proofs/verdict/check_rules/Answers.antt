@@ -8,6 +8,6 @@ use Rattle.command_check.proofs.verdict.check_rules.Goals as goal
 
 pub returns-clause-gives : goal.returns-clause-gives
 returns-clause-gives g c =
-    let S = entries_of c.args.v.now in
+    let S = entries_of c.args.version.now in
     shapes_typed S (command_shapes S c.args.rules.now) (map plain_rule c.as_slice.result.now) c.args.left.now c.type_rules.result c.type_rules.new.left
     (c.in_ok-shapes.ensures ∙ ap (λ ss. Ok (map plain_rule ss)) (flip c.as_slice.ensures)) c.type_rules.ensures.gives

@@ -1,6 +1,6 @@
-use Rattle.std.proofs.Common.{rules, ◌∙◌, sym as flip, subst}
+use Rattle.std.proofs.Common.{rules, arith, ◌≤◌, ◌∙◌, sym as flip, subst}
 use Rattle.signature_log.specs.Versions.{entries_of}
-use Rattle.signature_log.proofs.Keeping.{keeps_further}
+use Rattle.rule_check.proofs.Continuing.{follows_further}
 use Rattle.signature_log.specs.Reducers.{AreOwned}
 use Rattle.infer_check.proofs.Contexts.{owned_kept}
 use Rattle.infer_check.proofs.Judging.{fails_is}
@@ -12,16 +12,16 @@ use Rattle.rule_check.proofs.guards.check_guards.Goals as goal
 pub check_guard-requires-clause-types : goal.check_guard-requires-clause-types
 check_guard-requires-clause-types g c =
     let i = c.loop-guard.invariant in
-    subst (AreOwned g.R.Reducer.owns c.loop-guard.r) (flip i.types) (owned_kept c.args.r.now c.loop-guard.r c.args.types i.keeps c.requires.types)
+    subst (AreOwned g.R.Reducer.owns c.loop-guard.r) (flip i.types) (owned_kept c.args.r.now c.loop-guard.r c.args.types i.follows.keeps c.requires.types)
 
 pub check_guard-requires-clause-guard : goal.check_guard-requires-clause-guard
 check_guard-requires-clause-guard g c =
     let i = c.loop-guard.invariant in
-    owned_guard_kept c.args.r.now c.loop-guard.r i.keeps c.in-Some.guard.now ((subst (OwnsGuards g.R.Reducer.owns c.args.r.now) c.in-Some.ensures.cases.0 i.rest).0)
+    owned_guard_kept c.args.r.now c.loop-guard.r i.follows.keeps c.in-Some.guard.now ((subst (OwnsGuards g.R.Reducer.owns c.args.r.now) c.in-Some.ensures.cases.0 i.rest).0)
 
 pub returns-in_err-types-clause-gives : goal.returns-in_err-types-clause-gives
 returns-in_err-types-clause-gives g c =
-    let S = entries_of c.args.v.now in
+    let S = entries_of c.args.version.now in
     let D = g.R.Reducer.denotes in
     let r = c.args.r.now in
     let at = c.loop-guard.r in
@@ -29,13 +29,13 @@ returns-in_err-types-clause-gives g c =
     let f = c.in_err-types.field-0.0 in
     let guard = c.in-Some.guard.now in
     let o = (subst (OwnsGuards g.R.Reducer.owns r) c.in-Some.ensures.cases.0 i.rest).0 in
-    let h = fails_is f _ _ _ (flip (guard_moved S r at i.keeps c.args.types c.loop-guard.types guard c.loop-guard.left i.types c.requires.types o)) c.in_err-types.ensures.gives in
+    let h = fails_is f _ _ _ (flip (guard_moved S r at i.follows.keeps c.args.types c.loop-guard.types guard c.loop-guard.left i.types c.requires.types o)) c.in_err-types.ensures.gives in
     let p = fails_is f _ _ _ (flip i.same) (guards_fail D S r c.args.types f _ guard c.loop-guard.rest.now c.in-Some.others.now c.loop-guard.left c.in-Some.ensures.cases.0 h) in
     search rules
 
 pub loop-guard-preserved : goal.loop-guard-preserved
 loop-guard-preserved g c =
-    let S = entries_of c.args.v.now in
+    let S = entries_of c.args.version.now in
     let D = g.R.Reducer.denotes in
     let r = c.args.r.now in
     let at = c.loop-guard.r in
@@ -43,11 +43,11 @@ loop-guard-preserved g c =
     let guard = c.in-Some.guard.now in
     let owned = subst (OwnsGuards g.R.Reducer.owns r) c.in-Some.ensures.cases.0 i.rest in
     let given = c.in_ok-types.ensures.gives in
-    let h = flip (guard_moved S r at i.keeps c.args.types c.loop-guard.types guard c.loop-guard.left i.types c.requires.types owned.0) ∙ given.0 in
+    let h = flip (guard_moved S r at i.follows.keeps c.args.types c.loop-guard.types guard c.loop-guard.left i.types c.requires.types owned.0) ∙ given.0 in
     record {
       same = guards_go_on D S r c.args.types guard c.loop-guard.rest.now c.in-Some.others.now c.loop-guard.left c.check_guard.new.left c.in-Some.ensures.cases.0 h ∙ i.same;
       rest = owned.1;
       types = given.1 ∙ i.types;
-      keeps = keeps_further r at c.check_guard.new.r i.keeps c.in_ok-types.ensures.keeps;
-      serves = c.in_ok-types.ensures.serves;
+      follows = follows_further r at c.check_guard.new.r i.follows c.in_ok-types.ensures.follows;
+      spent = let p : c.check_guard.new.left ≤ c.loop-guard.left = c.in_ok-types.ensures.spent in let q : c.loop-guard.left ≤ c.args.left.now = i.spent in omega (arith, p, q);
     }

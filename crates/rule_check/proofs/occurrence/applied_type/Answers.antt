@@ -9,35 +9,38 @@ use Rattle.infer_check.proofs.Contexts.{context_kept}
 use Rattle.rule_check.proofs.Moving.{fit_moved, applied_fails, applied_given}
 use Rattle.rule_check.proofs.occurrence.applied_type.Goals as goal
 
-pub fit_variable-requires-clause-context : goal.fit_variable-requires-clause-context
-fit_variable-requires-clause-context g c = context_kept c.args.r.now c.into_product.new.r c.args.context.now c.in_ok-function.ensures.follows.keeps c.requires.context
+pub fit_variable-requires-clause-ready : goal.fit_variable-requires-clause-ready
+fit_variable-requires-clause-ready g c = record {
+  context = context_kept c.args.r.now c.into_product.new.r c.args.walk.now.context c.in_ok-function.ensures.follows.keeps c.requires.ready.context;
+  serving = c.in_ok-function.ensures.follows.serving;
+}
 
 pub returns-in_err-fit_variable-clause-gives : goal.returns-in_err-fit_variable-clause-gives
 returns-in_err-fit_variable-clause-gives g c =
-    let S = entries_of c.args.v.now in
+    let S = entries_of c.args.version.now in
     let D = g.R.Reducer.denotes in
     let r = c.args.r.now in
     let q = c.into_product.new.r in
-    let x = c.args.context.now in
+    let x = c.args.walk.now.context in
     let k = c.in_ok-function.ensures.follows.keeps in
     let fn = c.in_ok-function.function in
     let f = c.in_err-fit_variable.field-0.0 in
-    let moved = fit_moved S r q x k c.requires.context c.args.variable (D q fn.domain) c.into_product.new.left c.fit_variable.new.left (Err f) c.in_err-fit_variable.ensures.gives in
-    let p = applied_fails S (bound_types D r x) f _ c.args.variable (D r c.args.typ) (D q fn.domain) (D q fn.codomain) c.args.left.now c.into_product.new.left c.in_ok-function.ensures.gives.0 moved in
+    let moved = fit_moved S r q x k c.requires.ready.context c.args.variable (D q fn.domain) c.into_product.new.left c.fit_variable.new.walk.left (Err f) c.in_err-fit_variable.ensures.gives in
+    let p = applied_fails S (bound_types D r x) f _ c.args.variable (D r c.args.typ) (D q fn.domain) (D q fn.codomain) c.args.walk.now.left c.into_product.new.left c.in_ok-function.ensures.gives.0 moved in
     search rules
 
 pub returns-clause-gives : goal.returns-clause-gives
 returns-clause-gives g c =
-    let S = entries_of c.args.v.now in
+    let S = entries_of c.args.version.now in
     let D = g.R.Reducer.denotes in
     let r = c.args.r.now in
     let q = c.into_product.new.r in
-    let x = c.args.context.now in
+    let x = c.args.walk.now.context in
     let k = c.in_ok-function.ensures.follows.keeps in
     let fn = c.in_ok-function.function in
-    let moved = fit_moved S r q x k c.requires.context c.args.variable (D q fn.domain) c.into_product.new.left c.fit_variable.new.left (Ok tt) c.in_ok-fit_variable.ensures.gives in
-    let p = applied_given S (bound_types D r x) c.args.variable (D r c.args.typ) (D q fn.domain) (D q fn.codomain) c.args.left.now c.into_product.new.left c.fit_variable.new.left
+    let moved = fit_moved S r q x k c.requires.ready.context c.args.variable (D q fn.domain) c.into_product.new.left c.fit_variable.new.walk.left (Ok tt) c.in_ok-fit_variable.ensures.gives in
+    let p = applied_given S (bound_types D r x) c.args.variable (D r c.args.typ) (D q fn.domain) (D q fn.codomain) c.args.walk.now.left c.into_product.new.left c.fit_variable.new.walk.left
     c.in_ok-function.ensures.gives.0 moved in
     let made = c.in_ok-put_variable.ensures.makes in
-    let e = c.in_ok-fit_variable.ensures.keeps.same fn.codomain c.in_ok-function.ensures.gives.2 in
-    (p ∙ ap (λ u. answer u c.fit_variable.new.left) (flip (made.0 ∙ ap (substitute 0 (variable c.args.variable)) e)), made.1)
+    let e = c.in_ok-fit_variable.ensures.continues.keeps.same fn.codomain c.in_ok-function.ensures.gives.2 in
+    (p ∙ ap (λ u. answer u c.fit_variable.new.walk.left) (flip (made.0 ∙ ap (substitute 0 (variable c.args.variable)) e)), made.1)

@@ -1,18 +1,18 @@
-use Rattle.std.proofs.Common.{◌≡◌, length, map}
+use Rattle.std.proofs.Common.{◌≡◌, ◌≤◌, length, map}
 use Rattle.dk_model.specs.Signatures.{maybe_tree}
 use Rattle.dk_model.specs.RuleTyping.{notes_agree}
 use Rattle.signature_log.specs.Versions.{entries_of}
-use Rattle.signature_log.specs.Reducers.{Keeps}
+use Rattle.infer_check.specs.Walks.{Follows}
 use Rattle.rule_check.specs.Founds.{types_of, OwnsTypes}
 use Rattle.rule_check.proofs.sides.check_notes.Given as goal
 
 abbrev pub invariant-loop-note : goal.invariant-loop-note
 invariant-loop-note g l = record {
-  same : notes_agree (entries_of l.fn.v) (map maybe_tree l.rest) (types_of g.R.Reducer.denotes l.fn.r l.known) l.left
-      ≡ notes_agree (entries_of l.fn.v) (map maybe_tree l.fn.notes) (types_of g.R.Reducer.denotes l.fn.r l.fn.types) l.fn.left;
+  same : notes_agree (entries_of l.fn.version) (map maybe_tree l.rest) (types_of g.R.Reducer.denotes l.fn.r l.known) l.left
+      ≡ notes_agree (entries_of l.fn.version) (map maybe_tree l.fn.notes) (types_of g.R.Reducer.denotes l.fn.r l.fn.types) l.fn.left;
   known : OwnsTypes g.R.Reducer.owns l.fn.r l.known;
-  keeps : Keeps g.R.Reducer.owns g.R.Reducer.denotes l.fn.r l.r;
-  serves : g.R.Reducer.serves (entries_of l.fn.v) l.r;
+  follows : Follows g.R.Reducer.owns g.R.Reducer.denotes g.R.Reducer.serves (entries_of l.fn.version) l.fn.r l.r;
+  spent : l.left ≤ l.fn.left;
 }
 
 abbrev pub decreases-loop-note : goal.decreases-loop-note

@@ -8,7 +8,7 @@ use Rattle.rule_check.proofs.sides.check_rule.Goals as goal
 
 pub returns-clause-gives : goal.returns-clause-gives
 returns-clause-gives g c =
-    let S = entries_of c.args.v.now in
+    let S = entries_of c.args.version.now in
     let q = plain_rule c.args.rule.now in
     let given = c.in_ok-side.ensures.gives in
     fit_is c.check_sides.result c.check_sides.new.left (ap (λ x. next x (sides_fit S q.notes q.right)) given.1) (c.check_sides.ensures.gives given.0)

@@ -15,14 +15,14 @@ returns-clause-gives g c =
     let r = c.args.r.now in
     let mid = c.meet_variable.new.r in
     let end = c.occurrence.new.r in
-    let w = c.args.found.now in
-    let after = c.meet_variable.new.found in
-    let n = c.meet_variable.new.left in
+    let w = c.args.side.now.found in
+    let after = c.meet_variable.new.side.found in
+    let n = c.meet_variable.new.side.walk.left in
     let given = c.in_ok-meet_variable.ensures.gives in
     let k = c.in_ok-occurrence.ensures.keeps in
     let made = c.in_ok-occurrence.ensures.makes in (
-      meeting_given (entries_of c.args.v.now) (bound_types D r c.args.context.now) c.args.number c.args.arguments.now (found_type (types_of D r w.types.items) c.args.number) (D r c.args.expected.now)
-          (found_of D r w) (found_of D mid after) c.args.left.now n given.0
+      meeting_given (entries_of c.args.version.now) (bound_types D r c.args.side.now.walk.context) c.args.variable.now.number c.args.variable.now.arguments.now (found_type (types_of D r w.types.items) c.args.variable.now.number) (D r c.args.expected.now)
+          (found_of D r w) (found_of D mid after) c.args.side.now.walk.left n given.0
           ∙ ap (λ y. answer y n) (same_walked (flip made.0) (flip (found_same mid end k after given.1))),
       made.1,
       found_kept mid end k after given.1,
