@@ -1,5 +1,5 @@
 -- What the check of a made theory comes to is a row of `make`.
-use Rattle.std.proofs.Common.{◌≡◌, ◌++◌, inl, inr, ℕ, Bool, true, false, List, length, refl, sym, ap, subst, ◌∙◌, arith}
+use Rattle.std.proofs.Common.{◌≡◌, inl, inr, ℕ, Bool, true, false, List, length, refl, sym, ap, subst, ◌∙◌, arith}
 use Rattle.std.specs.Prelude.{◌==◌, if◌then◌else◌}
 use Rattle.dk_io.specs.Causes.{Rose}
 use Rattle.dk_model.specs.declared.code.Verdict.TheVariants as verdict

@@ -7,12 +7,10 @@ use Rattle.dk_parser.specs.FileReading.{read}
 use Rattle.dk_make.specs.Theory.{theory_of}
 use Rattle.command_line.specs.Requests.{Request, to_make}
 use Rattle.file_check.specs.Shelves.{ShelfState}
-use Rattle.file_report.specs.Outcomes.{no_theory}
-use Rattle.typing_model.proofs.Formed.{none_formed}
 use Rattle.dk_check_run.specs.Run.{SinkState}
 use Rattle.dk_check_run.specs.Clauses.{Promises}
 use Rattle.dk_check_run.specs.Table.{Runs, rows_of}
-use Rattle.dk_check_run.proofs.Derived.{all_derived}
+use Rattle.dk_check_run.proofs.Derived.{reading_derived}
 use Rattle.dk_check_run.proofs.General as general
 use Rattle.dk_check_run.proofs.Commands as law
 
@@ -22,14 +20,14 @@ promises limits request old new before after result a = record {
   checks = law.headline limits request old new before after result a;
   derived = λ q bytes asks zero.
       let report = law.decided limits request old new before after result a q bytes asks (inl zero) in
-      all_derived limits q.budget no_theory 0 (read limits bytes whole).commands (read limits bytes whole).tail none_formed (sym report.status ∙ zero);
+      reading_derived limits q.budget (read limits bytes whole) (sym report.status ∙ zero);
   decided = law.decided limits request old new before after result a;
   shelf_held = general.shelf_held (rows_of limits) request old new before after result a;
   makes = law.makes limits request old new before after result a;
   make_due = λ q asks. law.asked limits request old new before after result a (to_make q) asks;
   make_derived = λ q asked zero.
       let report = law.made limits request old new before after result a q asked zero in
-      all_derived limits q.budget no_theory 0 (read limits (theory_of q.count) whole).commands (read limits (theory_of q.count) whole).tail none_formed (sym report.status ∙ zero);
+      reading_derived limits q.budget (read limits (theory_of q.count) whole) (sym report.status ∙ zero);
   usage = general.usage (rows_of limits) request old new before after result a;
   usage_only = general.usage_only (rows_of limits) request old new before after result a;
   untouched = law.untouched limits request old new before after result a;

@@ -1,6 +1,6 @@
 -- How the summary of a made theory is written.
-use Rattle.std.proofs.Common.{◌≡◌, ◌≢◌, ◌++◌, inl, inr, ℕ, Bool, true, false, List, [], refl, sym, ap, subst, ◌∙◌, arith}
-use Rattle.std.specs.Prelude.{Option, Err, if◌then◌else◌}
+use Rattle.std.proofs.Common.{◌≡◌, ◌++◌, ℕ, Bool, true, false, List, refl, sym, ap, subst}
+use Rattle.std.specs.Prelude.{if◌then◌else◌}
 use Rattle.dk_model.specs.declared.code.Verdict.TheVariants as verdict
 use Rattle.verdict_book.specs.Report.{last_line, status_of}
 use Rattle.verdict_book.specs.declared.outcome.Outcome.{Outcome}

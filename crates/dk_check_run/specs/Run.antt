@@ -7,16 +7,17 @@ use Rattle.dk_io.specs.declared.sink.Sink.{Ghosts as Sink}
 use Rattle.dk_model.specs.declared.limits.Limits.{Limits}
 use Rattle.dk_model.specs.declared.code.Verdict.TheVariants as verdict
 use Rattle.dk_lexer.specs.Tokens.{whole}
-use Rattle.dk_parser.specs.FileReading.{read}
+use Rattle.dk_parser.specs.FileReading.{Reading, read}
 use Rattle.dk_parser.specs.Written.{WrittenCommand}
-use Rattle.scope_terms.specs.Scopes.{Scoping, scoped, refused, scope_of}
+use Rattle.scope_terms.specs.Scopes.{Scoping, scoped, refused, names_after, scope_of}
 use Rattle.dk_model.specs.Scoping.{PlainCommand}
+use Rattle.dk_model.specs.Signatures.{PlainEntry}
 use Rattle.typing_model.specs.Derivations.{HasDerivation}
 use Rattle.command_line.specs.Requests.{CheckRequest, MakeRequest, Request, to_check, to_make}
 use Rattle.verdict_book.specs.Report.{concat, FileReport, last_line, report_of, status_of, stop_line}
 use Rattle.verdict_book.specs.declared.outcome.Outcome.{Outcome}
 use Rattle.dk_make.specs.Theory.{theory_of}
-use Rattle.file_report.specs.Outcomes.{Theory, no_theory, report_of_bytes, theory_after}
+use Rattle.file_report.specs.Outcomes.{Theory, no_theory, report_of_bytes, scoped_entry, theory_after}
 use Rattle.file_check.specs.Shelves.{ShelfState, shelf_state}
 
 -- ---- texts
@@ -57,18 +58,37 @@ abbrev pub IsDerived : Theory → Scoping PlainCommand → Type 0
 IsDerived T (scoped command) = HasDerivation T.signature command
 IsDerived T (refused code) = ⊥
 
--- each declared type, body and rule has a derivation over the commands before it
-abbrev pub AllDerived : ℕ → Theory → List WrittenCommand → Type 0
-AllDerived budget T [] = Unit {0}
-AllDerived budget T (c ∷ cs) = IsDerived T (scope_of T.names c.form) × AllDerived budget (theory_after T budget c.form) cs
+-- a command, with the entries that it adds
+pub record Entered : Type 0 where
+  pub command : WrittenCommand
+  pub entries : List PlainEntry
 
--- each declared type, body and rule of the file has a derivation over the commands before it
+-- the theory with a command and its entries
+abbrev pub with_entered : Theory → Entered → Theory
+with_entered T e = record { names = names_after T.names e.command.form; signature = T.signature ++ e.entries }
+
+-- each declared type, body and rule has a derivation over the entries before it
+abbrev pub AllDerived : Theory → List Entered → Type 0
+AllDerived T [] = Unit {0}
+AllDerived T (e ∷ es) = IsDerived T (scope_of T.names e.command.form) × AllDerived (with_entered T e) es
+
+-- the commands after a theory, each with the entries that the plain check gives it
+abbrev pub entered : ℕ → Theory → List WrittenCommand → List Entered
+entered budget T [] = []
+entered budget T (c ∷ cs) =
+    record { command = c; entries = scoped_entry T.signature budget (scope_of T.names c.form) } ∷ entered budget (theory_after T budget c.form) cs
+
+-- each declared type, body and rule of a reading has a derivation over the commands before it
+abbrev pub IsReadingDerived : ℕ → Reading → Type 0
+IsReadingDerived budget r = AllDerived no_theory (entered budget no_theory r.commands)
+
+-- each of the file
 abbrev pub IsFileDerived : Limits → CheckRequest → List ℕ → Type 0
-IsFileDerived limits q bytes = AllDerived q.budget no_theory (read limits bytes whole).commands
+IsFileDerived limits q bytes = IsReadingDerived q.budget (read limits bytes whole)
 
 -- and each of the made theory
 abbrev pub IsTheoryDerived : Limits → MakeRequest → Type 0
-IsTheoryDerived limits q = AllDerived q.budget no_theory (read limits (theory_of q.count) whole).commands
+IsTheoryDerived limits q = IsReadingDerived q.budget (read limits (theory_of q.count) whole)
 
 -- ---- answers
 

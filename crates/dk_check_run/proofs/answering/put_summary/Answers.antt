@@ -1,4 +1,4 @@
-use Rattle.std.proofs.Common.{ap, sym, ◌∙◌}
+use Rattle.std.proofs.Common.{sym, ◌∙◌}
 use Rattle.dk_check_run.specs.Run.{made_line, sink_of}
 use Rattle.dk_check_run.proofs.Summaries.{at_once_text, later_text}
 use Rattle.dk_check_run.proofs.answering.put_summary.Goals as goal
