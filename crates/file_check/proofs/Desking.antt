@@ -1,30 +1,23 @@
 -- What a step of the desk leaves, and how the board is sealed behind it.
 use Rattle.std.proofs.Common.{◌≡◌, ℕ, zero, ◌+◌, ◌<◌, ◌≤◌, All, Bool, false, List, [], ◌∷◌, ◌++◌, length, take, ◌-◌, refl, sym, ap, subst, ◌∙◌, arith, length-append}
-use Rattle.std.specs.Prelude.{Option, Some, None}
+use Rattle.std.specs.Prelude.{Some}
 use Rattle.std.specs.List.{Any, list_any}
 use Rattle.std.proofs.Math.Seq.{take-append_seam}
 use Rattle.std.proofs.lemmas.List.{map-append}
 use Rattle.dk_model.specs.declared.limits.Limits.{Limits}
-use Rattle.dk_parser.specs.Written.{WrittenCommand}
 use Rattle.board_core.specs.declared.event.End.{End}
-use Rattle.board_core.specs.declared.event.End.TheVariants as end
 use Rattle.board_core.specs.declared.event.Event.{Event}
 use Rattle.board_core.specs.declared.event.Event.TheVariants.{Seal}
 use Rattle.board_core.specs.Events.{end_of, is_seal}
-use Rattle.board_core.specs.Machine.{MayEnd}
 use Rattle.board_core.proofs.Histories.{end_append, first_of, unsealed}
 use Rattle.task_board.specs.Histories.{events_in, tagged}
 use Rattle.verdict_book.specs.declared.title.Title.{Title}
 use Rattle.file_report.specs.Outcomes.{Theory}
 use Rattle.file_report.specs.Jobs.{title_of, titles_of}
-use Rattle.file_reader.specs.declared.reader.Halt.TheVariants.{Refused, NoMemory, Judged}
-use Rattle.file_reader.specs.declared.shelf_read.ReadEnd.{ReadEnd}
-use Rattle.file_reader.specs.declared.shelf_read.ReadEnd.TheVariants as read_end
-use Rattle.file_reader.specs.Progress.{LeavesAtEnd, ReadsTo}
 use Rattle.file_check.specs.declared.desk.Desk.{Desk}
 use Rattle.file_check.specs.declared.job.Job.{Job}
 use Rattle.file_check.specs.Jobs.{job_of}
-use Rattle.file_check.specs.Desks.{IsFresh, IsOver, IsReady, IsSound, MayEndSo, end_by, known_at, seen_at}
+use Rattle.file_check.specs.Desks.{IsFresh, IsReady, IsSound, known_at}
 
 -- what stands before the last
 pub before_last : (titles more : List Title) (last : Title) → more ≡ titles ++ last ∷ [] → take (length more - 1) more ≡ titles
@@ -74,48 +67,6 @@ own_sealed mine new e is open_ =
     ap (λ l. end_of (events_in l)) is
     ∙ ap end_of (map-append (λ (x : ℕ × Event). x.1) mine (tagged (Seal e) ∷ []))
     ∙ end_sealed (events_in mine) e open_
-
-may_end : (seen : List Event) (stopped : Option End) → MayEndSo seen stopped → MayEnd seen (end_by (read_end.Halted Judged) stopped)
-may_end seen None may = absurd may
-may_end seen (Some end.Stopped) may = may
-may_end seen (Some (end.Fault line v)) may = may
-may_end seen (Some end.Whole) may = absurd may
-may_end seen (Some end.Unread) may = absurd may
-
--- the board may be sealed so
-pub left_ends : (desk : Desk) (e : ReadEnd) → LeavesAtEnd IsReady IsOver desk e → MayEnd (seen_at desk) (end_by e desk.end)
-left_ends desk read_end.Whole leaves = tt
-left_ends desk read_end.Unread leaves = tt
-left_ends desk (read_end.Halted (Refused line code)) leaves = refl
-left_ends desk (read_end.Halted (NoMemory line)) leaves = refl
-left_ends desk (read_end.Halted Judged) leaves = may_end (seen_at desk) desk.end leaves.ends
-
--- a desk that was left by reading is sound
-pub sound_left : (desk : Desk) (e : ReadEnd) → LeavesAtEnd IsReady IsOver desk e → IsSound desk.limits desk.titles (known_at desk)
-sound_left desk read_end.Whole leaves = leaves.sound
-sound_left desk read_end.Unread leaves = leaves.sound
-sound_left desk (read_end.Halted (Refused line code)) leaves = leaves.sound
-sound_left desk (read_end.Halted (NoMemory line)) leaves = leaves.sound
-sound_left desk (read_end.Halted Judged) leaves = leaves.sound
-
--- ---- a desk at its board
-
-module _ {J D : Type 0} (j : J) (f : J → D) where
-  -- what holds of the desk, and what else does
-  pub leaves_part : (R O : D → Type 0) (P : J → Type 0) (e : ReadEnd) → LeavesAtEnd (λ x. R (f x) × P x) (λ x. O (f x) × P x) j e → LeavesAtEnd R O (f j) e × P j
-  leaves_part R O P read_end.Whole leaves = leaves
-  leaves_part R O P read_end.Unread leaves = leaves
-  leaves_part R O P (read_end.Halted (Refused line code)) leaves = leaves
-  leaves_part R O P (read_end.Halted (NoMemory line)) leaves = leaves
-  leaves_part R O P (read_end.Halted Judged) leaves = leaves
-
-  pub reads_part : (S T : D → List WrittenCommand → Type 0) (limits : Limits) (bytes : List ℕ) (left : Option (List ℕ)) (e : ReadEnd)
-      → ReadsTo (λ x. S (f x)) (λ x. T (f x)) limits bytes left j e → ReadsTo S T limits bytes left (f j) e
-  reads_part S T limits bytes left read_end.Whole reads = reads
-  reads_part S T limits bytes left read_end.Unread reads = reads
-  reads_part S T limits bytes left (read_end.Halted (Refused line code)) reads = reads
-  reads_part S T limits bytes left (read_end.Halted (NoMemory line)) reads = reads
-  reads_part S T limits bytes left (read_end.Halted Judged) reads = reads
 
 -- ---- the passes that are back
 

@@ -3,3 +3,4 @@ pub mod Desking
 pub mod Preparing
 pub mod Reporting
 pub mod Standing
+pub mod Ending

@@ -4,25 +4,21 @@ use Rattle.std.specs.List.{list_any}
 use Rattle.dk_model.specs.declared.code.Verdict.{Verdict}
 use Rattle.dk_model.specs.declared.code.Verdict.TheVariants as verdict
 use Rattle.dk_model.specs.declared.limits.Limits.{Limits}
-use Rattle.dk_lexer.specs.Steps.{lexer_after}
-use Rattle.dk_parser.specs.Parsing.{parsing_after}
-use Rattle.dk_parser.specs.Views.{parsing}
+use Rattle.dk_io.specs.Causes.{Rose}
+use Rattle.dk_lexer.specs.Tokens.{broken, whole, Ending}
+use Rattle.dk_parser.specs.FileReading.{read}
 use Rattle.dk_parser.specs.Written.{WrittenCommand}
 use Rattle.board_core.specs.declared.event.End.{End}
 use Rattle.board_core.specs.declared.event.End.TheVariants as end
 use Rattle.board_core.specs.declared.event.Event.{Event}
-use Rattle.board_core.specs.Events.{is_accepted, is_fault}
+use Rattle.board_core.specs.Events.{is_fault}
 use Rattle.task_board.specs.Histories.{events_in}
 use Rattle.verdict_book.specs.declared.title.Title.{Title}
 use Rattle.file_report.specs.Outcomes.{no_theory, verdict_at}
 use Rattle.file_report.specs.Jobs.{AreJobsFrom, Job as PlainJob, theory_over, titles_of}
-use Rattle.file_reader.specs.declared.reader.Halt.TheVariants.{Refused, NoMemory, Judged}
-use Rattle.file_reader.specs.declared.reader.Reader.{Reader}
-use Rattle.file_reader.specs.declared.shelf_read.ReadEnd.{ReadEnd}
-use Rattle.file_reader.specs.declared.shelf_read.ReadEnd.TheVariants.{Whole, Unread, Halted}
-use Rattle.file_reader.specs.Counts.{MayRiseByEnd, RoseByEnd}
-use Rattle.file_reader.specs.Progress.{LeavesAtEnd, ReadsTo}
-use Rattle.file_check.specs.declared.judging.Bounds.{Bounds}
+use Rattle.file_report.specs.Ends.{IsReadersEnd}
+use Rattle.file_reader.specs.declared.reader.ReadEnd.{ReadEnd}
+use Rattle.file_reader.specs.declared.reader.ReadEnd.TheVariants as read_end
 use Rattle.file_check.specs.declared.desk.Desk.{Desk}
 use Rattle.file_check.specs.declared.job.Job.{Job}
 use Rattle.file_check.specs.declared.theory.Prepared.{Prepared}
@@ -51,16 +47,6 @@ pub record IsSound (limits : Limits) (titles : List Title) (jobs : List (Job × 
 pub record IsReady (desk : Desk) : Type 0 where
   pub sound : IsSound desk.limits desk.titles (known_at desk)
   pub counted : (theory_of desk.theory).names.count ≡ length desk.titles
-
--- no other command may come, and the board can be sealed so
-abbrev pub MayEndSo : List Event → Option End → Type 0
-MayEndSo seen (Some end.Stopped) = list_any is_fault seen ≡ true
-MayEndSo seen (Some (end.Fault line v)) = is_accepted v ≡ false
-MayEndSo seen e = ⊥
-
-pub record IsOver (desk : Desk) : Type 0 where
-  pub sound : IsSound desk.limits desk.titles (known_at desk)
-  pub ends : MayEndSo (seen_at desk) desk.end
 
 -- ---- steps
 
@@ -105,9 +91,6 @@ Enters old c new (Err end.Unread) = ⊥
 
 -- ---- the desk behind the commands of a file
 
-abbrev pub bounds_of : Desk → Bounds
-bounds_of desk = record { limits = desk.limits; budget = desk.budget }
-
 -- no command was handed over yet
 pub record IsFresh (desk : Desk) : Type 0 where
   pub limit : desk.limits.commands < 4294967294
@@ -122,54 +105,50 @@ pub record BeginsDesk (limits : Limits) (budget made : ℕ) (desk : Desk) : Type
   pub budget_is : desk.budget ≡ budget
   pub made_are : desk.pass.seat.me.0.made ≡ made
 
--- nothing was read yet
-pub record BeginsBook (reader : Reader) (desk : Desk) : Type 0 where
-  pub fresh : IsFresh desk
-  pub lexer : reader.lexer ≡ lexer_after desk.limits []
-  pub parser : parsing reader.parser ≡ parsing_after desk.limits []
-
 -- these commands are the jobs, each over those before it
-pub record StandsBehind (bounds : Bounds) (desk : Desk) (done : List WrittenCommand) : Type 0 where
-  pub limits_are : desk.limits ≡ bounds.limits
-  pub budget_is : desk.budget ≡ bounds.budget
-  pub theory : theory_of desk.theory ≡ theory_over no_theory bounds.budget done
+pub record StandsBehind (limits : Limits) (budget : ℕ) (desk : Desk) (done : List WrittenCommand) : Type 0 where
+  pub limits_are : desk.limits ≡ limits
+  pub budget_is : desk.budget ≡ budget
+  pub theory : theory_of desk.theory ≡ theory_over no_theory budget done
   pub counted : length (known_at desk) ≡ length done
-  pub jobs : AreJobsFrom bounds.budget no_theory done (plain_jobs (known_at desk))
-
--- how the desk ended: some job is at fault; or the last of these commands has this verdict, and those before it are jobs
-abbrev pub EndsAt : Bounds → Desk → List WrittenCommand → Option End → Type 0
-EndsAt bounds desk cs (Some end.Stopped) = Unit {0}
-EndsAt bounds desk cs (Some (end.Fault line v)) = (done : List WrittenCommand) × (c : WrittenCommand) × (cs ≡ done ++ c ∷ [])
-    × (length (known_at desk) ≡ length done) × (line ≡ c.line) × (v ≢ verdict.Accepted)
-    × ((v ≡ verdict.Memory) ⊎ (verdict_at bounds.limits bounds.budget (theory_over no_theory bounds.budget done) (length done) c.form ≡ v))
-EndsAt bounds desk cs e = ⊥
-
-pub record StopsAt (bounds : Bounds) (desk : Desk) (cs : List WrittenCommand) : Type 0 where
-  pub limits_are : desk.limits ≡ bounds.limits
-  pub budget_is : desk.budget ≡ bounds.budget
-  pub jobs : AreJobsFrom bounds.budget no_theory cs (plain_jobs (known_at desk))
-  pub ends : EndsAt bounds desk cs desk.end
+  pub jobs : AreJobsFrom budget no_theory done (plain_jobs (known_at desk))
 
 -- ---- the end
 
--- how the board is sealed where reading came to this end; where the desk stopped, it said how
-abbrev pub end_by : ReadEnd → Option End → End
-end_by Whole stopped = end.Whole
-end_by Unread stopped = end.Unread
-end_by (Halted (Refused line code)) stopped = end.Fault line (verdict.Refused code)
-end_by (Halted (NoMemory line)) stopped = end.Fault line verdict.Memory
-end_by (Halted Judged) None = end.Whole
-end_by (Halted Judged) (Some e) = e
+-- how the board is sealed where reading ended so
+abbrev pub end_at : ReadEnd → End
+end_at read_end.Whole = end.Whole
+end_at read_end.Unread = end.Unread
+end_at (read_end.Refused line code) = end.Fault line (verdict.Refused code)
+end_at (read_end.NoMemory line) = end.Fault line verdict.Memory
 
--- a book was read up to this end, which left a desk with these jobs, and the board was sealed
-pub record ReadsBook (bounds : Bounds) (old new : ShelfState) (jobs : List (Job × Bool)) (sealed : Option End) (titles : List Title) : Type 0 where
-  pub desk : Desk
-  pub read_end : ReadEnd
-  pub leaves : LeavesAtEnd IsReady IsOver desk read_end
-  pub ends : (bytes : List ℕ) → old.left ≡ Some bytes → ReadsTo (StandsBehind bounds) (StopsAt bounds) bounds.limits bytes new.left desk read_end
+-- the count of failed reads rose where a read failed, and stands where none did
+abbrev pub RoseByEnd : ℕ → ℕ → End → Type 0
+RoseByEnd before now end.Unread = Rose before now
+RoseByEnd before now e = now ≡ before
+
+-- a count for each name may rise where a read failed, and stands where none did
+abbrev pub MayRiseByEnd : (List ℕ → ℕ) → (List ℕ → ℕ) → End → Type 0
+MayRiseByEnd before now end.Unread = (name : List ℕ) → before name ≤ now name
+MayRiseByEnd before now e = (name : List ℕ) → now name ≡ before name
+
+-- these jobs are the first commands of the bytes, and their reader ends so behind them
+pub record EndsBehind (limits : Limits) (budget : ℕ) (bytes : List ℕ) (ending : Ending) (jobs : List (Job × Bool)) (e : End) : Type 0 where
+  pub jobs_are : AreJobsFrom budget no_theory (read limits bytes ending).commands (plain_jobs jobs)
+  pub reader : IsReadersEnd limits budget bytes ending (length jobs) e
+
+-- the book with these bytes ends so; where a read failed, those that were given before
+abbrev pub EndsBook : Limits → ℕ → List ℕ → Option (List ℕ) → List (Job × Bool) → End → Type 0
+EndsBook limits budget bytes left jobs end.Unread = (given : List ℕ) × (rest : List ℕ) × (bytes ≡ given ++ rest) × (left ≡ Some rest) × EndsBehind limits budget given broken jobs end.Unread
+EndsBook limits budget bytes left jobs e = EndsBehind limits budget bytes whole jobs e
+
+-- a book was read, which left these jobs, and the board was sealed
+pub record ReadsBook (limits : Limits) (budget : ℕ) (old new : ShelfState) (jobs : List (Job × Bool)) (sealed : Option End) (titles : List Title) : Type 0 where
+  pub end : End
+  pub few : length jobs ≤ limits.commands
+  pub ends : (bytes : List ℕ) → old.left ≡ Some bytes → EndsBook limits budget bytes new.left jobs end
   pub books : new.books ≡ old.books
-  pub faults : RoseByEnd old.faults new.faults read_end
-  pub missed : MayRiseByEnd old.missed new.missed read_end
-  pub jobs_are : jobs ≡ known_at desk
-  pub sealed_by : sealed ≡ Some (end_by read_end desk.end)
+  pub faults : RoseByEnd old.faults new.faults end
+  pub missed : MayRiseByEnd old.missed new.missed end
+  pub sealed_by : sealed ≡ Some end
   pub titled : titles ≡ titles_of job_of jobs

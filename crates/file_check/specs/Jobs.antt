@@ -37,5 +37,6 @@ pub record IsOtherVerdict (due given : Verdict) : Type 0 where
 pub record Prepares (budget : ℕ) (old : Theory) (c : WrittenCommand) (p : Prepared) (new : Theory) : Type 0 where
   pub job : IsJobOf budget old c (job_of p.job)
   pub title : p.title ≡ title_of (job_of p.job)
+  pub early : p.settled ≡ is_early (job_of p.job)
   pub settled : p.settled ≡ true → (is_early (job_of p.job) ≡ true) × (due_of (job_of p.job) ≡ Accepted)
   pub theory : new ≡ theory_after old budget c.form

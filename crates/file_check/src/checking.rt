@@ -4,7 +4,7 @@ ghost use Rattle.board_core.specs.Events.{end_of};
 ghost use Rattle.board_core.specs.Machine.{IsFinished, IsLegal, marks_of};
 ghost use Rattle.task_board.specs.Passes.{IsIdle};
 ghost use Rattle.file_check.specs.Checks.{ChecksShelf};
-ghost use Rattle.file_check.specs.Desks.{BeginsBook, BeginsDesk, ReadsBook, bounds_of};
+ghost use Rattle.file_check.specs.Desks.{BeginsDesk, IsFresh, ReadsBook};
 ghost use Rattle.file_check.specs.Jobs.{due, early};
 ghost use Rattle.file_check.specs.Shelves.{shelf_state};
 
@@ -12,12 +12,10 @@ use crate::book_reading::{BookRead, BookReading};
 use crate::checker::JobChecker;
 use crate::desk::Desk;
 use crate::job::{Job, Worker};
-use crate::judging::Judging;
 use crate::theory::Theory;
 use board_core::{Book, Gate};
 use dk_io::Shelf;
 use dk_model::{Limits, Listed, NoMemory};
-use file_reader::Reader;
 use std::alloc::Global;
 use std::sync::Wait;
 use std::thread::Threads;
@@ -61,7 +59,6 @@ fn open_board(
         worker,
         pass,
         titles: Titles::new(alloc),
-        end: None,
     };
     Ok((board, desk, passes))
 }
@@ -77,33 +74,29 @@ fn checked_book<R: Threads + Wait + Sync, H: Shelf, G: Gate + Sync>(
     alloc: Global,
     shelf: &mut H,
     gate: &G,
-    reader: Reader,
     board: Board<JobChecker>,
     desk: Desk,
     passes: Listed<WorkerPass<JobChecker>>,
 ) -> CheckedBook
     requires own { desk.pass.seat.table_id ≡ board }
-    requires begins { BeginsBook reader desk }
+    requires fresh { IsFresh desk }
     requires some { 0 < length passes }
     requires all { length passes + 1 ≡ desk.pass.seat.me.0.made }
     requires idle { All (λ p. (p.seat.table_id ≡ board) × IsIdle p.seat.me.0) passes }
     ensures legal { IsLegal due early result.book.jobs result.book.events }
     ensures finished { IsFinished (marks_of result.book.jobs) result.book.events }
-    ensures read { ReadsBook (bounds_of desk)
+    ensures read { ReadsBook desk.limits desk.budget
         (shelf_state H.books H.left H.faults H.missed shelf.old)
         (shelf_state H.books H.left H.faults H.missed shelf.new)
         result.book.jobs (end_of result.book.events) result.titles }
 {
     let checker = JobChecker { alloc };
     let reading = BookReading {
+        rt,
         alloc,
         shelf,
-        reader,
-        judging: Judging {
-            rt,
-            board: &board,
-            desk,
-        },
+        board: &board,
+        desk,
     };
     let (read, passes) = run_crew(rt, alloc, STACK, &board, passes, &checker, gate, reading);
     let BookRead {
@@ -140,11 +133,8 @@ pub fn check_open_book<R: Threads + Wait + Sync, H: Shelf, G: Gate + Sync>(
     ensures err { OnErr result (shelf.new ≡ shelf.old) }
 {
     history_has_report();
-    let Ok(reader) = Reader::new(alloc, limits) else {
-        return Err(NoMemory);
-    };
     let Ok((board, desk, passes)) = open_board(alloc, limits, budget, workers) else {
         return Err(NoMemory);
     };
-    Ok(checked_book(rt, alloc, shelf, gate, reader, board, desk, passes))
+    Ok(checked_book(rt, alloc, shelf, gate, board, desk, passes))
 }

@@ -2,12 +2,11 @@
 ghost use Rattle.std.specs.Prelude.{◌≡◌, ◌<◌, Some, IfOk, length};
 ghost use Rattle.dk_parser.specs.RawViews.{written_command};
 ghost use Rattle.board_core.specs.Events.{end_of};
-ghost use Rattle.board_core.specs.Machine.{MaySettle};
+ghost use Rattle.board_core.specs.Machine.{MayEnd, MaySettle};
 ghost use Rattle.task_board.specs.Histories.{events_in};
 ghost use Rattle.file_report.specs.Jobs.{title_of, titles_of};
 ghost use Rattle.file_check.specs.Jobs.{due, early, job_of};
-ghost use Rattle.file_reader.specs.Progress.{LeavesAtEnd};
-ghost use Rattle.file_check.specs.Desks.{Enters, IsOver, IsReady, IsSound, Puts, end_by, known_at, same_bounds};
+ghost use Rattle.file_check.specs.Desks.{Enters, IsReady, IsSound, Puts, known_at, same_bounds, seen_at};
 
 use crate::checker::JobChecker;
 use crate::job::Worker;
@@ -15,7 +14,6 @@ use crate::theory::{Prepared, Theory};
 use board_core::{End, PutRefused};
 use dk_model::{Code, Limits, Verdict};
 use dk_parser::Raw;
-use file_reader::{Halt, ReadEnd};
 use std::alloc::Global;
 use std::mem::forget;
 use std::sync::{Arc, Wait};
@@ -33,21 +31,6 @@ pub struct Desk {
     pub pass: ReaderPass<JobChecker>,
     /// What the report names of the jobs, in order.
     pub titles: Titles,
-    // How the file ends, once no other command is taken.
-    pub end: Option<End>,
-}
-
-// How the board is sealed where reading came to this end. Where the desk stopped, it said how.
-fn end_by(read_end: ReadEnd, stopped: Option<End>) -> End
-    ensures { result ≡ end_by read_end stopped }
-{
-    match read_end {
-        ReadEnd::Whole => End::Whole,
-        ReadEnd::Unread => End::Unread,
-        ReadEnd::Halted(Halt::Refused(line, code)) => End::Fault(line, Verdict::Refused(code)),
-        ReadEnd::Halted(Halt::NoMemory(line)) => End::Fault(line, Verdict::Memory),
-        ReadEnd::Halted(Halt::Judged) => stopped.unwrap_or(End::Whole),
-    }
 }
 
 impl Desk {
@@ -125,32 +108,32 @@ impl Desk {
         }
     }
 
-    /// Seals the board once reading came to this end, and gives the titles of its jobs. The theory isn't let go: its memory
-    /// stays taken until the program ends.
+    /// Seals the board so, and gives the titles of its jobs. The theory isn't let go: its memory stays taken until the
+    /// program ends.
     pub fn seal<R: Wait>(
         self,
         rt: &R,
         board: &Board<JobChecker>,
-        read_end: ReadEnd,
+        end: End,
     ) -> (SealedPass<JobChecker>, Titles)
         requires own { self.pass.seat.table_id ≡ board.now }
-        requires left { LeavesAtEnd IsReady IsOver self read_end }
+        requires sound { IsSound self.limits self.titles (known_at self) }
+        requires may_end { MayEnd (seen_at self) end }
         ensures own { result.0.seat.table_id ≡ board.now }
         ensures made { result.0.seat.me.0.made ≡ self.pass.seat.me.0.made }
         ensures jobs { result.0.seat.me.0.known ≡ known_at self }
-        ensures end { end_of (events_in result.0.seat.me.0.mine) ≡ Some (end_by read_end self.end) }
+        ensures end { end_of (events_in result.0.seat.me.0.mine) ≡ Some end }
         ensures titles { result.1 ≡ titles_of job_of (known_at self) }
     {
         let Desk {
             pass,
             titles,
-            end,
             theory,
             ..
         } = self;
         // The program ends behind the report, and the system takes all back at once; here it would go piece by piece.
         forget(theory);
-        let sealed = board.seal(rt, pass, end_by(read_end, end));
+        let sealed = board.seal(rt, pass, end);
         (sealed, titles)
     }
 }

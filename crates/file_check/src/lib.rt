@@ -6,7 +6,6 @@ mod checker;
 mod checking;
 mod desk;
 mod job;
-mod judging;
 mod theory;
 
 pub use checking::{CheckedBook, STACK, check_open_book};

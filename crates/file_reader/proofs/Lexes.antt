@@ -1,4 +1,4 @@
--- What all that a byte, or the end of the input, gave comes to.
+-- What tokens, and a fault of the bytes behind them, settle.
 use Rattle.std.proofs.Common.{◌≡◌, ℕ, List, [], ◌∷◌, ◌++◌, sym, ap, ◌∙◌}
 use Rattle.std.proofs.lemmas.List.{append_assoc, append-nil}
 use Rattle.std.specs.Prelude.{Option, Some, None, unwrap_or}
@@ -6,31 +6,22 @@ use Rattle.dk_model.specs.declared.code.Code.{Code}
 use Rattle.dk_model.specs.declared.limits.Limits.{Limits}
 use Rattle.dk_lexer.specs.declared.token.Token.{Token}
 use Rattle.dk_lexer.specs.Tokens.{Ending, Lexed, tokens}
-use Rattle.dk_lexer.specs.Given.{Stays, with_token}
+use Rattle.dk_lexer.specs.Given.{Stays}
 use Rattle.dk_parser.specs.Reading.{TokenReading}
 use Rattle.dk_parser.specs.FileReading.{Reading, reading_of, tail_by_tokens, tail_by_bytes}
 use Rattle.dk_parser.specs.FileReading as tail
 use Rattle.dk_parser.specs.Steps.{read_tokens}
 use Rattle.dk_parser.specs.Written.{WrittenCommand}
-use Rattle.file_reader.specs.declared.reader.Halt.{Halt}
-use Rattle.file_reader.specs.declared.reader.Halt.TheVariants.{Refused, NoMemory, Judged}
-use Rattle.file_reader.specs.Progress.{HaltsAtLexed, HaltsAtTokens, LexedSettles, TokensSettle}
+use Rattle.file_reader.proofs.Fronts.{LexedSettles}
 
-pub with_then : (ts us : List Token) (t : Option Token) → ts ++ with_token t us ≡ (ts ++ with_token t []) ++ us
-with_then ts us None = ap (λ l. l ++ us) (sym (append-nil ts))
-with_then ts us (Some t) = sym (append_assoc ts (t ∷ []) us)
+-- these tokens settle what the file is read as
+abbrev pub TokensSettle : Limits → List Token → Reading → Type 0
+TokensSettle limits ts reading = (us : List Token) (lexed : Lexed) (ending : Ending) → reading_of (read_tokens limits (ts ++ us)) lexed ending ≡ reading
 
 -- tokens settle, so all that extends them does
-lexed_settles : (limits : Limits) (lexed : Lexed) (reading : Reading) → TokensSettle limits lexed.tokens reading → LexedSettles limits lexed reading
+pub lexed_settles : (limits : Limits) (lexed : Lexed) (reading : Reading) → TokensSettle limits lexed.tokens reading → LexedSettles limits lexed reading
 lexed_settles limits lexed reading settles new ending front =
     ap (λ ts. reading_of (read_tokens limits ts) new ending) front.tokens ∙ settles front.more new ending
-
--- reading halted at a token
-pub halts_lexed : {J : Type 0} (stands stops : J → List WrittenCommand → Type 0) (limits : Limits) (bytes : List ℕ) (ending : Ending) (judge : J) (halt : Halt)
-    → HaltsAtTokens stands stops limits bytes ending judge halt → HaltsAtLexed stands stops limits bytes ending judge halt
-halts_lexed stands stops limits bytes ending judge (Refused line code) halts = (halts.0, halts.1, lexed_settles limits (tokens limits bytes ending) _ halts.2)
-halts_lexed stands stops limits bytes ending judge (NoMemory line) halts = halts
-halts_lexed stands stops limits bytes ending judge Judged halts = halts
 
 stays_same : (f : Option Code) (code : Code) (old new : Lexed) → f ≡ Some code → Stays f old new → new ≡ old
 stays_same None code old new is stays = cc

@@ -1,8 +1,8 @@
-pub mod Bytes
+pub mod Asking
+pub mod Begins
+pub mod Fronts
 pub mod Lexes
 pub mod Lines
-pub mod Pieces
-pub mod Stands
-pub mod Starts
-pub mod Fed
-pub mod Waiting
+pub mod Loading
+pub mod Room
+pub mod Turns

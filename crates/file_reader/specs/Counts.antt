@@ -1,15 +1,15 @@
 -- For callers: what the counts of faults say of a reading.
-use Rattle.std.specs.Prelude.{◌≡◌, ◌≤◌, ℕ, List}
+use Rattle.std.specs.Prelude.{◌≡◌, ◌≤◌, ℕ, List, Result, Ok, Err}
 use Rattle.dk_io.specs.Causes.{Rose}
-use Rattle.file_reader.specs.declared.shelf_read.ReadEnd.{ReadEnd}
-use Rattle.file_reader.specs.declared.shelf_read.ReadEnd.TheVariants.{Unread}
+use Rattle.file_reader.specs.declared.reader.ReadEnd.{ReadEnd}
+use Rattle.file_reader.specs.declared.reader.ReadEnd.TheVariants.{Unread}
 
 -- the count of failed reads rose where a read failed, and stands where none did
-abbrev pub RoseByEnd : ℕ → ℕ → ReadEnd → Type 0
-RoseByEnd before now Unread = Rose before now
-RoseByEnd before now end = now ≡ before
+abbrev pub RoseByAnswer : {A : Type 0} → ℕ → ℕ → Result A ReadEnd → Type 0
+RoseByAnswer before now (Err Unread) = Rose before now
+RoseByAnswer before now answer = now ≡ before
 
 -- a count for each name may rise where a read failed, and stands where none did
-abbrev pub MayRiseByEnd : (List ℕ → ℕ) → (List ℕ → ℕ) → ReadEnd → Type 0
-MayRiseByEnd before now Unread = (name : List ℕ) → before name ≤ now name
-MayRiseByEnd before now end = (name : List ℕ) → now name ≡ before name
+abbrev pub MayRiseByAnswer : {A : Type 0} → (List ℕ → ℕ) → (List ℕ → ℕ) → Result A ReadEnd → Type 0
+MayRiseByAnswer before now (Err Unread) = (name : List ℕ) → before name ≤ now name
+MayRiseByAnswer before now answer = (name : List ℕ) → now name ≡ before name

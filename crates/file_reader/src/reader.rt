@@ -1,235 +1,230 @@
-//! Reads the commands of a file from its bytes and hands each to a judge as soon as it is whole.
-ghost use Rattle.std.specs.Prelude.{◌≡◌, ◌≢◌, reverse, ◌∷◌, ◌++◌, [], ℕ, List, IfOk, None};
-ghost use Rattle.dk_lexer.specs.Given.{AddsTokens, begun_line, with_token};
-ghost use Rattle.dk_lexer.specs.Steps.{lexer_after};
-ghost use Rattle.dk_parser.specs.Parsing.{parsing_after};
-ghost use Rattle.dk_parser.specs.Views.{parsing};
-ghost use Rattle.dk_lexer.specs.Tokens.{Ending, Lexed, tokens};
+//! Reads the commands of a book from a shelf, piece by piece.
+ghost use Rattle.std.specs.Prelude.{◌≡◌, ◌++◌, [], ℕ, List, Some, OnOk, unwrap_or};
+ghost use Rattle.dk_io.specs.Causes.{HasCause, MayRiseAll};
 ghost use Rattle.dk_lexer.specs.declared.token.Token.{Token};
+ghost use Rattle.dk_lexer.specs.Given.{given, with_token};
+ghost use Rattle.dk_lexer.specs.Tokens.{Ending, broken, whole};
 ghost use Rattle.dk_model.specs.declared.limits.Limits.{Limits};
-ghost use Rattle.file_reader.specs.Progress.{ComesToBytes, ComesToEnd, ComesToLexed, ComesToTokens, GoesOnAfter, GoesOnBehind, LeavesJudge, due_line};
+ghost use Rattle.dk_parser.specs.Steps.{read_tokens};
+ghost use Rattle.dk_parser.specs.Views.{HasRead};
+ghost use Rattle.dk_parser.specs.Written.{WrittenCommand};
+ghost use Rattle.file_reader.specs.Counts.{MayRiseByAnswer, RoseByAnswer};
+ghost use Rattle.file_reader.specs.Held.{AreKept, Finds, Holds, EndsBehind, IsDry, Loads};
+ghost use Rattle.file_reader.specs.Progress.{Answers, HasBegun, IsBehind};
 
-use crate::judge::{Judge, Over};
+use dk_io::{Failed, Shelf};
 use dk_lexer::{Fed, Lexer, Token};
-use dk_model::{Code, Fault, Limits, NoMemory};
-use dk_parser::{Parser, Step};
+use dk_model::{Code, Fault, Limits};
+use dk_parser::{Parser, Raw, Step};
 use std::alloc::Global;
 
-/// What has been read of a file. Once reading has halted, nothing more is to be read.
-#[derive(Drop)]
-pub struct Reader {
-    pub lexer: Lexer,
-    pub parser: Parser,
-    // The tokens of the piece at hand that the parser has not had, the next one last.
-    waiting: Vec<Token>,
-}
-
-/// Why nothing further is read of a file before its end.
+/// Why no other command of a book comes.
 #[derive(Clone, Copy, Debug, PartialEq, Eq)]
-pub enum Halt {
+pub enum ReadEnd {
+    /// It was read to its end.
+    Whole,
+    /// A read failed.
+    Unread,
     /// The bytes or tokens behind the last command are at fault: the line of the command that is due, and the code.
     Refused(u32, Code),
     /// Memory ended while the command at this line was due.
     NoMemory(u32),
-    /// The judge takes no further command.
-    Judged,
+}
+
+// What stands behind the tokens of the bytes that were given.
+#[derive(Clone, Copy)]
+enum Behind {
+    // The next piece of the book.
+    Piece,
+    // The end of the book, at this line.
+    End(u32),
+    // A fault of the bytes, at this line.
+    Fault(u32, Code),
+    // Memory ended, at the line of the first token that is missing, or of what is begun.
+    NoMemory(u32),
+}
+
+/// What has been read of a book. Once it has ended, nothing more is to be read.
+#[derive(Drop)]
+pub struct Reader {
+    lexer: Lexer,
+    parser: Parser,
+    // The tokens of the piece at hand that the parser has not had, the next one last.
+    waiting: Vec<Token>,
+    behind: Behind,
+}
+
+// Puts a token behind those that wait; or tells its line, where there is no memory for it.
+fn keep(waiting: &mut Vec<Token>, token: Option<Token>) -> Result<(), u32>
+    ensures { AreKept (waiting.old.items ++ with_token token []) waiting.new.items result }
+{
+    let Some(token) = token else {
+        return Ok(());
+    };
+    let line = token.line;
+    match waiting.push(token) {
+        Ok(()) => Ok(()),
+        Err(_) => Err(line),
+    }
+}
+
+// Puts the tokens that the end completed behind those that wait.
+fn keep_all(waiting: &mut Vec<Token>, fed: Fed) -> Result<(), u32>
+    ensures { AreKept (waiting.old.items ++ given fed) waiting.new.items result }
+{
+    keep(waiting, fed.first)?;
+    keep(waiting, fed.second)?;
+    keep(waiting, fed.third)?;
+    keep(waiting, fed.fourth)
 }
 
 impl Reader {
-    pub fn new(alloc: Global, limits: Limits) -> Result<Reader, NoMemory>
-        ensures lexer { IfOk result (λ r. r.lexer ≡ lexer_after limits []) }
-        ensures parser { IfOk result (λ r. parsing r.parser ≡ parsing_after limits []) }
+    /// The reader of a book, before its first byte.
+    pub fn new(alloc: Global, limits: Limits) -> Reader
+        ensures begun { HasBegun result }
+        ensures behind { (bytes : List ℕ) → IsBehind limits bytes [] (Some bytes) result }
     {
-        Ok(Reader {
+        Reader {
             lexer: Lexer::new(limits),
             parser: Parser::new(alloc, limits),
             waiting: Vec::new(alloc),
-        })
+            behind: Behind::Piece,
+        }
     }
 
-    // Takes one token.
-    fn token<J: Judge>(&mut self, alloc: Global, judge: &mut J, token: Token) -> Result<(), Halt>
-        requires ready { J.ready judge.old }
-        ensures fixed { J.fixed judge.new ≡ J.fixed judge.old }
-        ensures ready { LeavesJudge J.ready J.over judge.new result }
-        ensures stands { (bounds : J.Bounds) (limits : Limits) (bytes : List ℕ) (ending : Ending)
-            (taken coming : List Token) →
-            (tokens limits bytes ending).tokens ≡ taken ++ token ∷ coming →
-            GoesOnBehind (J.stands bounds) limits taken self.old judge.old →
-            ComesToTokens (J.stands bounds) (J.stops bounds) limits bytes ending
-            (taken ++ token ∷ []) self.new judge.new result }
-        ensures lexer { self.new.lexer ≡ self.old.lexer }
-        ensures waiting { self.new.waiting ≡ self.old.waiting }
+    /// The next command of the shelf's current book, which is the one that the reader began; or why none comes. The
+    /// book is read in pieces of 4,096 bytes, as they are needed.
+    pub fn next<H: Shelf>(&mut self, alloc: Global, shelf: &mut H) -> Result<Raw, ReadEnd>
+        requires begun { HasBegun self.old }
+        ensures begun { OnOk result (HasBegun self.new) }
+        ensures answers { (limits : Limits) (bytes : List ℕ) (done : List WrittenCommand) →
+            IsBehind limits bytes done (H.left shelf.old) self.old →
+            Answers limits bytes done (H.left shelf.new) self.new result }
+        ensures books { H.books shelf.new ≡ H.books shelf.old }
+        ensures faults { RoseByAnswer (H.faults shelf.old) (H.faults shelf.new) result }
+        ensures missed { MayRiseByAnswer (H.missed shelf.old) (H.missed shelf.new) result }
     {
-        let line = self.parser.begun().unwrap_or(token.line);
-        match self.parser.feed(alloc, token) {
-            Ok(Step::More) => Ok(()),
-            Ok(Step::Command(raw)) => match judge.command(alloc, Box::into_inner(raw)) {
-                Ok(()) => Ok(()),
-                Err(Over) => Err(Halt::Judged),
-            },
-            Err(Fault::Refused(code)) => {
-                let line = self.parser.begun().unwrap_or(line);
-                Err(Halt::Refused(line, code))
+        'pieces: for _turn in 0..u64::MAX {
+            match self.command(alloc) {
+                Ok(Some(raw)) => return Ok(raw),
+                Err(end) => return Err(end),
+                Ok(None) => {}
             }
-            Err(Fault::NoMemory) => Err(Halt::NoMemory(line)),
+            if let Some(end) = self.end() {
+                return Err(end);
+            }
+            if let Err(Failed) = self.load(alloc, shelf) {
+                return Err(ReadEnd::Unread);
+            }
         }
+        // A book of more bytes than the limit is refused long before.
+        unreachable!()
     }
 
-    // Takes a token, where there is one.
-    fn maybe_token<J: Judge>(
-        &mut self,
-        alloc: Global,
-        judge: &mut J,
-        token: Option<Token>,
-    ) -> Result<(), Halt>
-        requires ready { J.ready judge.old }
-        ensures fixed { J.fixed judge.new ≡ J.fixed judge.old }
-        ensures ready { LeavesJudge J.ready J.over judge.new result }
-        ensures stands { (bounds : J.Bounds) (limits : Limits) (bytes : List ℕ) (ending : Ending)
-            (taken coming : List Token) →
-            (tokens limits bytes ending).tokens ≡ taken ++ with_token token coming →
-            GoesOnBehind (J.stands bounds) limits taken self.old judge.old →
-            ComesToTokens (J.stands bounds) (J.stops bounds) limits bytes ending
-            (taken ++ with_token token []) self.new judge.new result }
-        ensures lexer { self.new.lexer ≡ self.old.lexer }
-    {
-        match token {
-            Some(token) => self.token(alloc, judge, token),
-            None => Ok(()),
-        }
-    }
-
-    // Takes the tokens that a byte, or the end of the input, completed.
-    fn tokens<J: Judge>(
-        &mut self,
-        alloc: Global,
-        judge: &mut J,
-        first: Option<Token>,
-        second: Option<Token>,
-        third: Option<Token>,
-        fourth: Option<Token>,
-    ) -> Result<(), Halt>
-        requires ready { J.ready judge.old }
-        ensures fixed { J.fixed judge.new ≡ J.fixed judge.old }
-        ensures ready { LeavesJudge J.ready J.over judge.new result }
-        ensures stands { (bounds : J.Bounds) (limits : Limits) (bytes : List ℕ) (ending : Ending)
-            (taken : List Token) →
-            (tokens limits bytes ending).tokens
-            ≡ taken ++ with_token first
-            (with_token second (with_token third (with_token fourth []))) →
-            GoesOnBehind (J.stands bounds) limits taken self.old judge.old →
-            ComesToTokens (J.stands bounds) (J.stops bounds) limits bytes ending
-            (tokens limits bytes ending).tokens self.new judge.new result }
-        ensures lexer { self.new.lexer ≡ self.old.lexer }
-    {
-        self.maybe_token(alloc, judge, first)?;
-        self.maybe_token(alloc, judge, second)?;
-        self.maybe_token(alloc, judge, third)?;
-        self.maybe_token(alloc, judge, fourth)
-    }
-
-    // Takes what a byte, or the end of the input, gave. A fault is at this line where no token of its command was taken.
-    fn take<J: Judge>(
-        &mut self,
-        alloc: Global,
-        judge: &mut J,
-        fed: Fed,
-        place: u32,
-    ) -> Result<(), Halt>
-        requires ready { J.ready judge.old }
-        ensures fixed { J.fixed judge.new ≡ J.fixed judge.old }
-        ensures ready { LeavesJudge J.ready J.over judge.new result }
-        ensures stands { (bounds : J.Bounds) (limits : Limits) (bytes : List ℕ) (ending : Ending)
-            (before : Lexed) →
-            AddsTokens before fed (tokens limits bytes ending) →
-            (fed.fault ≢ None → place ≡ (tokens limits bytes ending).line) →
-            GoesOnBehind (J.stands bounds) limits before.tokens self.old judge.old →
-            ComesToLexed (J.stands bounds) (J.stops bounds) limits bytes ending
-            self.new judge.new result }
-        ensures lexer { self.new.lexer ≡ self.old.lexer }
-    {
-        let Fed {
-            first,
-            second,
-            third,
-            fourth,
-            fault,
-        } = fed;
-        self.tokens(alloc, judge, first, second, third, fourth)?;
-        match fault {
-            Some(code) => Err(Halt::Refused(self.parser.begun().unwrap_or(place), code)),
-            None => Ok(()),
-        }
-    }
-
-    /// The line of the command that is due: of its first token, else of what is begun, else of the next byte.
-    pub fn due_line(&self) -> u32
-        ensures { (limits : Limits) (bytes : List ℕ) (ts : List Token) →
-            self.now.lexer ≡ lexer_after limits bytes →
-            parsing self.now.parser ≡ parsing_after limits ts →
-            result ≡ due_line limits ts (begun_line limits bytes) }
-    {
-        self.parser.begun().unwrap_or(self.lexer.line())
-    }
-
-    // Takes the tokens that wait, the last of them first.
-    fn take_waiting<J: Judge>(&mut self, alloc: Global, judge: &mut J) -> Result<(), Halt>
-        requires ready { J.ready judge.old }
-        ensures fixed { J.fixed judge.new ≡ J.fixed judge.old }
-        ensures ready { LeavesJudge J.ready J.over judge.new result }
-        ensures stands { (bounds : J.Bounds) (limits : Limits) (bytes : List ℕ) (ending : Ending)
-            (taken coming : List Token) →
-            (tokens limits bytes ending).tokens ≡ taken ++ (reverse self.old.waiting.items ++ coming) →
-            GoesOnBehind (J.stands bounds) limits taken self.old judge.old →
-            ComesToTokens (J.stands bounds) (J.stops bounds) limits bytes ending
-            (taken ++ reverse self.old.waiting.items) self.new judge.new result }
-        ensures lexer { self.new.lexer ≡ self.old.lexer }
+    // Goes through the tokens that wait, to the end of the next command.
+    fn command(&mut self, alloc: Global) -> Result<Option<Raw>, ReadEnd>
+        ensures { (limits : Limits) (given : List ℕ) (ending : Ending) (done : List WrittenCommand) →
+            Holds limits given ending done self.old →
+            Finds limits given ending done self.new result }
     {
         while let Some(token) = self.waiting.pop() {
-            self.token(alloc, judge, token)?;
+            let line = self.due_line(token.line);
+            match self.parser.feed(alloc, token) {
+                Ok(Step::More) => {}
+                Ok(Step::Command(raw)) => return Ok(Some(Box::into_inner(raw))),
+                Err(Fault::Refused(code)) => return Err(ReadEnd::Refused(
+                    self.due_line(line),
+                    code,
+                )),
+                Err(Fault::NoMemory) => return Err(ReadEnd::NoMemory(line)),
+            }
+        }
+        Ok(None)
+    }
+
+    // The line of the command that is due: of its first token, else this one.
+    fn due_line(&self, place: u32) -> u32
+        ensures { (limits : Limits) (ts : List Token) → HasRead limits ts self.now.parser →
+            result ≡ unwrap_or (read_tokens limits ts).begun place }
+    {
+        self.parser.begun().unwrap_or(place)
+    }
+
+    // How the book ends behind its last token, unless a piece of it is to come.
+    fn end(&self) -> Option<ReadEnd>
+        ensures { (limits : Limits) (given : List ℕ) (ending : Ending) (done : List WrittenCommand) →
+            Holds limits given ending done self.now → self.now.waiting.items ≡ [] →
+            EndsBehind limits given ending done self.now.behind result }
+    {
+        match self.behind {
+            Behind::Piece => None,
+            Behind::Fault(line, code) => Some(ReadEnd::Refused(self.due_line(line), code)),
+            Behind::NoMemory(line) => Some(ReadEnd::NoMemory(self.due_line(line))),
+            Behind::End(line) => match self.parser.finish() {
+                Ok(()) => Some(ReadEnd::Whole),
+                Err(code) => Some(ReadEnd::Refused(self.due_line(line), code)),
+            },
+        }
+    }
+
+    // Takes the next piece of the book, or its end.
+    fn load<H: Shelf>(&mut self, alloc: Global, shelf: &mut H) -> Result<(), Failed>
+        ensures loads { (limits : Limits) (given : List ℕ) (done : List WrittenCommand) →
+            IsDry limits given done self.old →
+            Loads limits given done (H.left shelf.old) (H.left shelf.new) self.new result }
+        ensures books { H.books shelf.new ≡ H.books shelf.old }
+        ensures faults { HasCause (H.faults shelf.old) (H.faults shelf.new) result }
+        ensures missed { MayRiseAll (H.missed shelf.old) (H.missed shelf.new) result }
+    {
+        let mut buf = [0u8; 4096];
+        let count = match shelf.read(&mut buf) {
+            Ok(count) => count,
+            Err(failed) => return Err(failed),
+        };
+        if count == 0 {
+            self.finish(alloc);
+        } else {
+            let (piece, _) = buf.split_at(count);
+            self.take(alloc, piece);
         }
         Ok(())
     }
 
-    /// Takes the next bytes: their tokens one by one, then a fault of the bytes, if one stands.
-    pub fn feed<J: Judge>(&mut self, alloc: Global, judge: &mut J, bytes: &[u8]) -> Result<(), Halt>
-        requires ready { J.ready judge.old }
-        ensures fixed { J.fixed judge.new ≡ J.fixed judge.old }
-        ensures ready { LeavesJudge J.ready J.over judge.new result }
-        ensures stands { (bounds : J.Bounds) (limits : Limits) (given : List ℕ) →
-            GoesOnAfter (J.stands bounds) limits given self.old judge.old →
-            ComesToBytes (J.stands bounds) (J.stops bounds) limits (given ++ bytes.now)
-            self.new judge.new result }
+    // Takes the next bytes of the book.
+    fn take(&mut self, alloc: Global, bytes: &[u8])
+        ensures { (limits : Limits) (given : List ℕ) (done : List WrittenCommand) →
+            IsDry limits given done self.old →
+            Holds limits (given ++ bytes.now) broken done self.new }
     {
         self.waiting.clear();
         let taken = self.lexer.take(alloc, bytes, &mut self.waiting);
         self.waiting.reverse();
-        self.take_waiting(alloc, judge)?;
         match taken {
+            Err(end) => self.behind = Behind::NoMemory(end.line),
             Ok(fault) => match fault {
-                None => Ok(()),
-                Some(code) => Err(Halt::Refused(self.due_line(), code)),
+                Some(code) => self.behind = Behind::Fault(self.lexer.line(), code),
+                None => self.behind = Behind::Piece,
             },
-            Err(end) => Err(Halt::NoMemory(self.parser.begun().unwrap_or(end.line))),
         }
     }
 
-    /// The end of the input.
-    pub fn finish<J: Judge>(&mut self, alloc: Global, judge: &mut J) -> Result<(), Halt>
-        requires ready { J.ready judge.old }
-        ensures fixed { J.fixed judge.new ≡ J.fixed judge.old }
-        ensures ready { LeavesJudge J.ready J.over judge.new result }
-        ensures ends { (bounds : J.Bounds) (limits : Limits) (bytes : List ℕ) →
-            GoesOnAfter (J.stands bounds) limits bytes self.old judge.old →
-            ComesToEnd (J.stands bounds) (J.stops bounds) limits bytes judge.new result }
+    // Takes the end of the book.
+    fn finish(&mut self, alloc: Global)
+        ensures { (limits : Limits) (given : List ℕ) (done : List WrittenCommand) →
+            IsDry limits given done self.old → Holds limits given whole done self.new }
     {
+        self.waiting.clear();
         let fed = self.lexer.finish(alloc);
-        let place = self.lexer.line();
-        self.take(alloc, judge, fed, place)?;
-        match self.parser.finish() {
-            Ok(()) => Ok(()),
-            Err(code) => Err(Halt::Refused(self.parser.begun().unwrap_or(place), code)),
+        let fault = fed.fault;
+        let line = self.lexer.line();
+        let kept = keep_all(&mut self.waiting, fed);
+        self.waiting.reverse();
+        match kept {
+            Err(line) => self.behind = Behind::NoMemory(line),
+            Ok(()) => match fault {
+                Some(code) => self.behind = Behind::Fault(line, code),
+                None => self.behind = Behind::End(line),
+            },
         }
     }
 }

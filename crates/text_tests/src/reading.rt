@@ -1,10 +1,9 @@
-//! Where reading a file ends, through shelf, lexer, parser and scoping, for a judge that counts its commands.
-ghost use Rattle.std.specs.Prelude.{◌≡◌};
+//! Where reading a file ends, through shelf, lexer, parser and scoping, with its commands counted.
 
 use dk_io::{Book, MemShelf, Shelf};
 use dk_model::{Code, Fault, Limits, NoMemory};
 use dk_parser::Raw;
-use file_reader::{Halt, Judge, Over, ReadEnd, Reader, read_book};
+use file_reader::{ReadEnd, Reader};
 use scope_terms::Names;
 use std::alloc::{AllocError, Global};
 use std::test::Fail;
@@ -21,9 +20,17 @@ struct Counter {
 }
 
 impl Counter {
-    fn refusal(&mut self, alloc: Global, raw: &Raw) -> Option<Code>
-        ensures { self.new.most ≡ self.old.most }
-    {
+    // Takes a command; or no other comes.
+    fn take(&mut self, alloc: Global, raw: &Raw) -> bool {
+        self.code = self.refusal(alloc, raw);
+        if self.code.is_some() || self.taken >= self.most {
+            return false;
+        }
+        self.taken = self.taken.saturating_add(1);
+        true
+    }
+
+    fn refusal(&mut self, alloc: Global, raw: &Raw) -> Option<Code> {
         if !self.scopes || self.names.count() == u32::MAX {
             return None;
         }
@@ -34,35 +41,9 @@ impl Counter {
     }
 }
 
-impl Judge for Counter {
-    type Bounds = u8;
-
-    type Fixed = u32;
-
-    ghost fixed = { λ c. c.most };
-
-    ghost ready = { λ c. Unit {0} };
-
-    ghost over = { λ c. Unit {0} };
-
-    ghost stands = { λ b c cs. Unit {0} };
-
-    ghost stops = { λ b c cs. Unit {0} };
-
-    fn command(&mut self, alloc: Global, raw: Raw) -> Result<(), Over> {
-        self.code = self.refusal(alloc, &raw);
-        drop(raw);
-        if self.code.is_some() || self.taken >= self.most {
-            return Err(Over);
-        }
-        self.taken = self.taken.saturating_add(1);
-        Ok(())
-    }
-}
-
 // How many commands were taken, how many names and rule commands have a number, the code of the one that was refused,
-// and the end.
-type Told = (u32, u32, Option<Code>, ReadEnd);
+// and the end, where the book was read up to it.
+type Told = (u32, u32, Option<Code>, Option<ReadEnd>);
 
 fn shelf_of(alloc: Global, text: &str, failing: u64) -> Result<MemShelf, Fail> {
     let name = String::from_str(alloc, "f.dk")?;
@@ -73,7 +54,7 @@ fn shelf_of(alloc: Global, text: &str, failing: u64) -> Result<MemShelf, Fail> {
     Ok(MemShelf::new(alloc, books, 3, failing)?)
 }
 
-// What the judge is told, and the shelf's call that fails (0: none; the first is the opening).
+// What the counter is told, and the shelf's call that fails (0: none; the first is the opening).
 #[derive(Clone, Copy)]
 struct Asked {
     levels: u32,
@@ -89,7 +70,7 @@ const READING: Asked = Asked {
     failing: 0,
 };
 
-fn judge_of(alloc: Global, asked: Asked) -> Result<Counter, NoMemory> {
+fn counter_of(alloc: Global, asked: Asked) -> Result<Counter, NoMemory> {
     Ok(Counter {
         taken: 0,
         most: asked.most,
@@ -102,21 +83,31 @@ fn judge_of(alloc: Global, asked: Asked) -> Result<Counter, NoMemory> {
 fn end_of(
     alloc: Global,
     shelf: &mut MemShelf,
-    judge: &mut Counter,
+    counter: &mut Counter,
     levels: u32,
-) -> Result<ReadEnd, NoMemory> {
+) -> Option<ReadEnd> {
     let mut limits = Limits::standard();
     limits.levels = levels;
-    let mut reader = Reader::new(alloc, limits)?;
+    let mut reader = Reader::new(alloc, limits);
     let _opened = shelf.open_book("f.dk");
-    Ok(read_book(alloc, shelf, &mut reader, judge))
+    'commands: for _command in 0..1_000 {
+        match reader.next(alloc, shelf) {
+            Ok(raw) => {
+                if !counter.take(alloc, &raw) {
+                    return None;
+                }
+            }
+            Err(end) => return Some(end),
+        }
+    }
+    None
 }
 
 fn told(alloc: Global, text: &str, asked: Asked) -> Result<Told, Fail> {
-    let mut judge = judge_of(alloc, asked)?;
+    let mut counter = counter_of(alloc, asked)?;
     let mut shelf = shelf_of(alloc, text, asked.failing)?;
-    let end = end_of(alloc, &mut shelf, &mut judge, asked.levels)?;
-    Ok((judge.taken, judge.names.count(), judge.code, end))
+    let end = end_of(alloc, &mut shelf, &mut counter, asked.levels);
+    Ok((counter.taken, counter.names.count(), counter.code, end))
 }
 
 // Whether so many commands are taken, each with a number where names are scoped.
@@ -126,21 +117,23 @@ fn is_told(
     asked: Asked,
     taken: u32,
     code: Option<Code>,
-    end: ReadEnd,
+    end: Option<ReadEnd>,
 ) -> Result<bool, Fail> {
     let (found, count, found_code, found_end) = told(alloc, text, asked)?;
     let numbered = if asked.scopes { taken } else { 0 };
     Ok(found == taken && count == numbered && found_code == code && found_end == end)
 }
 
-fn refused(line: u32, code: Code) -> ReadEnd {
-    ReadEnd::Halted(Halt::Refused(line, code))
+fn refused(line: u32, code: Code) -> Option<ReadEnd> {
+    Some(ReadEnd::Refused(line, code))
 }
+
+const WHOLE: Option<ReadEnd> = Some(ReadEnd::Whole);
 
 fn reads_up_to_the_first_fault(alloc: Global) -> Result<Option<&'static str>, Fail> {
     for (text, taken, end) in [
-        ("", 0, ReadEnd::Whole),
-        ("a : b. (; c ;)\n", 1, ReadEnd::Whole),
+        ("", 0, WHOLE),
+        ("a : b. (; c ;)\n", 1, WHOLE),
         ("a : Type.\n b :", 1, refused(2, Code::E03)),
         ("a : Type.\n\n b\n b.", 1, refused(3, Code::E02)),
         ("a : Type. $", 1, refused(1, Code::E01)),
@@ -158,14 +151,13 @@ fn reads_up_to_the_first_fault(alloc: Global) -> Result<Option<&'static str>, Fa
     Ok(None)
 }
 
-fn ends_where_the_judge_or_the_shelf_does(alloc: Global) -> Result<Option<&'static str>, Fail> {
-    let judged = ReadEnd::Halted(Halt::Judged);
+fn ends_where_no_other_is_taken_or_a_read_fails(alloc: Global) -> Result<Option<&'static str>, Fail> {
     for (text, most, failing, taken, end) in [
-        ("a : Type. b : a.", 9, 0, 2, ReadEnd::Whole),
-        ("a : Type. b : a.", 1, 0, 1, judged),
-        ("a : Type. b : a. $", 1, 0, 1, judged),
-        ("a : Type. b : a.", 9, 2, 0, ReadEnd::Unread),
-        ("a : Type. b : a.", 9, 6, 1, ReadEnd::Unread),
+        ("a : Type. b : a.", 9, 0, 2, WHOLE),
+        ("a : Type. b : a.", 1, 0, 1, None),
+        ("a : Type. b : a. $", 1, 0, 1, None),
+        ("a : Type. b : a.", 9, 2, 0, Some(ReadEnd::Unread)),
+        ("a : Type. b : a.", 9, 6, 1, Some(ReadEnd::Unread)),
     ] {
         let asked = Asked {
             most,
@@ -207,7 +199,7 @@ fn reads_each_form_of_command(alloc: Global) -> Result<Option<&'static str>, Fai
         ("{m.n} [] f --> a {r} [] g --> b. x : Type.", 2),
         ("[x : a -> b, y] f (_ => x) {m.n} --> x.", 1),
     ] {
-        if !is_told(alloc, text, READING, taken, None, ReadEnd::Whole)? {
+        if !is_told(alloc, text, READING, taken, None, WHOLE)? {
             return Ok(Some(text));
         }
     }
@@ -290,7 +282,7 @@ fn takes_levels(alloc: Global, text: &str, levels: u32) -> Result<bool, Fail> {
     let (_, _, _, whole) = told(alloc, text, Asked { levels, ..READING })?;
     let levels = levels.saturating_sub(1);
     let (_, _, _, cut) = told(alloc, text, Asked { levels, ..READING })?;
-    Ok(whole == ReadEnd::Whole && cut == refused(1, Code::E04))
+    Ok(whole == WHOLE && cut == refused(1, Code::E04))
 }
 
 fn counts_the_levels_of_parameters_and_rules(alloc: Global) -> Result<Option<&'static str>, Fail> {
@@ -316,26 +308,25 @@ fn counts_the_levels_of_parameters_and_rules(alloc: Global) -> Result<Option<&'s
 }
 
 fn scopes_up_to_the_first_refusal(alloc: Global) -> Result<Option<&'static str>, Fail> {
-    let judged = ReadEnd::Halted(Halt::Judged);
     for (text, taken, code, end) in [
-        ("a : Type. b : a. c : a -> b.", 3, None, ReadEnd::Whole),
-        ("b : Type. [x, y] b --> x.", 2, None, ReadEnd::Whole),
+        ("a : Type. b : a. c : a -> b.", 3, None, WHOLE),
+        ("b : Type. [x, y] b --> x.", 2, None, WHOLE),
         (
             "a : Type. def d (x : a) : a -> a := y => x.",
             2,
             None,
-            ReadEnd::Whole,
+            WHOLE,
         ),
-        ("a : Type. a : Type.", 1, Some(Code::E11), judged),
-        ("b : b.", 0, Some(Code::E10), judged),
+        ("a : Type. a : Type.", 1, Some(Code::E11), None),
+        ("b : b.", 0, Some(Code::E10), None),
         (
             "a : Type. def d (x : y) (y : a) := a.",
             1,
             Some(Code::E10),
-            judged,
+            None,
         ),
-        ("b : _.", 0, Some(Code::E12), judged),
-        ("b : Type. [x, x] b --> x.", 1, Some(Code::E13), judged),
+        ("b : _.", 0, Some(Code::E12), None),
+        ("b : Type. [x, x] b --> x.", 1, Some(Code::E13), None),
     ] {
         let asked = Asked {
             scopes: true,
@@ -353,7 +344,7 @@ fn reads_and_scopes_up_to_the_first_fault(rt: HostRuntime) -> Result<(), Fail> {
     let alloc = rt.alloc();
     let found = [
         reads_up_to_the_first_fault(alloc)?,
-        ends_where_the_judge_or_the_shelf_does(alloc)?,
+        ends_where_no_other_is_taken_or_a_read_fails(alloc)?,
         reads_each_form_of_command(alloc)?,
         refuses_what_is_no_command(alloc)?,
         ends_levels_and_arguments_at_the_limit(alloc)?,

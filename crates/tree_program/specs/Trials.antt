@@ -1,8 +1,7 @@
 -- For proofs: what holds of the book of a file while its commands are checked.
-use Rattle.std.specs.Prelude.{◌≡◌, ◌<◌, true, false, All, Some, length}
+use Rattle.std.specs.Prelude.{◌≡◌, ◌<◌, true, false, All, length}
 use Rattle.std.specs.List.{list_any}
 use Rattle.board_core.specs.Events.{is_seal}
-use Rattle.verdict_book.specs.Stops.{EndsByItself}
 use Rattle.tree_program.specs.declared.tried.Tried.{Tried}
 use Rattle.tree_program.specs.declared.trial.Trial.{Trial}
 
@@ -12,8 +11,7 @@ pub record IsOpen (tried : Tried) : Type 0 where
   pub settled : All (λ j. j.1 ≡ true) tried.book.jobs
   pub titled : length tried.titles ≡ length tried.book.jobs
 
--- the book is open, how the file ends is no job's fault, and the commands can be counted
+-- the book is open, and the commands can be counted
 pub record GoesOn (trial : Trial) : Type 0 where
   pub is_open : IsOpen trial.tried
-  pub ends : EndsByItself (Some trial.end)
   pub few : trial.most < 4294967294

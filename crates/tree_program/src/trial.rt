@@ -1,5 +1,5 @@
 //! The check of an open book, command by command, on plain trees.
-ghost use Rattle.std.specs.Prelude.{◌≡◌, ◌<◌, IfErr, IfOk, Some, length};
+ghost use Rattle.std.specs.Prelude.{◌≡◌, ◌<◌, ◌≤◌, ◌+◌, IfErr, IfOk, OnOk, Some, length};
 ghost use Rattle.dk_model.specs.declared.code.Verdict.{Verdict};
 ghost use Rattle.board_core.specs.Machine.{IsFinished, marks_of};
 ghost use Rattle.verdict_book.specs.Stops.{EndsByItself};
@@ -12,7 +12,7 @@ use command_check::enter_command;
 use dk_io::Shelf;
 use dk_model::{Code, Entry, Fault, Limits, Listed, NoMemory, Scoped, Verdict};
 use dk_parser::Raw;
-use file_reader::{Halt, Judge, Over, ReadEnd, Reader, read_book};
+use file_reader::{ReadEnd, Reader};
 use scope_terms::Names;
 use shared_term::Stored;
 use signature_log::Version;
@@ -32,36 +32,6 @@ pub struct Trial {
     pub names: Names,
     pub version: Version,
     pub tried: Tried,
-    // How the file ends, where reading it doesn't say so.
-    pub end: End,
-}
-
-impl Judge for Trial {
-    ghost use Rattle.tree_program.specs.Trials.{GoesOn};
-
-    type Bounds = ();
-
-    type Fixed = ();
-
-    ghost fixed = { λ t. tt };
-
-    ghost ready = { GoesOn };
-
-    ghost over = { GoesOn };
-
-    ghost stands = { λ b t cs. Unit {0} };
-
-    ghost stops = { λ b t cs. Unit {0} };
-
-    fn command(&mut self, alloc: Global, raw: Raw) -> Result<(), Over> {
-        match self.enter(alloc, &raw) {
-            Ok(()) => Ok(()),
-            Err(verdict) => {
-                self.end = End::Fault(raw.line, verdict);
-                Err(Over)
-            }
-        }
-    }
 }
 
 impl Trial {
@@ -76,14 +46,35 @@ impl Trial {
             names: Names::new(alloc)?,
             version: Version::empty(alloc)?,
             tried: Tried::new(alloc)?,
-            end: End::Whole,
         })
+    }
+
+    // Checks each command of the open book; or says how the book ends, by itself or at a command that isn't accepted.
+    fn read<H: Shelf>(&mut self, alloc: Global, limits: Limits, shelf: &mut H) -> End
+        requires { GoesOn self.old }
+        ensures goes_on { GoesOn self.new }
+        ensures ends { EndsByItself (Some result) }
+    {
+        let mut reader = Reader::new(alloc, limits);
+        'commands: loop {
+            let raw = match reader.next(alloc, shelf) {
+                Ok(raw) => raw,
+                Err(end) => return end_at(end),
+            };
+            if let Err(verdict) = self.enter(alloc, &raw) {
+                return End::Fault(raw.line, verdict);
+            }
+        }
     }
 
     // Checks the next command over those before it and adds what it declares; or says its verdict.
     fn enter(&mut self, alloc: Global, raw: &Raw) -> Result<(), Verdict>
         requires { GoesOn self.old }
         ensures goes_on { GoesOn self.new }
+        ensures most { self.new.most ≡ self.old.most }
+        ensures few { OnOk result (length self.new.tried.titles ≤ self.new.most) }
+        ensures more { OnOk result
+            (length self.new.tried.titles ≡ length self.old.tried.titles + 1) }
         ensures refused { IfErr result (λ v. ¬ (v ≡ Verdict.Accepted)) }
     {
         if self.tried.titles.len() >= self.most as usize {
@@ -102,6 +93,9 @@ impl Trial {
         requires goes_on { GoesOn self.old }
         requires few { length self.old.tried.titles < self.old.most }
         ensures goes_on { GoesOn self.new }
+        ensures most { self.new.most ≡ self.old.most }
+        ensures more { OnOk result
+            (length self.new.tried.titles ≡ length self.old.tried.titles + 1) }
     {
         let Ok(version) = self.version.append(Arc::new(alloc, entry)?) else {
             return Err(NoMemory);
@@ -129,17 +123,15 @@ fn scoped(alloc: Global, names: &mut Names, raw: &Raw) -> Result<Scoped, Verdict
     }
 }
 
-// How a file ends where reading it came to this end. Where the judge took no other command, it said how.
-fn end_by(read_end: ReadEnd, judged: End) -> End
-    requires { EndsByItself (Some judged) }
+// How the file ends where reading it ended so.
+fn end_at(read_end: ReadEnd) -> End
     ensures { EndsByItself (Some result) }
 {
     match read_end {
         ReadEnd::Whole => End::Whole,
         ReadEnd::Unread => End::Unread,
-        ReadEnd::Halted(Halt::Refused(line, code)) => End::Fault(line, Verdict::Refused(code)),
-        ReadEnd::Halted(Halt::NoMemory(line)) => End::Fault(line, Verdict::Memory),
-        ReadEnd::Halted(Halt::Judged) => judged,
+        ReadEnd::Refused(line, code) => End::Fault(line, Verdict::Refused(code)),
+        ReadEnd::NoMemory(line) => End::Fault(line, Verdict::Memory),
     }
 }
 
@@ -155,10 +147,9 @@ pub fn try_book<H: Shelf>(
     ensures finished { IfOk result (λ t. IsFinished (marks_of t.book.jobs) t.book.events) }
     ensures titled { IfOk result (λ t. length t.titles ≡ length t.book.jobs) }
 {
-    let mut reader = Reader::new(alloc, limits)?;
     let mut trial = Trial::new(alloc, limits, budget)?;
-    let read_end = read_book(alloc, shelf, &mut reader, &mut trial);
-    let Trial { mut tried, end, .. } = trial;
-    tried.seal(end_by(read_end, end));
+    let end = trial.read(alloc, limits, shelf);
+    let Trial { mut tried, .. } = trial;
+    tried.seal(end);
     Ok(tried)
 }

@@ -1,5 +1,5 @@
 //! The book of a file whose commands are checked before they are put.
-ghost use Rattle.std.specs.Prelude.{◌≡◌, ◌<◌, IfOk, Some, length};
+ghost use Rattle.std.specs.Prelude.{◌≡◌, ◌<◌, ◌+◌, IfOk, OnOk, Some, length};
 ghost use Rattle.board_core.specs.Machine.{IsFinished, marks_of};
 ghost use Rattle.verdict_book.specs.Stops.{EndsByItself};
 ghost use Rattle.tree_program.specs.Trials.{IsOpen};
@@ -32,6 +32,7 @@ impl Tried {
         requires is_open { IsOpen self.old }
         requires few { length self.old.titles < 4294967294 }
         ensures is_open { IsOpen self.new }
+        ensures more { OnOk result (length self.new.titles ≡ length self.old.titles + 1) }
     {
         let job = Arc::new(alloc, ())?;
         self.titles.push(title)?;

@@ -41,6 +41,7 @@ returns-clause-ok c =
         line = ap (λ (t : Title). t.line) c.of.ensures;
       };
       title = sym c.of.ensures;
+      early = c.is_untyped-settled.ensures ∙ sym (ap is_untyped stored);
       settled = λ is.
           let untyped : is_untyped command ≡ true = sym c.is_untyped-settled.ensures ∙ is in (
             ap is_untyped stored ∙ untyped,
