@@ -4,7 +4,8 @@ use Rattle.std.specs.Prelude.{Ok, Err, Option, Some}
 use Rattle.std.proofs.lemmas.List.{map-append}
 use Rattle.dk_model.specs.declared.code.Verdict.{Verdict}
 use Rattle.dk_model.specs.declared.limits.Limits.{Limits}
-use Rattle.dk_parser.specs.Written.{WrittenCommand}
+use Rattle.dk_parser.specs.Written.{WrittenCommand, WrittenForm, written_declare, written_rules}
+use Rattle.scope_terms.specs.Scopes.{Numbered, names_after}
 use Rattle.board_core.specs.declared.event.End.{End}
 use Rattle.board_core.specs.declared.event.End.TheVariants as end
 use Rattle.board_core.specs.Machine.{MayEnd}
@@ -95,10 +96,15 @@ starts_behind desk fresh = record {
   jobs = subst (λ js. AreJobsFrom desk.budget no_theory [] (plain_jobs js)) (sym fresh.jobs) tt;
 }
 
+counted_after : (names : Numbered) (form : WrittenForm) → (names_after names form).count ≡ names.count + 1
+counted_after names (written_declare sort x params typ body) = refl
+counted_after names (written_rules rs) = refl
+
 pub ready_more : (old new : Desk) (c : WrittenCommand) → IsReady old → IsSound new.limits new.titles (known_at new) → Takes old new c → IsReady new
 ready_more old new c ready sound t = record {
   sound = sound;
   counted = ap (λ (T : Theory). T.names.count) t.prepares.theory
+      ∙ counted_after (theory_of old.theory).names c.form
       ∙ ap (λ n. n + 1) ready.counted
       ∙ sym (ap length t.joins.titles ∙ length-append old.titles (t.prepared.title ∷ []));
 }

@@ -14,7 +14,7 @@ returns g c =
     let e = c.enter_book-end.result in
     let sealed = c.seal-sealed.ensures in (
       refl,
-      sealed.own ∙ read.own,
+      sealed.own,
       sealed.made ∙ read.made,
       record {
         end = e;
