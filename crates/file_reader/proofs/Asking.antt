@@ -1,7 +1,7 @@
 -- What asking for a command comes to, turn by turn.
-use Rattle.std.proofs.Common.{◌≡◌, ◌<◌, ◌≤◌, ◌+◌, ℕ, List, [], ◌∷◌, ◌++◌, length, refl, sym, ap, subst, ◌∙◌, arith, length-append}
-use Rattle.std.proofs.lemmas.List.{append_assoc, append-nil}
-use Rattle.std.specs.Prelude.{Option, Some, None, Result, Ok, Err}
+use Rattle.std.proofs.Common.{◌≡◌, ◌≤◌, ◌+◌, ℕ, List, [], ◌++◌, length, refl, sym, ap, subst, ◌∙◌, arith, length-append}
+use Rattle.std.proofs.lemmas.List.{append_assoc}
+use Rattle.std.specs.Prelude.{Option, Err}
 use Rattle.dk_model.specs.declared.limits.Limits.{Limits}
 use Rattle.dk_lexer.specs.Tokens.{Ending, Lexed, broken, tokens, whole}
 use Rattle.dk_parser.specs.FileReading.{read, tail_by_bytes, tail_by_tokens}
@@ -9,15 +9,13 @@ use Rattle.dk_parser.specs.FileReading as tail
 use Rattle.dk_parser.specs.Reading.{TokenReading}
 use Rattle.dk_parser.specs.Steps.{read_tokens}
 use Rattle.dk_parser.specs.Written.{WrittenCommand}
-use Rattle.dk_parser.specs.declared.raw.Raw.{Raw}
-use Rattle.dk_parser.specs.RawViews.{written_command}
 use Rattle.file_reader.specs.Counts.{MayRiseByAnswer, RoseByAnswer}
 use Rattle.file_reader.specs.declared.reader.Behind.{Behind}
 use Rattle.file_reader.specs.declared.reader.Behind.TheVariants as behind
 use Rattle.file_reader.specs.declared.reader.ReadEnd.{ReadEnd}
 use Rattle.file_reader.specs.declared.reader.ReadEnd.TheVariants as end
 use Rattle.file_reader.specs.declared.reader.Reader.{Reader}
-use Rattle.file_reader.specs.Held.{EndsIn, Holds, IsDry, IsEmpty, MemoryIn, Settles, StandsThen, TakesBytes, TakesPiece}
+use Rattle.file_reader.specs.Held.{EndsIn, Holds, IsDry, IsEmpty, Settles, StandsThen, TakesBytes, TakesPiece}
 use Rattle.file_reader.specs.Progress.{Answers, HasBegun, IsBehind, IsUnread, reading}
 use Rattle.file_reader.proofs.Fronts.{may_follow}
 use Rattle.file_reader.proofs.Turns.{dry}

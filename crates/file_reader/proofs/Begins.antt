@@ -1,7 +1,7 @@
 -- A book begins with the commands that were read of it.
-use Rattle.std.proofs.Common.{◌≡◌, ℕ, List, [], ◌∷◌, ◌++◌, refl, sym, ap, subst, ◌∙◌}
+use Rattle.std.proofs.Common.{◌≡◌, ℕ, List, [], ◌++◌, refl, sym, ap, subst, ◌∙◌}
 use Rattle.std.proofs.lemmas.List.{append_assoc, append-nil}
-use Rattle.std.specs.Prelude.{Option, Some, reverse}
+use Rattle.std.specs.Prelude.{Option, reverse}
 use Rattle.dk_model.specs.declared.limits.Limits.{Limits}
 use Rattle.dk_lexer.specs.declared.token.Token.{Token}
 use Rattle.dk_lexer.specs.Tokens.{Ending, broken, tokens, whole}
@@ -13,7 +13,7 @@ use Rattle.dk_parser.specs.Written.{WrittenCommand}
 use Rattle.dk_parser.proofs.Exact.{read_extends}
 use Rattle.file_reader.specs.declared.reader.Reader.{Reader}
 use Rattle.file_reader.specs.Held.{MemoryIn}
-use Rattle.file_reader.specs.Progress.{BeginsWith, IsBehind, IsUnread, reading}
+use Rattle.file_reader.specs.Progress.{BeginsWith, IsBehind, reading}
 use Rattle.file_reader.proofs.Fronts.{front_of, may_follow, none_lost}
 use Rattle.file_reader.proofs.Lines.{commands_more}
 

@@ -9,7 +9,7 @@ use Rattle.dk_lexer.specs.declared.lexer.Lexer.{Lexer}
 use Rattle.dk_lexer.specs.Tokens.{Ending, Lexed, broken, tokens, whole}
 use Rattle.dk_lexer.specs.Given.{IsFrontOf, Stays}
 use Rattle.dk_lexer.proofs.Agree.{tokens_front}
-use Rattle.dk_parser.specs.FileReading.{Reading, read, reading_of}
+use Rattle.dk_parser.specs.FileReading.{Reading, reading_of}
 use Rattle.dk_parser.specs.Steps.{read_tokens}
 use Rattle.dk_parser.specs.Written.{WrittenCommand}
 use Rattle.file_reader.specs.declared.reader.Behind.{Behind}

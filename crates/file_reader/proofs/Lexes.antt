@@ -1,17 +1,15 @@
 -- What tokens, and a fault of the bytes behind them, settle.
-use Rattle.std.proofs.Common.{◌≡◌, ℕ, List, [], ◌∷◌, ◌++◌, sym, ap, ◌∙◌}
-use Rattle.std.proofs.lemmas.List.{append_assoc, append-nil}
+use Rattle.std.proofs.Common.{◌≡◌, ℕ, List, ◌++◌, sym, ap, ◌∙◌}
 use Rattle.std.specs.Prelude.{Option, Some, None, unwrap_or}
 use Rattle.dk_model.specs.declared.code.Code.{Code}
 use Rattle.dk_model.specs.declared.limits.Limits.{Limits}
 use Rattle.dk_lexer.specs.declared.token.Token.{Token}
-use Rattle.dk_lexer.specs.Tokens.{Ending, Lexed, tokens}
+use Rattle.dk_lexer.specs.Tokens.{Ending, Lexed}
 use Rattle.dk_lexer.specs.Given.{Stays}
 use Rattle.dk_parser.specs.Reading.{TokenReading}
 use Rattle.dk_parser.specs.FileReading.{Reading, reading_of, tail_by_tokens, tail_by_bytes}
 use Rattle.dk_parser.specs.FileReading as tail
 use Rattle.dk_parser.specs.Steps.{read_tokens}
-use Rattle.dk_parser.specs.Written.{WrittenCommand}
 use Rattle.file_reader.proofs.Fronts.{LexedSettles}
 
 -- these tokens settle what the file is read as

@@ -5,7 +5,6 @@ use Rattle.dk_model.specs.declared.code.Code.{Code}
 use Rattle.dk_model.specs.declared.limits.Limits.{Limits}
 use Rattle.dk_lexer.specs.declared.token.Token.{Token}
 use Rattle.dk_terms.specs.declared.terminal.Terminal.{Terminal}
-use Rattle.dk_terms.specs.declared.terminal.Terminal.TheVariants as terminal
 use Rattle.dk_parser.specs.Groups.{load}
 use Rattle.dk_parser.specs.Levels.{standing_behind}
 use Rattle.dk_parser.specs.Parsing.{Answer, Advance, Parsing, answered, begun_by, begun_line, command, commands_from, ends, goes, more, parsing_after, parsing_from, advanced, refusal, refused, refuses, started, turn, turn_by_fault, turn_by_step, turn_by_terminal}

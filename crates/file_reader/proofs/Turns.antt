@@ -17,7 +17,6 @@ use Rattle.dk_parser.specs.Views.{HasRead}
 use Rattle.dk_parser.specs.Written.{WrittenCommand}
 use Rattle.dk_parser.proofs.Exact.{read_extends}
 use Rattle.file_report.specs.Memory.{next_line}
-use Rattle.file_reader.specs.declared.reader.Behind.{Behind}
 use Rattle.file_reader.specs.declared.reader.Behind.TheVariants as behind
 use Rattle.file_reader.specs.declared.reader.ReadEnd.TheVariants as end
 use Rattle.file_reader.specs.declared.reader.Reader.{Reader}

@@ -1,5 +1,5 @@
 -- For callers: what the counts of faults say of a reading.
-use Rattle.std.specs.Prelude.{◌≡◌, ◌≤◌, ℕ, List, Result, Ok, Err}
+use Rattle.std.specs.Prelude.{◌≡◌, ◌≤◌, ℕ, List, Result, Err}
 use Rattle.dk_io.specs.Causes.{Rose}
 use Rattle.file_reader.specs.declared.reader.ReadEnd.{ReadEnd}
 use Rattle.file_reader.specs.declared.reader.ReadEnd.TheVariants.{Unread}

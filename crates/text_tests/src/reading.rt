@@ -151,7 +151,9 @@ fn reads_up_to_the_first_fault(alloc: Global) -> Result<Option<&'static str>, Fa
     Ok(None)
 }
 
-fn ends_where_no_other_is_taken_or_a_read_fails(alloc: Global) -> Result<Option<&'static str>, Fail> {
+fn ends_where_no_other_is_taken_or_a_read_fails(
+    alloc: Global,
+) -> Result<Option<&'static str>, Fail> {
     for (text, most, failing, taken, end) in [
         ("a : Type. b : a.", 9, 0, 2, WHOLE),
         ("a : Type. b : a.", 1, 0, 1, None),

@@ -1,7 +1,7 @@
 use Rattle.std.proofs.Common.{subst}
 use Rattle.file_reader.specs.declared.reader.Behind.{Behind}
 use Rattle.file_reader.specs.Held.{StandsThen}
-use Rattle.file_reader.proofs.Turns.{end_begun, end_memory, end_refused, end_whole}
+use Rattle.file_reader.proofs.Turns.{end_memory, end_refused}
 use Rattle.file_reader.proofs.reader.Reader.end.Goals as goal
 
 pub returns-in-Fault : goal.returns-in-Fault

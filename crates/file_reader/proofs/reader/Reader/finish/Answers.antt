@@ -1,5 +1,4 @@
-use Rattle.std.proofs.Common.{List, refl}
-use Rattle.dk_lexer.specs.Tokens.{broken, tokens}
+use Rattle.std.proofs.Common.{refl}
 use Rattle.file_reader.proofs.Loading.{ended_faulty, ended_short, ended_whole}
 use Rattle.file_reader.proofs.reader.Reader.finish.Goals as goal
 

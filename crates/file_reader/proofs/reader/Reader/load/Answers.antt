@@ -1,4 +1,4 @@
-use Rattle.std.proofs.Common.{◌++◌, List, ℕ, subst, sym, arith}
+use Rattle.std.proofs.Common.{◌++◌, List, ℕ, subst, arith}
 use Rattle.dk_lexer.specs.Tokens.{broken}
 use Rattle.file_reader.specs.Held.{Holds}
 use Rattle.file_reader.proofs.Loading.{loads_end, loads_piece}

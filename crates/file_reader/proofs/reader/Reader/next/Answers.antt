@@ -1,4 +1,4 @@
-use Rattle.std.proofs.Common.{◌≡◌, ◌++◌, ◌∷◌, [], ◌∙◌}
+use Rattle.std.proofs.Common.{◌++◌, ◌∷◌, [], ◌∙◌}
 use Rattle.dk_parser.specs.RawViews.{written_command}
 use Rattle.dk_parser.specs.declared.raw.Raw.{Raw}
 use Rattle.file_reader.proofs.Asking.{begun_behind, ends, fails, gives, is_dry, loads, may_rise_so, rose_so, turned_more}

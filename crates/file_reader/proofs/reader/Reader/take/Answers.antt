@@ -1,5 +1,4 @@
-use Rattle.std.proofs.Common.{List, refl}
-use Rattle.dk_lexer.specs.declared.token.Token.{Token}
+use Rattle.std.proofs.Common.{refl}
 use Rattle.dk_lexer.specs.Tokens.{broken, tokens}
 use Rattle.file_reader.proofs.Loading.{had_before, piece_faulty, piece_short, piece_taken}
 use Rattle.file_reader.proofs.reader.Reader.take.Goals as goal
