@@ -17,7 +17,7 @@ use Rattle.file_report.specs.Jobs.{title_of, titles_of}
 use Rattle.file_check.specs.declared.desk.Desk.{Desk}
 use Rattle.file_check.specs.declared.job.Job.{Job}
 use Rattle.file_check.specs.Jobs.{job_of}
-use Rattle.file_check.specs.Desks.{IsFresh, IsReady, IsSound, known_at}
+use Rattle.file_check.specs.Desks.{IsFresh, IsReady, IsSound}
 
 -- what stands before the last
 pub before_last : (titles more : List Title) (last : Title) → more ≡ titles ++ last ∷ [] → take (length more - 1) more ≡ titles

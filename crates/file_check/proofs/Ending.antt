@@ -1,6 +1,6 @@
 -- How a book ends behind its jobs.
-use Rattle.std.proofs.Common.{◌≡◌, ◌≢◌, ◌⊎◌, inl, inr, ⊎_elim, ℕ, ◌+◌, ◌≤◌, Bool, true, false, List, [], ◌∷◌, ◌++◌, length, drop, refl, sym, ap, subst, ◌∙◌, arith, length-append}
-use Rattle.std.specs.Prelude.{Err, Option, Some}
+use Rattle.std.proofs.Common.{◌≡◌, ◌≢◌, ◌⊎◌, inr, ⊎_elim, ℕ, ◌+◌, ◌≤◌, Bool, false, List, [], ◌∷◌, ◌++◌, length, drop, refl, sym, ap, subst, ◌∙◌, arith, length-append}
+use Rattle.std.specs.Prelude.{Err, Option}
 use Rattle.std.proofs.lemmas.List.{append_assoc, append-nil, drop_all}
 use Rattle.std.proofs.Math.Seq.{drop-append_seam}
 use Rattle.dk_model.specs.declared.code.Verdict.{Verdict}
@@ -33,7 +33,7 @@ use Rattle.file_reader.specs.Progress.{Answers, BeginsWith}
 use Rattle.file_reader.proofs.Begins.{memory_begins}
 use Rattle.file_check.specs.declared.desk.Desk.{Desk}
 use Rattle.file_check.specs.declared.job.Job.{Job}
-use Rattle.file_check.specs.Desks.{EndsBehind, EndsBook, MayRiseByEnd, RoseByEnd, StandsBehind, end_at, known_at, plain_jobs}
+use Rattle.file_check.specs.Desks.{EndsBook, MayRiseByEnd, RoseByEnd, StandsBehind, end_at, known_at, plain_jobs}
 
 pub not_accepted : (v : Verdict) → v ≢ verdict.Accepted → is_accepted v ≡ false
 not_accepted verdict.Accepted other = absurd (other refl)

@@ -1,5 +1,5 @@
-use Rattle.std.proofs.Common.{◌≡◌, ◌∙◌, ℕ, List, [], refl, sym, subst}
-use Rattle.std.specs.Prelude.{Option, Err, Some}
+use Rattle.std.proofs.Common.{◌∙◌, ℕ, List, [], refl, sym, subst}
+use Rattle.std.specs.Prelude.{Option, Err}
 use Rattle.board_core.specs.declared.event.End.{End}
 use Rattle.board_core.specs.Machine.{MayEnd}
 use Rattle.dk_parser.specs.RawViews.{written_command}
