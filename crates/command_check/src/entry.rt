@@ -80,7 +80,8 @@ pub fn entry_of(
     inferred: Option<Stored>,
 ) -> Result<Entry<Stored>, TypeFault>
     ensures ok { IfOk result (λ e. stored_entry e
-        ≡ entry_of (entries_of version.now) (plain_command command.now) (maybe_by stored_term inferred)) }
+        ≡ entry_of (entries_of version.now) (plain_command command.now)
+        (maybe_by stored_term inferred)) }
     ensures err { IfErr result (IsEntryFault (entries_of version.now) (plain_command command.now)) }
 {
     match command {

@@ -88,7 +88,8 @@ fn judge<R: Reducer>(
 ) -> Result<(), TypeFault>
     requires { R.serves (entries_of version.now) r.old }
     ensures gives { GivesFit
-        (command_checked (entries_of version.now) (plain_command command.now) left.old) result left.new }
+        (command_checked (entries_of version.now) (plain_command command.now) left.old)
+        result left.new }
     ensures follows { Follows R.owns R.denotes R.serves (entries_of version.now) r.old r.new }
     ensures spent { left.new ≤ left.old }
 {
@@ -110,7 +111,8 @@ fn judge_stored<R: Reducer>(
 ) -> Result<(), TypeFault>
     requires { R.serves (entries_of version.now) r.old }
     ensures gives { GivesFit
-        (command_checked (entries_of version.now) (stored_command command.now) left.old) result left.new }
+        (command_checked (entries_of version.now) (stored_command command.now) left.old)
+        result left.new }
     ensures follows { Follows R.owns R.denotes R.serves (entries_of version.now) r.old r.new }
     ensures spent { left.new ≤ left.old }
 {
@@ -140,7 +142,8 @@ pub fn check_command<R: Reducer>(
     ensures derivation { result ≡ Verdict.Accepted → IsSignature (entries_of version.now)
         → HasDerivation (entries_of version.now) (plain_command c.now) }
     ensures numbered { result ≡ Verdict.Accepted → IsNumbered (entries_of version.now)
-        → HasNoAnnotations (entries_of version.now) → HasDerivation (entries_of version.now) (plain_command c.now) }
+        → HasNoAnnotations (entries_of version.now)
+        → HasDerivation (entries_of version.now) (plain_command c.now) }
     ensures keeps { Keeps R.owns R.denotes reducer.old reducer.new }
     ensures serves { R.serves (entries_of version.now) reducer.new }
 {

@@ -24,7 +24,8 @@ pub fn as_product<R: Reducer>(
     requires own { R.owns r.old typ.now }
     requires serves { R.serves (entries_of version.now) r.old }
     ensures gives { GivesProduct R.owns R.denotes
-        (as_product (entries_of version.now) code (R.denotes r.old typ.now) left.old) r.new result left.new }
+        (as_product (entries_of version.now) code (R.denotes r.old typ.now) left.old)
+        r.new result left.new }
     ensures follows { Follows R.owns R.denotes R.serves (entries_of version.now) r.old r.new }
     ensures spent { left.new ≤ left.old }
 {
@@ -43,7 +44,8 @@ pub fn into_product<R: Reducer>(
     requires own { R.owns r.old typ }
     requires serves { R.serves (entries_of version.now) r.old }
     ensures gives { GivesProduct R.owns R.denotes
-        (as_product (entries_of version.now) code (R.denotes r.old typ) left.old) r.new result left.new }
+        (as_product (entries_of version.now) code (R.denotes r.old typ) left.old)
+        r.new result left.new }
     ensures follows { Follows R.owns R.denotes R.serves (entries_of version.now) r.old r.new }
     ensures spent { left.new ≤ left.old }
 {

@@ -249,7 +249,8 @@ fn apply<R: Reducer>(
     requires argument { R.owns r.old argument }
     requires ready { IsReady R.owns R.serves (entries_of version.now) r.old walk.old }
     ensures gives { Applies R.owns R.denotes (entries_of version.now) r.old walk.old
-        (R.denotes r.old argument) (put_together R.owns R.denotes r.old 0 typ) r.new result walk.new.left }
+        (R.denotes r.old argument) (put_together R.owns R.denotes r.old 0 typ)
+        r.new result walk.new.left }
     ensures continues { Continues R.owns R.denotes R.serves (entries_of version.now)
         r.old walk.old r.new walk.new }
 {

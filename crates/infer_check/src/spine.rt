@@ -25,7 +25,8 @@ pub fn unwind<R: Reducer>(r: &mut R, whole: NodeOf<R::T>) -> Result<Spine<R::T>,
     ensures parts { IfOk result (λ s. OwnsParts R.owns r.new s.head) }
     ensures arguments { IfOk result (λ s. AreOwned R.owns r.new s.arguments.items) }
     ensures size { IfOk result (λ s. size (built R.denotes r.new s.head)
-        + total_size (map (R.denotes r.new) s.arguments.items) ≤ size (built R.denotes r.old whole)) }
+        + total_size (map (R.denotes r.new) s.arguments.items)
+        ≤ size (built R.denotes r.old whole)) }
     ensures smaller { IfOk result (λ s. total_size (map (R.denotes r.new) s.arguments.items)
         < size (built R.denotes r.old whole)) }
     ensures keeps { Keeps R.owns R.denotes r.old r.new }

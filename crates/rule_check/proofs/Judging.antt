@@ -1,13 +1,11 @@
 -- What rule typing gives, from what its parts gave.
-use Rattle.std.proofs.Common.{List, [], ◌∷◌, ◌++◌, ◌≡◌, ℕ, length, Option, Some, None, Bool, true, false, refl, ap, ◌∙◌, sym as flip, subst}
+use Rattle.std.proofs.Common.{List, [], ◌∷◌, ◌++◌, ◌≡◌, ℕ, length, Option, Some, None, refl, ap, ◌∙◌, sym as flip, subst}
 use Rattle.dk_model.specs.Trees.{Tree, variable, apply, bare, product}
 use Rattle.dk_model.specs.Substitution.{shift, substitute}
 use Rattle.dk_model.specs.Signatures.{Pattern, Patterns, more_patterns, abstraction_pattern, PlainSignature}
 use Rattle.dk_model.specs.Captures.{renamed}
-use Rattle.dk_model.specs.Units.{Units}
-use Rattle.dk_model.specs.Evaluation.{comparison_of}
-use Rattle.dk_model.specs.Typing.{Judged, answer, refused, ended, after, next, as_product, variable_type}
-use Rattle.dk_model.specs.RuleTyping.{Found, Walked, with_type, with_wildcard, occurrence, outermost_first, as_convertible, convertible, confined, bound_type, first_type, later_type, first_occurrence, later_occurrence, rule_variable_walked, wildcard_walked, walked, spine_walked, as_expected}
+use Rattle.dk_model.specs.Typing.{Judged, answer, refused, ended, next, as_product, variable_type}
+use Rattle.dk_model.specs.RuleTyping.{Found, Walked, with_type, with_wildcard, occurrence, outermost_first, as_convertible, confined, bound_type, first_type, later_type, first_occurrence, later_occurrence, rule_variable_walked, wildcard_walked, walked, spine_walked, as_expected}
 use Rattle.dk_model.specs.declared.code.Code.TheVariants.{E34}
 use Rattle.dk_model.specs.declared.stop.TypeFault.{TypeFault}
 use Rattle.infer_check.specs.Given.{Fails}

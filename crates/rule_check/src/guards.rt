@@ -82,8 +82,8 @@ fn check_guard<R: Reducer>(
     requires guard { OwnsGuard R.owns r.old guard.now }
     requires serves { R.serves (entries_of version.now) r.old }
     ensures gives { GivesTypes types
-        (guard_due R.denotes (entries_of version.now) r.old types guard.now left.old) result
-        left.new }
+        (guard_due R.denotes (entries_of version.now) r.old types guard.now left.old)
+        result left.new }
     ensures follows { Follows R.owns R.denotes R.serves (entries_of version.now) r.old r.new }
     ensures spent { left.new ≤ left.old }
 {
@@ -115,8 +115,8 @@ pub(crate) fn check_guards<R: Reducer>(
     requires guards { OwnsGuards R.owns r.old guards.now }
     requires serves { R.serves (entries_of version.now) r.old }
     ensures gives { GivesTypes types
-        (guards_due R.denotes (entries_of version.now) r.old types guards.now left.old) result
-        left.new }
+        (guards_due R.denotes (entries_of version.now) r.old types guards.now left.old)
+        result left.new }
     ensures follows { Follows R.owns R.denotes R.serves (entries_of version.now) r.old r.new }
     ensures spent { left.new ≤ left.old }
 {

@@ -1,7 +1,6 @@
 use Rattle.std.proofs.Common.{rules, refl, subst, ◌∙◌, sym as flip}
 use Rattle.std.specs.Prelude.{Ok, Err}
 use Rattle.signature_log.specs.Versions.{entries_of}
-use Rattle.signature_log.proofs.Keeping.{keeps_further}
 use Rattle.infer_check.specs.Contexts.{bound_types}
 use Rattle.infer_check.proofs.Moving.{context_moved}
 use Rattle.infer_check.proofs.Judging.{fails_is}

@@ -1,7 +1,6 @@
 use Rattle.std.proofs.Common.{rules, ◌∙◌, sym as flip, subst}
 use Rattle.dk_model.specs.Trees.{tree}
 use Rattle.signature_log.specs.Versions.{entries_of}
-use Rattle.signature_log.proofs.Keeping.{keeps_further}
 use Rattle.signature_log.specs.Reducers.{AreOwned}
 use Rattle.infer_check.proofs.Contexts.{owned_kept}
 use Rattle.infer_check.proofs.Judging.{fails_is}

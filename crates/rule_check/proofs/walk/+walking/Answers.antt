@@ -6,7 +6,6 @@ use Rattle.dk_model.specs.Signatures.{pattern}
 use Rattle.dk_model.specs.Typing.{answer}
 use Rattle.dk_model.specs.RuleTyping.{Walked, as_convertible}
 use Rattle.signature_log.specs.Versions.{entries_of}
-use Rattle.signature_log.proofs.Keeping.{keeps_further}
 use Rattle.infer_check.specs.Contexts.{bound_types}
 use Rattle.infer_check.proofs.Contexts.{bound_types_kept}
 use Rattle.infer_check.proofs.Judging.{fails_is}
