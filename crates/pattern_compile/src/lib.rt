@@ -9,8 +9,6 @@ mod erase;
 mod mark;
 mod pattern;
 mod rule;
-#[cfg(test)]
-mod tests;
 
 pub use erase::erase_all;
 pub use rule::{shape, shape_all};

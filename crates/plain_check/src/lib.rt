@@ -7,8 +7,3 @@ mod check;
 pub mod laws;
 
 pub use check::{check_plain, infer_plain};
-
-#[cfg(test)]
-mod row_tests;
-#[cfg(test)]
-mod tests;

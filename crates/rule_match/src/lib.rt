@@ -21,6 +21,3 @@ mod walk;
 pub use matcher::{Answer, Ask, Matcher};
 pub use tree::{Tree, compile};
 pub use walk::LeftSide;
-
-#[cfg(test)]
-mod tests;

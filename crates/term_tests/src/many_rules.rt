@@ -1,6 +1,7 @@
 //! A symbol with many rules, used so often that they get a tree: shared terms and plain trees give the same answers with the
 //! same units.
 use crate::pool_forms::takes as shared_takes;
+use crate::rows::first_wrong;
 use crate::samples::{call, one, rule, rule_variable, symbol, symbol_alone, with};
 use crate::tree_forms::takes as plain_takes;
 use conversion::PoolReducer;
@@ -8,7 +9,6 @@ use dk_model::{Entry, Listed, NoMemory, Rule, Term};
 use shared_term::Stored;
 use signature_log::Version;
 use std::alloc::Global;
-use std::test::Fail;
 
 /// `next c0 --> c1. next c1 --> c2.` and so on, `count` rules, where `next` is the symbol behind the constants. The last
 /// one is `[x] next x --> c0.`
@@ -68,19 +68,16 @@ fn plain_row(alloc: Global, count: u32, times: u32, due: u32) -> Result<bool, No
 /// Each `next` takes a unit for its turn and one for the constant that is left, and `c0` takes one. Seven rules get no tree,
 /// and 4,100 have more nodes than a tree may have.
 #[test]
-fn many_rules_take_the_same_units(rt: HostRuntime) -> Result<(), Fail> {
-    for (count, times, due) in [(7, 40, 5), (36, 80, 8), (190, 40, 40), (4_100, 34, 34)] {
-        let as_told = shared_row(rt.alloc(), count, times, due);
-        assert!(rt; as_told == Ok(true), "at {count}");
-    }
-    Ok(())
-}
-
-#[test]
-fn plain_trees_take_them_too(rt: HostRuntime) -> Result<(), Fail> {
-    for (count, times, due) in [(7, 40, 5), (36, 80, 8), (190, 40, 40)] {
-        let as_told = plain_row(rt.alloc(), count, times, due);
-        assert!(rt; as_told == Ok(true), "at {count}");
-    }
-    Ok(())
+fn many_rules_take_the_same_units(rt: HostRuntime) {
+    let alloc = rt.alloc();
+    let rows = [
+        ("7 over shared terms", shared_row(alloc, 7, 40, 5)),
+        ("36 over shared terms", shared_row(alloc, 36, 80, 8)),
+        ("190 over shared terms", shared_row(alloc, 190, 40, 40)),
+        ("4100 over shared terms", shared_row(alloc, 4_100, 34, 34)),
+        ("7 over trees", plain_row(alloc, 7, 40, 5)),
+        ("36 over trees", plain_row(alloc, 36, 80, 8)),
+        ("190 over trees", plain_row(alloc, 190, 40, 40)),
+    ];
+    assert_eq!(rt; first_wrong(&rows), None, "of the rules");
 }

@@ -2,11 +2,11 @@
 ghost use Rattle.std.specs.Prelude.{◌<◌, length, IfOk};
 ghost use Rattle.shared_term.specs.Pools.{Extends, IsWithin};
 
+use crate::rows::first_wrong;
 use crate::trees::mixed;
 use dk_model::{NoMemory, NodeOf, Term, make_annotated, make_app, make_bare, make_product};
 use shared_term::{Node, Pool, Stored, TermId};
 use std::alloc::Global;
-use std::test::Fail;
 
 // The term at a place of the list so far.
 fn part(pool: &Pool, places: &[TermId], at: usize) -> Result<TermId, NoMemory>
@@ -56,8 +56,10 @@ fn built(alloc: Global, pool: &mut Pool, nodes: &[NodeOf<usize>]) -> Result<Term
 }
 
 // Whether shifting, substituting and erasing give what they give for boxed terms.
-fn agrees(alloc: Global, pool: &mut Pool, term: &Term) -> Result<bool, NoMemory> {
-    let id = pool.load(&Stored::from_term(alloc, term)?)?;
+fn agrees(alloc: Global) -> Result<bool, NoMemory> {
+    let mut pool = Pool::new(alloc)?;
+    let term = mixed(alloc, 0, 1, 2)?;
+    let id = pool.load(&Stored::from_term(alloc, &term)?)?;
     let shifted = pool.shift(id, 1, 5)?;
     let put = pool.substitute(id, 0, shifted)?;
     let erased = pool.erased(put)?;
@@ -67,34 +69,23 @@ fn agrees(alloc: Global, pool: &mut Pool, term: &Term) -> Result<bool, NoMemory>
     Ok(found.equal(&due))
 }
 
-#[test]
-fn shared_terms_are_changed_as_boxed_ones(rt: HostRuntime) -> Result<(), Fail> {
-    let mut pool = Pool::new(rt.alloc())?;
-    let term = mixed(rt.alloc(), 0, 1, 2)?;
-    let as_told = agrees(rt.alloc(), &mut pool, &term);
-    assert!(rt; as_told == Ok(true));
-    Ok(())
-}
-
 // Whether the filled term is the one written out, where the first rule variable has a capture and
 // the second has none.
 fn fills(
     alloc: Global,
-    pool: &mut Pool,
     capture: &[NodeOf<usize>],
     from: &[NodeOf<usize>],
     to: &[NodeOf<usize>],
 ) -> Result<bool, NoMemory> {
-    let id = built(alloc, pool, from)?;
-    let capture = built(alloc, pool, capture)?;
+    let mut pool = Pool::new(alloc)?;
+    let id = built(alloc, &mut pool, from)?;
+    let capture = built(alloc, &mut pool, capture)?;
     let made = pool.filled(id, &[Some(capture), None])?;
-    let expected = built(alloc, pool, to)?;
+    let expected = built(alloc, &mut pool, to)?;
     Ok(pool.same(made, expected))
 }
 
-#[test]
-fn captures_take_the_place_of_rule_variables(rt: HostRuntime) -> Result<(), Fail> {
-    let mut pool = Pool::new(rt.alloc())?;
+fn captures_take_the_place_of_rule_variables(alloc: Global) -> Result<bool, NoMemory> {
     // `R0 (x => R0 R1)` with `0 1` for `R0`.
     let capture = [NodeOf::Var(0), NodeOf::Var(1), NodeOf::App(0, 1)];
     let from = [
@@ -115,28 +106,25 @@ fn captures_take_the_place_of_rule_variables(rt: HostRuntime) -> Result<(), Fail
         NodeOf::Abs(None, 6),
         NodeOf::App(2, 7),
     ];
-    assert!(rt; fills(rt.alloc(), &mut pool, &capture, &from, &to)?);
-    Ok(())
+    fills(alloc, &capture, &from, &to)
 }
 
 // Whether the renamed term is the one written out.
 fn renames(
     alloc: Global,
-    pool: &mut Pool,
     bound: u64,
     arguments: &[u32],
     from: &[NodeOf<usize>],
     to: &[NodeOf<usize>],
 ) -> Result<bool, NoMemory> {
-    let id = built(alloc, pool, from)?;
+    let mut pool = Pool::new(alloc)?;
+    let id = built(alloc, &mut pool, from)?;
     let made = pool.renamed(id, bound, arguments)?;
-    let expected = built(alloc, pool, to)?;
+    let expected = built(alloc, &mut pool, to)?;
     Ok(pool.same(made, expected))
 }
 
-#[test]
-fn renaming_gives_variables_by_the_arguments(rt: HostRuntime) -> Result<(), Fail> {
-    let mut pool = Pool::new(rt.alloc())?;
+fn renaming_gives_variables_by_the_arguments(alloc: Global) -> Result<bool, NoMemory> {
     // `2 0 5` where the pattern binds 3 variables: of the arguments 0, 2 the last is 0 and the first
     // 1, and what is bound further out stands behind two variables in place of three.
     let from = [
@@ -153,39 +141,36 @@ fn renaming_gives_variables_by_the_arguments(rt: HostRuntime) -> Result<(), Fail
         NodeOf::Var(4),
         NodeOf::App(2, 3),
     ];
-    assert!(rt; renames(rt.alloc(), &mut pool, 3, &[0, 2], &from, &to)?);
-    Ok(())
+    renames(alloc, 3, &[0, 2], &from, &to)
 }
 
 // Whether the capture of the part is the one written out.
 fn captures(
     alloc: Global,
-    pool: &mut Pool,
     bound: u64,
     arguments: &[u32],
     from: &[NodeOf<usize>],
     to: &[NodeOf<usize>],
 ) -> Result<bool, NoMemory> {
-    let id = built(alloc, pool, from)?;
+    let mut pool = Pool::new(alloc)?;
+    let id = built(alloc, &mut pool, from)?;
     let made = pool.captured(id, bound, arguments)?;
-    let expected = built(alloc, pool, to)?;
+    let expected = built(alloc, &mut pool, to)?;
     Ok(pool.same(made, expected))
 }
 
 fn mentions(
     alloc: Global,
-    pool: &mut Pool,
     bound: u64,
     arguments: &[u32],
     from: &[NodeOf<usize>],
 ) -> Result<bool, NoMemory> {
-    let id = built(alloc, pool, from)?;
+    let mut pool = Pool::new(alloc)?;
+    let id = built(alloc, &mut pool, from)?;
     pool.mentions_others(id, bound, arguments)
 }
 
-#[test]
-fn captures_are_abstracted_over_their_arguments(rt: HostRuntime) -> Result<(), Fail> {
-    let mut pool = Pool::new(rt.alloc())?;
+fn captures_are_abstracted_over_their_arguments(alloc: Global) -> Result<bool, NoMemory> {
     // `0 (x => 2 4)`, where 2 and 4 are 1 and 3 around `x`; the pattern binds 3 variables, and 1
     // and 0 are arguments.
     let from = [
@@ -206,15 +191,12 @@ fn captures_are_abstracted_over_their_arguments(rt: HostRuntime) -> Result<(), F
         NodeOf::Abs(None, 5),
         NodeOf::Abs(None, 6),
     ];
-    assert!(rt; captures(rt.alloc(), &mut pool, 3, &[1, 0], &from, &to)?);
     for (bound, arguments, told) in [(3, [1, 0], false), (3, [0, 0], true), (4, [1, 0], true)] {
-        assert_eq!(rt;
-            mentions(rt.alloc(), &mut pool, bound, &arguments, &from)?,
-            told,
-            "at {bound}"
-        );
+        if mentions(alloc, bound, &arguments, &from)? != told {
+            return Ok(false);
+        }
     }
-    Ok(())
+    captures(alloc, 3, &[1, 0], &from, &to)
 }
 
 // One node more, which is there.
@@ -227,41 +209,28 @@ fn twice(pool: &mut Pool, node: Node) -> Result<bool, NoMemory>
     Ok(pool.same(first, second) && !pool.same(applied, first))
 }
 
-#[test]
-fn equal_nodes_are_one(rt: HostRuntime) -> Result<(), Fail> {
-    let mut pool = Pool::new(rt.alloc())?;
-    assert!(rt; twice(&mut pool, NodeOf::Sym(0))?);
-    assert_eq!(rt; pool.len(), 2);
-    assert!(rt; twice(&mut pool, NodeOf::Sym(0))?);
-    assert_eq!(rt; pool.len(), 2);
+fn equal_nodes_are_one(alloc: Global) -> Result<bool, NoMemory> {
+    let mut pool = Pool::new(alloc)?;
+    let new = twice(&mut pool, NodeOf::Sym(0))? && pool.len() == 2;
+    let again = twice(&mut pool, NodeOf::Sym(0))? && pool.len() == 2;
     pool.clear();
-    assert_eq!(rt; pool.len(), 0);
-    assert!(rt; pool.intern(NodeOf::Var(u64::MAX)).is_err());
-    Ok(())
+    let cleared = pool.len() == 0 && pool.intern(NodeOf::Var(u64::MAX)).is_err();
+    Ok(new && again && cleared)
 }
 
-// Whether a stored term is the same in this pool and in another, and how many nodes it has.
-fn carried(
-    alloc: Global,
-    pool: &mut Pool,
-    other: &mut Pool,
-    from: &[NodeOf<usize>],
-) -> Result<(bool, usize), NoMemory> {
-    let id = built(alloc, pool, from)?;
+// Whether a stored term has so many nodes, and is the same in its pool and in another.
+fn carries(alloc: Global, from: &[NodeOf<usize>], nodes: usize) -> Result<bool, NoMemory> {
+    let mut pool = Pool::new(alloc)?;
+    let mut other = Pool::new(alloc)?;
+    let id = built(alloc, &mut pool, from)?;
     let stored = pool.store(id)?;
     let back = pool.load(&stored)?;
     let there = other.load(&stored)?;
-    let expected = built(alloc, other, from)?;
-    Ok((
-        pool.same(back, id) && other.same(there, expected),
-        stored.len(),
-    ))
+    let expected = built(alloc, &mut other, from)?;
+    Ok(pool.same(back, id) && other.same(there, expected) && stored.len() == nodes)
 }
 
-#[test]
-fn a_stored_term_has_each_node_once(rt: HostRuntime) -> Result<(), Fail> {
-    let mut pool = Pool::new(rt.alloc())?;
-    let mut other = Pool::new(rt.alloc())?;
+fn a_stored_term_has_each_node_once(alloc: Global) -> Result<bool, NoMemory> {
     let from = [
         NodeOf::Sym(7),
         NodeOf::Sym(0),
@@ -270,20 +239,8 @@ fn a_stored_term_has_each_node_once(rt: HostRuntime) -> Result<(), Fail> {
         NodeOf::Abs(Some(2), 1),
         NodeOf::Prod(4, 2),
     ];
-    assert_eq!(rt;
-        carried(rt.alloc(), &mut pool, &mut other, &from)?,
-        (true, 4)
-    );
-    assert_eq!(rt;
-        carried(
-            rt.alloc(),
-            &mut pool,
-            &mut other,
-            &[NodeOf::Sym(0), NodeOf::App(0, 0)]
-        )?,
-        (true, 2)
-    );
-    Ok(())
+    let applied = [NodeOf::Sym(0), NodeOf::App(0, 0)];
+    Ok(carries(alloc, &from, 4)? && carries(alloc, &applied, 2)?)
 }
 
 // `x : 0 1 -> (y => r 0) (y : 1 => Type Kind)`: numbers are variables, r is a rule variable.
@@ -296,20 +253,14 @@ fn boxed(alloc: Global) -> Result<Term, NoMemory> {
 }
 
 // Whether it comes back from a list of its own, by way of the pool too.
-fn unboxed(alloc: Global, pool: &mut Pool, term: &Term) -> Result<bool, NoMemory> {
-    let stored = Stored::from_term(alloc, term)?;
+fn comes_back(alloc: Global) -> Result<bool, NoMemory> {
+    let term = boxed(alloc)?;
+    let mut pool = Pool::new(alloc)?;
+    let stored = Stored::from_term(alloc, &term)?;
     let id = pool.load(&stored)?;
     let first = stored.copy(alloc)?.to_term(alloc)?;
     let second = pool.store(id)?.to_term(alloc)?;
-    Ok(first.equal(term) && second.equal(term))
-}
-
-#[test]
-fn boxed_terms_are_stored_and_come_back(rt: HostRuntime) -> Result<(), Fail> {
-    let mut pool = Pool::new(rt.alloc())?;
-    let term = boxed(rt.alloc())?;
-    assert!(rt; unboxed(rt.alloc(), &mut pool, &term)?);
-    Ok(())
+    Ok(first.equal(&term) && second.equal(&term))
 }
 
 // The same without its annotation.
@@ -324,26 +275,15 @@ fn bared(alloc: Global) -> Result<Term, NoMemory> {
     )
 }
 
-// Whether the one has annotations, and the other is stored without them.
-fn loses_annotations(
-    alloc: Global,
-    pool: &mut Pool,
-    term: &Term,
-    bare: &Term,
-) -> Result<bool, NoMemory> {
-    let whole = pool.load(&Stored::from_term(alloc, term)?)?;
-    let erased = Stored::from_erased(alloc, term)?;
+// Whether the one has annotations, and is stored without them as the other.
+fn loses_annotations(alloc: Global) -> Result<bool, NoMemory> {
+    let term = boxed(alloc)?;
+    let mut pool = Pool::new(alloc)?;
+    let whole = pool.load(&Stored::from_term(alloc, &term)?)?;
+    let erased = Stored::from_erased(alloc, &term)?;
     let id = pool.load(&erased)?;
-    Ok(!pool.is_erased(whole) && pool.is_erased(id) && erased.to_term(alloc)?.equal(bare))
-}
-
-#[test]
-fn boxed_terms_are_stored_without_annotations(rt: HostRuntime) -> Result<(), Fail> {
-    let mut pool = Pool::new(rt.alloc())?;
-    let term = boxed(rt.alloc())?;
-    let bare = bared(rt.alloc())?;
-    assert!(rt; loses_annotations(rt.alloc(), &mut pool, &term, &bare)?);
-    Ok(())
+    let found = erased.to_term(alloc)?;
+    Ok(!pool.is_erased(whole) && pool.is_erased(id) && found.equal(&bared(alloc)?))
 }
 
 // A chain of applications, open at its end.
@@ -359,20 +299,40 @@ fn chain(pool: &mut Pool, count: u32) -> Result<TermId, NoMemory>
     Ok(id)
 }
 
-// Whether it comes back from a shift and a substitution, and from a list of its own, and how many
-// nodes that has.
-fn returns(pool: &mut Pool, count: u32) -> Result<(bool, usize), NoMemory> {
-    let id = chain(pool, count)?;
+// Whether a chain comes back from a shift and a substitution, and from a list of its own, and has so many nodes there.
+fn returns(alloc: Global, count: u32, nodes: usize) -> Result<bool, NoMemory> {
+    let mut pool = Pool::new(alloc)?;
+    let id = chain(&mut pool, count)?;
     let raised = pool.shift(id, 0, 1)?;
     let lowered = pool.substitute(raised, 0, id)?;
     let stored = pool.store(id)?;
     let back = pool.load(&stored)?;
-    Ok((pool.same(lowered, id) && pool.same(back, id), stored.len()))
+    Ok(pool.same(lowered, id) && pool.same(back, id) && stored.len() == nodes)
 }
 
+// No walk nests with the term.
 #[test]
-fn no_walk_nests_with_the_term(rt: HostRuntime) -> Result<(), Fail> {
-    let mut pool = Pool::new(rt.alloc())?;
-    assert_eq!(rt; returns(&mut pool, 70_000)?, (true, 70_002));
-    Ok(())
+fn terms_of_a_pool_are_as_written_out(rt: HostRuntime) {
+    let alloc = rt.alloc();
+    let rows = [
+        ("equal nodes", equal_nodes_are_one(alloc)),
+        ("boxed terms", agrees(alloc)),
+        (
+            "captures put",
+            captures_take_the_place_of_rule_variables(alloc),
+        ),
+        (
+            "variables renamed",
+            renaming_gives_variables_by_the_arguments(alloc),
+        ),
+        (
+            "captures taken",
+            captures_are_abstracted_over_their_arguments(alloc),
+        ),
+        ("stored terms", a_stored_term_has_each_node_once(alloc)),
+        ("boxed terms, stored", comes_back(alloc)),
+        ("annotations erased", loses_annotations(alloc)),
+        ("a long chain", returns(alloc, 70_000, 70_002)),
+    ];
+    assert_eq!(rt; first_wrong(&rows), None, "of the terms");
 }

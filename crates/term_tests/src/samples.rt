@@ -75,7 +75,7 @@ pub fn one(pattern: Pat<Stored>, alloc: Global) -> Result<Listed<Pat<Stored>>, N
     Ok(patterns)
 }
 
-fn two(
+pub fn two(
     first: Pat<Stored>,
     second: Pat<Stored>,
     alloc: Global,
@@ -102,7 +102,7 @@ pub fn rule(
 }
 
 /// `[y] plus z y --> y. [x, y] plus (s x) y --> s (plus x y).`
-fn plus_rules(alloc: Global, rules: &mut Listed<Rule<Stored>>) -> Result<(), NoMemory> {
+pub fn plus_rules(alloc: Global, rules: &mut Listed<Rule<Stored>>) -> Result<(), NoMemory> {
     let pats = two(symbol_alone(alloc, Z), rule_variable(alloc, 0), alloc)?;
     rules.push(rule(alloc, PLUS, 1, pats, Term::Rvar(0))?)?;
     let pats = two(successor(alloc, 0)?, rule_variable(alloc, 1), alloc)?;

@@ -1,12 +1,9 @@
 //! Evaluation of plain trees over one version: the forms of the samples, with the units that they take.
-use crate::samples::{
-    ENDLESS, EQ, PLUS, ROWS, SYMBOLS, Z, call_two, numeral, row, symbol, version, with,
-};
+use crate::rows::first_wrong;
+use crate::samples::{EQ, PLUS, ROWS, Z, call_two, numeral, row, version};
 use dk_model::{NoMemory, Stop, Term};
-use shared_term::Stored;
 use signature_log::{Reducer, Version};
 use std::alloc::Global;
-use std::test::Fail;
 use tree_evaluation::Trees;
 
 /// Whether this is the answer due: a form where there is one, and else that the budget ended.
@@ -43,17 +40,18 @@ fn row_takes(
     Ok(short && takes(alloc, version, &term, Some(&value), units))
 }
 
-#[test]
-fn rules_are_taken_in_order_with_their_units(rt: HostRuntime) -> Result<(), Fail> {
-    let version = version(rt.alloc())?;
-    for (number, text, units) in &ROWS {
-        let as_told = row_takes(rt.alloc(), &version, *number, *units);
-        assert!(rt; as_told == Ok(true), "at {text}");
+/// Whether each row's term has its weak head form with its units.
+fn rows_take_their_units(alloc: Global) -> Result<bool, NoMemory> {
+    let version = version(alloc)?;
+    for (number, _, units) in &ROWS {
+        if !row_takes(alloc, &version, *number, *units)? {
+            return Ok(false);
+        }
     }
-    Ok(())
+    Ok(true)
 }
 
-/// Whether `eq (plus 2 2) 4` is `eq 4 4`, by their parts, with 20 units.
+/// What is told of `eq (plus 2 2) 4` and `eq 4 4`, which are compared by their parts, with so many units, of which none is left.
 fn sums_are_same(alloc: Global, version: &Version, units: u64) -> Result<Option<bool>, NoMemory> {
     let four = call_two(alloc, EQ, numeral(alloc, 4)?, numeral(alloc, 4)?)?;
     let sum = call_two(alloc, PLUS, numeral(alloc, 2)?, numeral(alloc, 2)?)?;
@@ -61,15 +59,6 @@ fn sums_are_same(alloc: Global, version: &Version, units: u64) -> Result<Option<
     let mut left = units;
     let found = Trees::new(alloc).same(version, &four, &other, &mut left);
     Ok(if left == 0 { found.ok() } else { Some(false) })
-}
-
-#[test]
-fn sums_are_compared_by_their_parts(rt: HostRuntime) -> Result<(), Fail> {
-    let version = version(rt.alloc())?;
-    let ended = sums_are_same(rt.alloc(), &version, 19);
-    let found = sums_are_same(rt.alloc(), &version, 20);
-    assert!(rt; ended == Ok(None) && found == Ok(Some(true)));
-    Ok(())
 }
 
 /// Whether `plus 2 2` has the normal form `4` with so many units or ends, and leaves none.
@@ -82,14 +71,12 @@ fn is_four(alloc: Global, version: &Version, units: u64, ends: bool) -> Result<b
     Ok(is_form(&found, due) && left == 0)
 }
 
-/// A unit for each of its five parts, and what their weak head forms take.
-#[test]
-fn a_sum_has_a_normal_form(rt: HostRuntime) -> Result<(), Fail> {
-    let version = version(rt.alloc())?;
-    let ended = is_four(rt.alloc(), &version, 15, true);
-    let found = is_four(rt.alloc(), &version, 16, false);
-    assert!(rt; ended == Ok(true) && found == Ok(true));
-    Ok(())
+/// The comparison takes 20 units. The normal form takes one for each of its five parts, and what their weak head forms take.
+fn sums_are_compared_and_normalised(alloc: Global) -> Result<bool, NoMemory> {
+    let version = version(alloc)?;
+    let ended = sums_are_same(alloc, &version, 19)?.is_none();
+    let same = sums_are_same(alloc, &version, 20)? == Some(true);
+    Ok(ended && same && is_four(alloc, &version, 15, true)? && is_four(alloc, &version, 16, false)?)
 }
 
 /// `plus 0 1` with `z` for its variable 0, and what is left shifted by 2: `plus z 2`.
@@ -130,43 +117,21 @@ fn renamed(alloc: Global) -> Result<Option<Term>, NoMemory> {
     Ok(Some(Trees::new(alloc).rename(&carried, 2, &[1])?))
 }
 
-#[test]
-fn terms_are_taken_apart_and_built(rt: HostRuntime) -> Result<(), Fail> {
-    let due = call_two(rt.alloc(), PLUS, Term::Sym(Z), Term::Var(0))?;
-    let found = renamed(rt.alloc());
-    assert!(rt; matches!(&found, Ok(Some(term)) if term.equal(&due)));
-    Ok(())
-}
-
-/// Adds `def a1 := z.`, `def a2 := plus a1 z.` and so on, so many; and gives `plus` of the last one and `z`.
-fn nested(alloc: Global, count: u32) -> Result<(Version, Term), NoMemory> {
-    let mut version = version(alloc)?;
-    let mut number = SYMBOLS;
-    let mut term = Term::Sym(Z);
-    for _ in 0..count {
-        let body = Stored::from_term(alloc, &term)?;
-        version = with(alloc, &version, symbol(alloc, Some(body))?)?;
-        number = number.saturating_add(1);
-        term = call_two(alloc, PLUS, Term::Sym(number), Term::Sym(Z))?;
+fn terms_are_taken_apart_and_built(alloc: Global) -> Result<bool, NoMemory> {
+    let due = call_two(alloc, PLUS, Term::Sym(Z), Term::Var(0))?;
+    match renamed(alloc)? {
+        Some(found) => Ok(found.equal(&due)),
+        None => Ok(false),
     }
-    Ok((version, term))
-}
-
-/// `a1` takes 2 units: it is unfolded, and `z` stands. Each `plus` takes two more than its argument, a turn and one for
-/// the `z` that is left, and each definition one.
-#[test]
-fn selections_wait_fifty_thousand_deep(rt: HostRuntime) -> Result<(), Fail> {
-    let (version, term) = nested(rt.alloc(), 50_000)?;
-    let ended = takes(rt.alloc(), &version, &term, None, 150_000);
-    let found = takes(rt.alloc(), &version, &term, Some(&Term::Sym(Z)), 150_001);
-    assert!(rt; ended && found);
-    Ok(())
 }
 
 #[test]
-fn nesting_without_end_takes_the_budget(rt: HostRuntime) -> Result<(), Fail> {
-    let version = version(rt.alloc())?;
-    let ended = takes(rt.alloc(), &version, &Term::Sym(ENDLESS), None, 200_000);
-    assert!(rt; ended);
-    Ok(())
+fn trees_are_evaluated_with_their_units(rt: HostRuntime) {
+    let alloc = rt.alloc();
+    let rows = [
+        ("rules in order", rows_take_their_units(alloc)),
+        ("sums", sums_are_compared_and_normalised(alloc)),
+        ("terms taken apart", terms_are_taken_apart_and_built(alloc)),
+    ];
+    assert_eq!(rt; first_wrong(&rows), None, "of the forms");
 }

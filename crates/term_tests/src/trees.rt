@@ -1,8 +1,9 @@
+//! Terms and lists that are changed, against those that are written out.
+use crate::rows::first_wrong;
 use dk_model::{
     Code, Fault, Listed, NoMemory, Term, make_annotated, make_app, make_bare, make_product,
 };
 use std::alloc::Global;
-use std::test::Fail;
 
 // A list that grew, its copy, and what its items make.
 fn grown(alloc: Global) -> Result<bool, NoMemory> {
@@ -11,18 +12,11 @@ fn grown(alloc: Global) -> Result<bool, NoMemory> {
     let copy = list.copy(alloc)?;
     let back = Listed::from_vec(list.into_vec());
     Ok(
-        back.as_slice() == b"nats".as_slice()
+        Listed::<u8>::new(alloc).is_empty()
+            && back.as_slice() == b"nats".as_slice()
             && copy.as_slice() == b"nats".as_slice()
             && copy.get(4).is_none(),
     )
-}
-
-#[test]
-fn lists_grow_and_are_copied(rt: HostRuntime) -> Result<(), Fail> {
-    let none = Listed::<u8>::new(rt.alloc()).is_empty();
-    let as_told = grown(rt.alloc())?;
-    assert!(rt; none && as_told);
-    Ok(())
 }
 
 /// `f a`, with variables of these numbers.
@@ -48,20 +42,19 @@ fn shifts(alloc: Global, cut: u64, first: u32, second: u32, third: u32) -> Resul
     Ok(made.equal(&due) && made.copy(alloc)?.equal(&due))
 }
 
-#[test]
-fn shifting_leaves_bound_variables(rt: HostRuntime) -> Result<(), Fail> {
+// Whether a shift moves the free variables from its variable on, and none past the last number.
+fn shifts_leave_bound_variables(alloc: Global) -> Result<bool, NoMemory> {
     for (cut, first, second, third, told) in [
         (0, 5, 6, 7, true),
         (1, 0, 6, 7, true),
         (1, 5, 6, 7, false),
         (3, 0, 1, 2, true),
     ] {
-        let found = shifts(rt.alloc(), cut, first, second, third)?;
-        assert!(rt; found == told, "at {cut}");
+        if shifts(alloc, cut, first, second, third)? != told {
+            return Ok(false);
+        }
     }
-    let last = Term::Var(u64::MAX).shift(rt.alloc(), 0, 1).is_err();
-    assert!(rt; last);
-    Ok(())
+    Ok(Term::Var(u64::MAX).shift(alloc, 0, 1).is_err())
 }
 
 // Whether `x : 0 1 -> 1 2` with variable 4 of what is around for its variable 0 is `x : 4 0 -> 5 1`.
@@ -86,14 +79,6 @@ fn puts_the_type(alloc: Global) -> Result<bool, NoMemory> {
     Ok(made.equal(&due))
 }
 
-#[test]
-fn substituting_lowers_the_variables_behind(rt: HostRuntime) -> Result<(), Fail> {
-    let variable = puts_a_variable(rt.alloc())?;
-    let typ = puts_the_type(rt.alloc())?;
-    assert!(rt; variable && typ);
-    Ok(())
-}
-
 // Whether `(x : Type => y : x => x) -> Kind`, with a rule variable and a symbol applied, loses both annotations.
 fn loses_annotations(alloc: Global) -> Result<bool, NoMemory> {
     let inner = make_annotated(alloc, Term::Var(0), Term::Var(1))?;
@@ -106,22 +91,23 @@ fn loses_annotations(alloc: Global) -> Result<bool, NoMemory> {
     Ok(made.equal(&due))
 }
 
-#[test]
-fn erasing_removes_annotations_everywhere(rt: HostRuntime) -> Result<(), Fail> {
-    let as_told = loses_annotations(rt.alloc())?;
-    assert!(rt; as_told);
-    Ok(())
+fn codes_are_spelt() -> bool {
+    Code::E01.spelling() == b"E01".as_slice()
+        && Code::E13.spelling() == b"E13".as_slice()
+        && Code::E35.spelling() == b"E35".as_slice()
+        && Fault::from(NoMemory) == Fault::NoMemory
 }
 
 #[test]
-fn want_of_memory_is_a_fault_and_codes_are_spelt(rt: HostRuntime) -> Result<(), Fail> {
-    assert_eq!(rt; Fault::from(NoMemory), Fault::NoMemory);
-    for (code, text) in [
-        (Code::E01, b"E01"),
-        (Code::E13, b"E13"),
-        (Code::E35, b"E35"),
-    ] {
-        assert_eq!(rt; code.spelling(), text.as_slice(), "of {code:?}");
-    }
-    Ok(())
+fn terms_are_changed_as_written_out(rt: HostRuntime) {
+    let alloc = rt.alloc();
+    let rows = [
+        ("a list", grown(alloc)),
+        ("a shift", shifts_leave_bound_variables(alloc)),
+        ("a variable put for another", puts_a_variable(alloc)),
+        ("Type put for a variable", puts_the_type(alloc)),
+        ("annotations erased", loses_annotations(alloc)),
+        ("codes", Ok(codes_are_spelt())),
+    ];
+    assert_eq!(rt; first_wrong(&rows), None, "of the changes");
 }

@@ -1,6 +1,7 @@
 //! Versions and the rules of symbols, against lists that are written out.
 ghost use Rattle.std.specs.Prelude.{◌≡◌};
 
+use crate::rows::first_wrong;
 use dk_model::{Entry, Listed, NoMemory, Rule, Signature, SymSort, Term};
 use shared_term::Stored;
 use signature_log::{Grow, Row, Rows, Steps, Version, store_entry, store_rules, version_of};
@@ -8,7 +9,6 @@ use std::alloc::Global;
 use std::marker::Brand;
 use std::sync::Arc;
 use std::sync::ledger::{Blank, Ledger};
-use std::test::Fail;
 
 // What a command declares: a symbol with another one as its body, or rules without patterns, each its head and the symbol
 // on its right side.
@@ -105,30 +105,15 @@ fn are_right_sides(alloc: Global, rows: Rows<'_>, due: &[u32]) -> Result<bool, N
     Ok(rows.len() as usize == due.len())
 }
 
-// The first symbol whose rules aren't those that stand beside it.
-fn misruled(
-    alloc: Global,
-    version: &Version,
-    table: &[(u32, &[u32])],
-) -> Result<Option<u32>, NoMemory> {
-    for (symbol, due) in table {
-        if !are_right_sides(alloc, version.rules_of(*symbol), due)? {
-            return Ok(Some(*symbol));
-        }
-    }
-    Ok(None)
-}
-
 // Symbol 0 has a body and rules of two commands. 31 and 32, 1023 and 1024 stand in different blocks.
-#[test]
-fn finds_the_body_and_then_the_rules_in_file_order(rt: HostRuntime) -> Result<(), Fail> {
+fn finds_the_body_and_then_the_rules(alloc: Global) -> Result<bool, NoMemory> {
     let commands = [
         Command::Symbol(Some(100)),
         Command::Rules(&[(0, 101), (31, 102), (0, 103)]),
         Command::Symbol(None),
         Command::Rules(&[(32, 104), (0, 105), (1024, 106), (32768, 107), (31, 108)]),
     ];
-    let version = version_after(rt.alloc(), &commands)?;
+    let version = version_after(alloc, &commands)?;
     let table: [(u32, &[u32]); 9] = [
         (0, &[100, 101, 103, 105]),
         (1, &[]),
@@ -140,8 +125,12 @@ fn finds_the_body_and_then_the_rules_in_file_order(rt: HostRuntime) -> Result<()
         (32768, &[107]),
         (u32::MAX, &[]),
     ];
-    assert_eq!(rt; misruled(rt.alloc(), &version, &table)?, None, "a symbol");
-    Ok(())
+    for (symbol, due) in table {
+        if !are_right_sides(alloc, version.rules_of(symbol), due)? {
+            return Ok(false);
+        }
+    }
+    Ok(true)
 }
 
 // So many rules of symbol 7, each by a command of its own, rule `k` with `k` on the right.
@@ -164,29 +153,25 @@ fn first_right_side(alloc: Global, entry: Option<&Entry<Stored>>) -> Result<Opti
     }
 }
 
-// The first of these places where the entry or the rule isn't the one that was put there.
-fn misplaced(alloc: Global, version: &Version, places: &[u32]) -> Result<Option<u32>, NoMemory> {
-    for k in places {
-        let entry = first_right_side(alloc, version.get(*k))?;
-        let rule = right_side(alloc, version.rules_of(7).at(*k))?;
-        if entry != Some(*k) || rule != Some(*k) {
-            return Ok(Some(*k));
-        }
-    }
-    Ok(None)
+// Whether the entry and the rule of a place are those that were put there.
+fn is_placed(alloc: Global, version: &Version, place: u32) -> Result<bool, NoMemory> {
+    let entry = first_right_side(alloc, version.get(place))?;
+    let rule = right_side(alloc, version.rules_of(7).at(place))?;
+    Ok(entry == Some(place) && rule == Some(place))
 }
 
 // The rules stand in three levels of blocks; of the entries 34 groups, in two levels, and the last twelve beside them.
-#[test]
-fn keeps_the_order_from_block_to_block(rt: HostRuntime) -> Result<(), Fail> {
-    let version = one_by_one(rt.alloc(), 1100)?;
-    let places = [
+fn keeps_the_order_from_block_to_block(alloc: Global) -> Result<bool, NoMemory> {
+    let version = one_by_one(alloc, 1100)?;
+    for place in [
         0, 1, 31, 32, 33, 63, 64, 1023, 1024, 1025, 1055, 1056, 1087, 1088, 1099,
-    ];
-    assert_eq!(rt; misplaced(rt.alloc(), &version, &places)?, None, "a place");
-    assert!(rt; version.len() == 1100 && version.rules_of(7).len() == 1100);
-    assert!(rt; version.get(1100).is_none() && version.get(u32::MAX).is_none());
-    Ok(())
+    ] {
+        if !is_placed(alloc, &version, place)? {
+            return Ok(false);
+        }
+    }
+    let none = version.get(1100).is_none() && version.get(u32::MAX).is_none();
+    Ok(none && version.len() == 1100 && version.rules_of(7).len() == 1100)
 }
 
 fn append_counted<L: Ledger>(
@@ -215,19 +200,52 @@ fn is_extended(alloc: Global, first: &Version, right: u32) -> Result<bool, NoMem
     are_right_sides(alloc, version.rules_of(0), &[10, right])
 }
 
-// Whether the same holds of an equal version.
-fn is_shared(alloc: Global, first: &Version) -> Result<bool, NoMemory> {
-    is_extended(alloc, &first.share()?, 13)
+// Whether two rules, one of them put behind a version that shares its blocks, leave the version that they were put behind.
+fn leaves_the_rules_of_a_version(alloc: Global) -> Result<bool, NoMemory> {
+    let first = version_after(alloc, &[Command::Symbol(Some(10))])?;
+    let extended = is_extended(alloc, &first, 11)? && is_extended(alloc, &first.share()?, 12)?;
+    Ok(extended && are_right_sides(alloc, first.rules_of(0), &[10])?)
 }
 
-#[test]
-fn leaves_the_version_that_it_was_made_of(rt: HostRuntime) -> Result<(), Fail> {
-    let first = version_after(rt.alloc(), &[Command::Symbol(Some(10))])?;
-    assert!(rt; is_extended(rt.alloc(), &first, 11)?);
-    assert!(rt; is_extended(rt.alloc(), &first, 12)?);
-    assert!(rt; is_shared(rt.alloc(), &first)?);
-    assert!(rt; are_right_sides(rt.alloc(), first.rules_of(0), &[10])?);
-    Ok(())
+// The version of so many symbols, symbol `k` with `k` as its body.
+fn symbols(alloc: Global, count: u32) -> Result<Version, NoMemory> {
+    let mut version = Version::empty(alloc)?;
+    for k in 0..count {
+        version = appended(&version, shared(alloc, Command::Symbol(Some(k)))?)?;
+    }
+    Ok(version)
+}
+
+// The symbol that is the body of an entry.
+fn body_at(alloc: Global, version: &Version, place: u32) -> Result<Option<u32>, NoMemory> {
+    match version.get(place) {
+        Some(
+            Entry::Symbol {
+                body: Some(body),
+                ..
+            },
+        ) => symbol_of(alloc, body),
+        _ => Ok(None),
+    }
+}
+
+// Whether a version has 33 entries, symbol `k` with `k` as its body but for the last one, which has this one.
+fn has_last(alloc: Global, version: &Version, last: u32) -> Result<bool, NoMemory> {
+    for k in 0..32 {
+        if body_at(alloc, version, k)? != Some(k) {
+            return Ok(false);
+        }
+    }
+    Ok(version.len() == 33 && body_at(alloc, version, 32)? == Some(last))
+}
+
+// Whether two different entries behind a version of 32 give two of 33 that differ at 32 alone, and leave it as it was.
+fn leaves_the_entries_of_a_version(alloc: Global) -> Result<bool, NoMemory> {
+    let old = symbols(alloc, 32)?;
+    let first = appended(&old, shared(alloc, Command::Symbol(Some(100)))?)?;
+    let second = appended(&old, shared(alloc, Command::Symbol(Some(200)))?)?;
+    let differ = has_last(alloc, &first, 100)? && has_last(alloc, &second, 200)?;
+    Ok(differ && old.len() == 32 && old.get(32).is_none())
 }
 
 fn signature_of(alloc: Global, commands: &[Command<'_>]) -> Result<Signature, NoMemory> {
@@ -244,13 +262,13 @@ fn there_and_back(alloc: Global, signature: &Signature) -> Result<Version, Grow>
     version_of(alloc, &there.plain()?)
 }
 
-#[test]
-fn plain_signatures_go_in_and_out(rt: HostRuntime) -> Result<(), Fail> {
+fn plain_signatures_go_in_and_out(alloc: Global) -> Result<bool, NoMemory> {
     let commands = [Command::Symbol(Some(3)), Command::Rules(&[(0, 5), (0, 4)])];
-    let signature = signature_of(rt.alloc(), &commands)?;
-    let back = there_and_back(rt.alloc(), &signature)?;
-    assert!(rt; are_right_sides(rt.alloc(), back.rules_of(0), &[3, 5, 4])?);
-    Ok(())
+    let signature = signature_of(alloc, &commands)?;
+    match there_and_back(alloc, &signature) {
+        Ok(back) => are_right_sides(alloc, back.rules_of(0), &[3, 5, 4]),
+        Err(_) => Ok(false),
+    }
 }
 
 fn all_equal(alloc: Global, count: u32) -> Result<Version, NoMemory> {
@@ -262,11 +280,22 @@ fn all_equal(alloc: Global, count: u32) -> Result<Version, NoMemory> {
     Ok(version)
 }
 
+fn is_full_at_the_last_place(alloc: Global) -> Result<bool, NoMemory> {
+    let version = all_equal(alloc, 1_048_576)?;
+    let further = shared(alloc, Command::Symbol(None))?;
+    Ok(matches!(version.append(further), Err(Grow::Full)))
+}
+
 #[test]
-fn is_full_at_the_last_place(rt: HostRuntime) -> Result<(), Fail> {
-    let version = all_equal(rt.alloc(), 1048576)?;
-    let further = shared(rt.alloc(), Command::Symbol(None))?;
-    let full = matches!(version.append(further), Err(Grow::Full));
-    assert!(rt; full);
-    Ok(())
+fn versions_are_as_written_out(rt: HostRuntime) {
+    let alloc = rt.alloc();
+    let rows = [
+        ("rules of symbols", finds_the_body_and_then_the_rules(alloc)),
+        ("many entries", keeps_the_order_from_block_to_block(alloc)),
+        ("rules put behind", leaves_the_rules_of_a_version(alloc)),
+        ("entries put behind", leaves_the_entries_of_a_version(alloc)),
+        ("plain signatures", plain_signatures_go_in_and_out(alloc)),
+        ("the last place", is_full_at_the_last_place(alloc)),
+    ];
+    assert_eq!(rt; first_wrong(&rows), None, "of the versions");
 }
