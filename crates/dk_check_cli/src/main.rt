@@ -18,9 +18,6 @@ use std::thread::{self, Builder, Threads};
 use std::{env, io};
 use worker_crew::has_room;
 
-#[cfg(test)]
-mod tests;
-
 // The status comes from a thread with that stack. Where that has no room, memory has ended before the call.
 fn main(rt: HostRuntime) -> ExitCode {
     if !has_room(rt.alloc(), STACK) {

@@ -15,11 +15,11 @@ pub use verdict_book::status;
 #[cfg(test)]
 mod failure_tests;
 #[cfg(test)]
+mod file_rows;
+#[cfg(test)]
 mod front_tests;
 #[cfg(test)]
-mod make_tests;
-#[cfg(test)]
-mod rule_tests;
+mod rule_rows;
 #[cfg(test)]
 mod tests;
 #[cfg(test)]

@@ -1,307 +1,242 @@
-//! Whole reports.
+//! Whole reports: what the program is asked, and what it answers.
 ghost use Rattle.std.specs.Prelude.{◌<◌};
 
-use crate::{NoGate, run};
-use dk_io::{Book, MemShelf, MemSink};
+use crate::file_rows::{ASKED, FILES, LONG, MADE};
+use crate::rule_rows::RULES;
+use crate::{NoGate, run, run_with};
+use board_core::Gate;
+use dk_io::{Book, MemShelf, MemSink, NoMemory};
+use dk_model::Limits;
 use std::alloc::Global;
+use std::sync::Wait;
 use std::test::Fail;
+use std::thread::Threads;
 
-// A file's text, the status and the report, under the words `check f.dk`.
-const FILES: [(&str, u8, &str); 57] = [
-    ("", 0, "accepted 0\n"),
-    ("nat : Type.", 0, "ok 1 nat\naccepted 1\n"),
-    (
-        "nat : Type. z : nat. thm t : nat := z.",
-        0,
-        "ok 1 nat\nok 2 z\nok 3 t\naccepted 3\n",
-    ),
-    (
-        "a : Type. b : Type. x : a. thm t : b := x.",
-        1,
-        "ok 1 a\nok 2 b\nok 3 x\nrefused 4 line 1 E21\n",
-    ),
-    ("thm t : Type := Type.", 1, "refused 1 line 1 E21\n"),
-    ("a : Type. a : Type.", 1, "ok 1 a\nrefused 2 line 1 E11\n"),
-    (
-        "{|x y|} : Type. {|x y|} : Type.",
-        1,
-        "ok 1 {|x y|}\nrefused 2 line 1 E11\n",
-    ),
-    ("thm t : a := x. a : Type.", 1, "refused 1 line 1 E10\n"),
-    ("a : Type.\n\nb : c.", 1, "ok 1 a\nrefused 2 line 3 E10\n"),
-    ("a : Type. a.b : Type.", 1, "ok 1 a\nrefused 2 line 1 E02\n"),
-    ("a $ b.", 1, "refused 1 line 1 E01\n"),
-    (".", 1, "refused 1 line 1 E02\n"),
-    ("#NAME m.", 1, "refused 1 line 1 E06\n"),
-    ("x : _.", 1, "refused 1 line 1 E12\n"),
-    ("x : m.a.", 1, "refused 1 line 1 E10\n"),
-    (
-        "nat : Type. z : nat. x : z.",
-        1,
-        "ok 1 nat\nok 2 z\nrefused 3 line 1 E22\n",
-    ),
-    ("nat : Type", 1, "refused 1 line 1 E03\n"),
-    ("nat : Type. (; x", 1, "ok 1 nat\nrefused 2 line 1 E03\n"),
-    ("(; one (; two ;) ;) a : Type.", 0, "ok 1 a\naccepted 1\n"),
-    // The first fault in the file, not a later one.
-    (
-        "a : Type. b : Type. x : a. thm t : b := x. c c.",
-        1,
-        "ok 1 a\nok 2 b\nok 3 x\nrefused 4 line 1 E21\n",
-    ),
-    (
-        "a : Type.\n(; b\n ;) x :\n ).",
-        1,
-        "ok 1 a\nrefused 2 line 3 E02\n",
-    ),
-    ("a : Type.\n\n (; b", 1, "ok 1 a\nrefused 2 line 3 E03\n"),
-    ("a : Type.\n\n $", 1, "ok 1 a\nrefused 2 line 3 E01\n"),
-    ("a : Type.\r\nb : a.\r\n", 0, "ok 1 a\nok 2 b\naccepted 2\n"),
-    ("x : ((Type)).", 0, "ok 1 x\naccepted 1\n"),
-    ("x : (Type.", 1, "refused 1 line 1 E02\n"),
-    ("thm t : Type.", 1, "refused 1 line 1 E02\n"),
-    (
-        "a : Type. thm t : Type := a.",
-        0,
-        "ok 1 a\nok 2 t\naccepted 2\n",
-    ),
-    (
-        "a : Type. thm t : Type := a. x : t.",
-        0,
-        "ok 1 a\nok 2 t\nok 3 x\naccepted 3\n",
-    ),
-    (
-        "a : Type. thm t : Type := a. x : a. thm u : t := x.",
-        1,
-        "ok 1 a\nok 2 t\nok 3 x\nrefused 4 line 1 E21\n",
-    ),
-    (
-        "nat : Type. z : nat. s : nat -> nat. thm t : nat := s (s z).",
-        0,
-        "ok 1 nat\nok 2 z\nok 3 s\nok 4 t\naccepted 4\n",
-    ),
-    (
-        "a : Type. f : x : a -> a. g : (x : a) -> a. x : a. thm t : a := f (g x).",
-        0,
-        "ok 1 a\nok 2 f\nok 3 g\nok 4 x\nok 5 t\naccepted 5\n",
-    ),
-    (
-        "a : Type. x : a. thm t : a := (y : a => y) x.",
-        0,
-        "ok 1 a\nok 2 x\nok 3 t\naccepted 3\n",
-    ),
-    (
-        "nat : Type. z : nat. thm t : nat := z z.",
-        1,
-        "ok 1 nat\nok 2 z\nrefused 3 line 1 E20\n",
-    ),
-    (
-        "a : Type. P : a -> Type. x : a. y : a. p : P x. thm t : P y := p.",
-        1,
-        "ok 1 a\nok 2 P\nok 3 x\nok 4 y\nok 5 p\nrefused 6 line 1 E21\n",
-    ),
-    (
-        "nat : Type. thm t : nat := x : nat => x.",
-        1,
-        "ok 1 nat\nrefused 2 line 1 E24\n",
-    ),
-    (
-        "nat : Type. z : nat. thm t : nat := (x : nat => Type) z.",
-        1,
-        "ok 1 nat\nok 2 z\nrefused 3 line 1 E25\n",
-    ),
-    ("x : Type Type.", 1, "refused 1 line 1 E20\n"),
-    ("x : Type -> Type.", 1, "refused 1 line 1 E22\n"),
-    (
-        "a : Type. def id (x : a) : a := x. c : a. thm t : a := id c.",
-        0,
-        "ok 1 a\nok 2 id\nok 3 c\nok 4 t\naccepted 4\n",
-    ),
-    (
-        "a : Type. def b : Type := a. x : a. thm t : b := x.",
-        0,
-        "ok 1 a\nok 2 b\nok 3 x\nok 4 t\naccepted 4\n",
-    ),
-    (
-        "a : Type. thm b : Type := a. x : a. thm t : b := x.",
-        1,
-        "ok 1 a\nok 2 b\nok 3 x\nrefused 4 line 1 E21\n",
-    ),
-    (
-        "a : Type. x : a. def y := x.",
-        0,
-        "ok 1 a\nok 2 x\nok 3 y\naccepted 3\n",
-    ),
-    ("def id := x => x.", 1, "refused 1 line 1 E23\n"),
-    (
-        "nat : Type. thm t : nat := x => x.",
-        1,
-        "ok 1 nat\nrefused 2 line 1 E24\n",
-    ),
-    (
-        "nat : Type. def f := x : nat => Type.",
-        1,
-        "ok 1 nat\nrefused 2 line 1 E25\n",
-    ),
-    (
-        "a : Type. P : a -> Type. def f (p : P x) (x : a) : a := x.",
-        1,
-        "ok 1 a\nok 2 P\nrefused 3 line 1 E10\n",
-    ),
-    (
-        "a : Type. def f : a := f.",
-        1,
-        "ok 1 a\nrefused 2 line 1 E10\n",
-    ),
-    (
-        "a : Type. def f : Type. x : a. thm t : f := x. [] f --> a.",
-        1,
-        "ok 1 a\nok 2 f\nok 3 x\nrefused 4 line 1 E21\n",
-    ),
-    (
-        "a : Type. def f : Type. x : a. [] f --> a. thm t : f := x.",
-        0,
-        "ok 1 a\nok 2 f\nok 3 x\nok 4 f\nok 5 t\naccepted 5\n",
-    ),
-    (
-        "a : Type. f : (x : a) -> a. def g (x : a) : a := f x. {g_rule} [x : a] g x --> x.",
-        0,
-        "ok 1 a\nok 2 f\nok 3 g\nok 4 g\naccepted 4\n",
-    ),
-    (
-        "nat : Type. z : nat. x : nat. a : Type. b : Type. ca : a. cb : b. def f : nat -> Type. [] f z --> a [n] f n --> b. thm t1 : f z := ca. thm t2 : f x := cb. thm t3 : f z := cb.",
-        1,
-        "ok 1 nat\nok 2 z\nok 3 x\nok 4 a\nok 5 b\nok 6 ca\nok 7 cb\nok 8 f\nok 9 f\nok 10 t1\nok 11 t2\nrefused 12 line 1 E21\n",
-    ),
-    ("[x, x] f x --> x.", 1, "refused 1 line 1 E13\n"),
-    ("z : Type. [] z --> z.", 1, "ok 1 z\nrefused 2 line 1 E30\n"),
-    (
-        "o : Type. [x] x --> o.",
-        1,
-        "ok 1 o\nrefused 2 line 1 E31\n",
-    ),
-    (
-        "o : Type. def f : (o -> o) -> o. [F] f (x => F x x) --> F.",
-        1,
-        "ok 1 o\nok 2 f\nrefused 3 line 1 E32\n",
-    ),
-    (
-        "o : Type. def f : o -> o. [x, y] f x --> y.",
-        1,
-        "ok 1 o\nok 2 f\nrefused 3 line 1 E33\n",
-    ),
-];
-
-pub(crate) fn shelf_of(
-    alloc: Global,
-    text: &str,
-    piece: usize,
-    failing: &[u64],
-) -> Result<MemShelf, Fail>
-    requires { 0 < piece }
-{
-    shelf_with(alloc, text.as_bytes(), piece, failing)
+/// What the program is asked over a shelf with the book `f.dk`, and what it answers.
+#[derive(Clone, Copy)]
+pub(crate) struct Row<'a> {
+    /// The words behind the program's name.
+    pub(crate) words: &'a str,
+    pub(crate) text: &'a [u8],
+    /// The most bytes of a read, and the shelf's call that fails (0: none). Its first call is the opening.
+    pub(crate) piece: usize,
+    pub(crate) shelf_call: u64,
+    /// The most bytes of a write, and the sink's call that fails (0: none).
+    pub(crate) sink_piece: usize,
+    pub(crate) sink_call: u64,
+    pub(crate) status: u8,
+    /// What the sink has taken.
+    pub(crate) taken: &'a [u8],
 }
 
-pub(crate) fn shelf_with(
-    alloc: Global,
-    bytes: &[u8],
-    piece: usize,
-    failing: &[u64],
-) -> Result<MemShelf, Fail>
-    requires { 0 < piece }
+/// An empty file.
+pub(crate) const EMPTY: Row<'static> = Row {
+    words: "check f.dk",
+    text: b"",
+    piece: 4096,
+    shelf_call: 0,
+    sink_piece: 4096,
+    sink_call: 0,
+    status: 0,
+    taken: b"accepted 0\n",
+};
+
+fn shelf_of(alloc: Global, row: &Row<'_>) -> Result<MemShelf, NoMemory>
+    requires { 0 < row.piece }
 {
     let book = Book {
         name: String::from_str(alloc, "f.dk")?,
-        bytes: Vec::from_slice(alloc, bytes)?,
+        bytes: Vec::from_slice(alloc, row.text)?,
     };
     let mut books = Vec::new(alloc);
     books.push(book)?;
-    Ok(MemShelf::new(alloc, books, piece, Vec::from_slice(alloc, failing)?)?)
+    let failing = Vec::from_slice(alloc, &[row.shelf_call])?;
+    MemShelf::new(alloc, books, row.piece, failing)
 }
 
-pub(crate) fn words_of(alloc: Global, words: &[&str]) -> Result<Vec<String>, Fail> {
-    let mut all = Vec::new(alloc);
-    all.push(String::from_str(alloc, "dk_check")?)?;
-    for word in words {
-        all.push(String::from_str(alloc, word)?)?;
+fn sink_of(alloc: Global, row: &Row<'_>) -> Result<MemSink, NoMemory>
+    requires { 0 < row.sink_piece }
+{
+    let failing = Vec::from_slice(alloc, &[row.sink_call])?;
+    MemSink::new(alloc, 1000, row.sink_piece, failing)
+}
+
+/// The words of a line, between its spaces, behind the program's name.
+fn words_of(alloc: Global, line: &str) -> Result<Vec<String>, NoMemory> {
+    let mut words = Vec::new(alloc);
+    words.push(String::from_str(alloc, "dk_check")?)?;
+    for word in line.split_whitespace() {
+        words.push(String::from_str(alloc, word)?)?;
     }
-    Ok(all)
+    Ok(words)
+}
+
+/// Whether `run` answers a row.
+pub(crate) fn is_answered<R: Threads + Wait + Sync, G: Gate + Sync>(
+    rt: &R,
+    alloc: Global,
+    row: &Row<'_>,
+    gate: &G,
+) -> Result<bool, NoMemory> {
+    if row.piece == 0 || row.sink_piece == 0 {
+        return Ok(false);
+    }
+    let words = words_of(alloc, row.words)?;
+    let mut shelf = shelf_of(alloc, row)?;
+    let mut sink = sink_of(alloc, row)?;
+    let status = run(rt, alloc, words.as_slice(), &mut shelf, &mut sink, gate);
+    Ok(status == row.status && sink.bytes() == row.taken)
+}
+
+/// The first file whose report isn't the one that is due.
+fn first_file<R: Threads + Wait + Sync>(
+    rt: &R,
+    alloc: Global,
+) -> Result<Option<&'static str>, NoMemory> {
+    for (text, status, report) in &FILES {
+        let row = Row {
+            text: text.as_bytes(),
+            status: *status,
+            taken: report.as_bytes(),
+            ..EMPTY
+        };
+        if !is_answered(rt, alloc, &row, &NoGate)? {
+            return Ok(Some(*text));
+        }
+    }
+    Ok(None)
+}
+
+/// The first of these rows with words that isn't answered as it is due.
+fn first_asked<R: Threads + Wait + Sync>(
+    rt: &R,
+    alloc: Global,
+    rows: &[(&'static str, &'static str, u8, &'static str)],
+) -> Result<Option<&'static str>, NoMemory> {
+    for (text, words, status, report) in rows {
+        let row = Row {
+            words: *words,
+            text: text.as_bytes(),
+            status: *status,
+            taken: report.as_bytes(),
+            ..EMPTY
+        };
+        if !is_answered(rt, alloc, &row, &NoGate)? {
+            return Ok(Some(*words));
+        }
+    }
+    Ok(None)
+}
+
+fn repeated(alloc: Global, parts: &[(&str, u32)]) -> Result<String, NoMemory> {
+    let mut text = String::new(alloc);
+    for (part, times) in parts {
+        for _ in 0..*times {
+            text.push_str(part)?;
+        }
+    }
+    Ok(text)
+}
+
+/// The first long text whose last line isn't the one that is due.
+fn first_long<R: Threads + Wait + Sync>(
+    rt: &R,
+    alloc: Global,
+) -> Result<Option<&'static str>, NoMemory> {
+    for (parts, status, last) in &LONG {
+        let text = repeated(alloc, parts.as_slice())?;
+        let row = Row {
+            words: "check --quiet f.dk",
+            text: text.as_str().as_bytes(),
+            status: *status,
+            taken: last.as_bytes(),
+            ..EMPTY
+        };
+        if !is_answered(rt, alloc, &row, &NoGate)? {
+            return Ok(Some(*last));
+        }
+    }
+    Ok(None)
 }
 
 #[test]
 fn reports_each_file(rt: HostRuntime) -> Result<(), Fail> {
-    let alloc = rt.alloc();
-    let words = words_of(alloc, &["check", "f.dk"])?;
-    for (text, status, report) in &FILES {
-        let mut shelf = shelf_of(alloc, text, 4096, &[])?;
-        let mut sink = MemSink::new(alloc, 1000, 4096, Vec::new(alloc))?;
-        let got = run(&rt, alloc, words.as_slice(), &mut shelf, &mut sink, &NoGate);
-        assert_eq!(rt; sink.bytes(), report.as_bytes(), "at {text}");
-        assert_eq!(rt; got, *status, "at {text}");
-    }
+    let files = first_file(&rt, rt.alloc())?;
+    let asked = first_asked(&rt, rt.alloc(), &ASKED)?;
+    let rules = first_asked(&rt, rt.alloc(), &RULES)?;
+    let made = first_asked(&rt, rt.alloc(), &MADE)?;
+    let long = first_long(&rt, rt.alloc())?;
+    assert_eq!(rt;
+        [files, asked, rules, made, long],
+        [None; 5],
+        "of the files"
+    );
     Ok(())
 }
 
-// A file's text, the budget, the status and the report.
-const BUDGETS: [(&str, &str, u8, &str); 7] = [
-    (
-        "nat : Type. z : nat. thm t : nat := z.",
-        "--budget=2",
-        0,
-        "ok 1 nat\nok 2 z\nok 3 t\naccepted 3\n",
-    ),
-    (
-        "nat : Type. z : nat. thm t : nat := z.",
-        "--budget=1",
-        6,
-        "ok 1 nat\nok 2 z\nbudget 3 line 1 1\n",
-    ),
-    (
-        "a : Type. def b : Type := a. x : a. thm t : b := x.",
-        "--budget=5",
-        0,
-        "ok 1 a\nok 2 b\nok 3 x\nok 4 t\naccepted 4\n",
-    ),
-    (
-        "a : Type. def b : Type := a. x : a. thm t : b := x.",
-        "--budget=4",
-        6,
-        "ok 1 a\nok 2 b\nok 3 x\nbudget 4 line 1 4\n",
-    ),
-    (
-        "def c : Type. [] c --> c. a : Type. x : a. thm t : c := x.",
-        "--budget=1000",
-        6,
-        "ok 1 c\nok 2 c\nok 3 a\nok 4 x\nbudget 5 line 1 1000\n",
-    ),
-    (
-        NUMBERS,
-        "--budget=55",
-        0,
-        "ok 1 nat\nok 2 z\nok 3 s\nok 4 plus\nok 5 plus\nok 6 eq\nok 7 refl\nok 8 two\naccepted 8\n",
-    ),
-    (
-        NUMBERS,
-        "--budget=54",
-        6,
-        "ok 1 nat\nok 2 z\nok 3 s\nok 4 plus\nok 5 plus\nok 6 eq\nok 7 refl\nbudget 8 line 9 54\n",
-    ),
-];
+// Limits, a text that goes past one of them, and the report.
+fn small_limits() -> [(Limits, &'static str, &'static str); 5] {
+    let mut commands = Limits::standard();
+    commands.commands = 2;
+    let mut input = Limits::standard();
+    input.input_bytes = 10;
+    let mut command = Limits::standard();
+    command.command_bytes = 8;
+    let mut name = Limits::standard();
+    name.name_bytes = 9;
+    let mut levels = Limits::standard();
+    levels.levels = 2;
+    [
+        (
+            commands,
+            "a : Type. b : Type. c : Type.",
+            "ok 1 a\nok 2 b\nrefused 3 line 1 E08\n",
+        ),
+        (input, "a : Type. b", "ok 1 a\nrefused 2 line 1 E07\n"),
+        (command, "a : Type.", "refused 1 line 1 E05\n"),
+        (name, "abcdefghij : Type.", "refused 1 line 1 E05\n"),
+        (levels, "x : (((Type))).", "refused 1 line 1 E04\n"),
+    ]
+}
 
-pub(crate) const NUMBERS: &str =
-    "nat : Type.\nz : nat.\ns : nat -> nat.\ndef plus : nat -> nat -> nat.\n[n] plus z n --> n\n[m, n] plus (s m) n --> s (plus m n).\neq : nat -> nat -> Type.\nrefl : n : nat -> eq n n.\nthm two : eq (plus (s (s z)) (s (s z))) (s (s (s (s z)))) := refl (s (s (s (s z)))).\n";
+/// Whether the file is refused with this report, within these limits.
+fn is_limited<R: Threads + Wait + Sync>(
+    rt: &R,
+    alloc: Global,
+    limits: Limits,
+    row: &Row<'_>,
+) -> Result<bool, NoMemory>
+    requires { limits.commands < 4294967294 }
+{
+    if row.piece == 0 || row.sink_piece == 0 {
+        return Ok(false);
+    }
+    let words = words_of(alloc, row.words)?;
+    let mut shelf = shelf_of(alloc, row)?;
+    let mut sink = sink_of(alloc, row)?;
+    let status = run_with(
+        rt,
+        alloc,
+        limits,
+        words.as_slice(),
+        &mut shelf,
+        &mut sink,
+        &NoGate,
+    );
+    Ok(status == row.status && sink.bytes() == row.taken)
+}
 
 #[test]
-fn counts_units(rt: HostRuntime) -> Result<(), Fail> {
-    let alloc = rt.alloc();
-    for (text, budget, status, report) in &BUDGETS {
-        let words = words_of(alloc, &["check", budget, "f.dk"])?;
-        let mut shelf = shelf_of(alloc, text, 4096, &[])?;
-        let mut sink = MemSink::new(alloc, 1000, 4096, Vec::new(alloc))?;
-        let got = run(&rt, alloc, words.as_slice(), &mut shelf, &mut sink, &NoGate);
-        assert_eq!(rt; sink.bytes(), report.as_bytes(), "at {budget} of {text}");
-        assert_eq!(rt; got, *status, "at {budget} of {text}");
+fn keeps_to_small_limits(rt: HostRuntime) -> Result<(), Fail> {
+    for (limits, text, report) in small_limits() {
+        let row = Row {
+            text: text.as_bytes(),
+            status: 1,
+            taken: report.as_bytes(),
+            ..EMPTY
+        };
+        let is_due = limits.commands < 4294967294 && is_limited(&rt, rt.alloc(), limits, &row)?;
+        assert!(rt; is_due, "at {text}");
     }
     Ok(())
 }

@@ -1,8 +1,8 @@
 //! The same answers from any number of workers, and checks that run beside each other.
-use crate::tests::{shelf_of, words_of};
-use crate::{NoGate, run};
+use crate::NoGate;
+use crate::tests::{EMPTY, Row, is_answered};
 use board_core::Gate;
-use dk_io::MemSink;
+use dk_io::NoMemory;
 use std::alloc::Global;
 use std::sync::Wait;
 use std::sync::atomic::{AtomicU64, Ordering};
@@ -11,7 +11,7 @@ use std::thread;
 use std::thread::Threads;
 
 // A file's text, the shelf's call that fails (0: none), the status and the report, for every number of workers.
-const ROWS: [(&str, u64, u8, &str); 8] = [
+const ROWS: [(&str, u64, u8, &str); 10] = [
     (
         "a : Type. b : Type. x : a. thm t : b := x. c c.",
         0,
@@ -64,20 +64,53 @@ const ROWS: [(&str, u64, u8, &str); 8] = [
         1,
         "ok 1 a\nok 2 f\nok 3 x\nrefused 4 line 1 E21\n",
     ),
+    // A rule without an end.
+    (
+        "def c : Type. [] c --> c. a : Type. x : a. thm t : c := x.",
+        0,
+        6,
+        "ok 1 c\nok 2 c\nok 3 a\nok 4 x\nbudget 5 line 1 1000\n",
+    ),
+    // The rules overlap, and their order decides.
+    (
+        "nat : Type. z : nat. x : nat. a : Type. b : Type. ca : a. cb : b. def f : nat -> Type. [] f z --> a [n] f n --> b. thm t1 : f z := ca. thm t2 : f x := cb. thm t3 : f z := cb.",
+        0,
+        1,
+        "ok 1 nat\nok 2 z\nok 3 x\nok 4 a\nok 5 b\nok 6 ca\nok 7 cb\nok 8 f\nok 9 f\nok 10 t1\nok 11 t2\nrefused 12 line 1 E21\n",
+    ),
 ];
+
+/// The first file that isn't answered as it is due under these words.
+fn first_wrong<R: Threads + Wait + Sync>(
+    rt: &R,
+    alloc: Global,
+    words: &str,
+) -> Result<Option<&'static str>, NoMemory> {
+    for (text, shelf_call, status, report) in &ROWS {
+        let row = Row {
+            words,
+            text: text.as_bytes(),
+            shelf_call: *shelf_call,
+            status: *status,
+            taken: report.as_bytes(),
+            ..EMPTY
+        };
+        if !is_answered(rt, alloc, &row, &NoGate)? {
+            return Ok(Some(*text));
+        }
+    }
+    Ok(None)
+}
 
 #[test]
 fn reports_the_same_for_any_workers(rt: HostRuntime) -> Result<(), Fail> {
-    let alloc = rt.alloc();
-    for workers in ["--workers=1", "--workers=2", "--workers=8", "--workers=64"] {
-        let words = words_of(alloc, &["check", workers, "f.dk"])?;
-        for (text, failing, status, report) in &ROWS {
-            let mut shelf = shelf_of(alloc, text, 4096, &[*failing])?;
-            let mut sink = MemSink::new(alloc, 1000, 4096, Vec::new(alloc))?;
-            let got = run(&rt, alloc, words.as_slice(), &mut shelf, &mut sink, &NoGate);
-            assert_eq!(rt; sink.bytes(), report.as_bytes(), "at {workers} of {text}");
-            assert_eq!(rt; got, *status, "at {workers} of {text}");
-        }
+    for words in [
+        "check --budget=1000 --workers=1 f.dk",
+        "check --budget=1000 --workers=2 f.dk",
+        "check --budget=1000 --workers=8 f.dk",
+        "check --budget=1000 --workers=64 f.dk",
+    ] {
+        assert_eq!(rt; first_wrong(&rt, rt.alloc(), words)?, None, "of {words}");
     }
     Ok(())
 }
@@ -115,63 +148,55 @@ impl Gate for Held {
     }
 }
 
-// What a check by two workers comes to, where the check of one job waits until that of another is done.
-#[derive(Drop)]
-struct HeldUp {
-    status: u8,
-    is_reported: bool,
-    was_second_done: bool,
-}
-
-fn held_up<R: Threads + Wait + Sync>(
+/// Whether a check by two workers, where that of one job waits until that of another is done, is answered as it is due and
+/// saw that.
+fn is_held_up<R: Threads + Wait + Sync>(
     rt: &R,
     alloc: Global,
-    text: &str,
+    row: &Row<'_>,
     first: u32,
     second: u32,
-    report: &str,
-) -> Result<HeldUp, Fail> {
-    let words = words_of(alloc, &["check", "--workers=2", "f.dk"])?;
+) -> Result<bool, NoMemory> {
     let gate = Held {
         first,
         second,
         left: AtomicU64::new(0),
         seen: AtomicU64::new(0),
     };
-    let mut shelf = shelf_of(alloc, text, 4096, &[])?;
-    let mut sink = MemSink::new(alloc, 1000, 4096, Vec::new(alloc))?;
-    let status = run(rt, alloc, words.as_slice(), &mut shelf, &mut sink, &gate);
-    Ok(HeldUp {
-        status,
-        is_reported: sink.bytes() == report.as_bytes(),
-        was_second_done: gate.seen.load(Ordering::SeqCst) == 1,
-    })
+    Ok(is_answered(rt, alloc, row, &gate)? && gate.seen.load(Ordering::SeqCst) == 1)
 }
 
-// The check of the first theorem waits until that of the second is done.
+// The check of the first theorem waits until that of the second is done; then a fault that comes first in the file is found
+// last.
 #[test]
 fn gate_holds_first(rt: HostRuntime) -> Result<(), Fail> {
-    let text = "a : Type. x : a. thm t : a := x. thm u : a := x.";
-    let report = "ok 1 a\nok 2 x\nok 3 t\nok 4 u\naccepted 4\n";
-    let held = held_up(&rt, rt.alloc(), text, 3, 4, report)?;
-    assert!(rt; held.is_reported && held.status == 0);
-    assert!(rt;
-        held.was_second_done,
-        "the second check ended while the first was held up"
-    );
-    Ok(())
-}
-
-// The fault that comes first in the file is found last.
-#[test]
-fn reports_the_first_fault_that_is_found_last(rt: HostRuntime) -> Result<(), Fail> {
-    let text = "a : Type. b : Type. x : a. thm t : b := x. thm u : a := b.";
-    let report = "ok 1 a\nok 2 b\nok 3 x\nrefused 4 line 1 E21\n";
-    let held = held_up(&rt, rt.alloc(), text, 4, 5, report)?;
-    assert!(rt; held.is_reported && held.status == 1);
-    assert!(rt;
-        held.was_second_done,
-        "the later fault was found while the first was held up"
-    );
+    for (text, first, second, status, taken) in [
+        (
+            b"a : Type. x : a. thm t : a := x. thm u : a := x.".as_slice(),
+            3,
+            4,
+            0,
+            b"ok 1 a\nok 2 x\nok 3 t\nok 4 u\naccepted 4\n".as_slice(),
+        ),
+        (
+            b"a : Type. b : Type. x : a. thm t : b := x. thm u : a := b.".as_slice(),
+            4,
+            5,
+            1,
+            b"ok 1 a\nok 2 b\nok 3 x\nrefused 4 line 1 E21\n".as_slice(),
+        ),
+    ] {
+        let row = Row {
+            words: "check --workers=2 f.dk",
+            text,
+            status,
+            taken,
+            ..EMPTY
+        };
+        assert!(rt;
+            is_held_up(&rt, rt.alloc(), &row, first, second)?,
+            "at {first}"
+        );
+    }
     Ok(())
 }
