@@ -67,8 +67,10 @@ fn report_of_byte(byte: u8) -> (u8, &'static str) {
 fn first_byte<R: Threads + Wait + Sync>(rt: &R, alloc: Global) -> Result<Option<u8>, NoMemory> {
     for byte in 0..=255u8 {
         let (status, report) = report_of_byte(byte);
+        let text = Vec::from_slice(alloc, &[byte])?;
         let row = Row {
-            text: &[byte],
+            words: "check f.dk",
+            text: text.as_slice(),
             status,
             taken: report.as_bytes(),
             ..EMPTY

@@ -42,7 +42,7 @@ pub(crate) const EMPTY: Row<'static> = Row {
 };
 
 fn shelf_of(alloc: Global, row: &Row<'_>) -> Result<MemShelf, NoMemory>
-    requires { 0 < row.piece }
+    requires { 0 < row.now.piece }
 {
     let book = Book {
         name: String::from_str(alloc, "f.dk")?,
@@ -55,7 +55,7 @@ fn shelf_of(alloc: Global, row: &Row<'_>) -> Result<MemShelf, NoMemory>
 }
 
 fn sink_of(alloc: Global, row: &Row<'_>) -> Result<MemSink, NoMemory>
-    requires { 0 < row.sink_piece }
+    requires { 0 < row.now.sink_piece }
 {
     let failing = Vec::from_slice(alloc, &[row.sink_call])?;
     MemSink::new(alloc, 1000, row.sink_piece, failing)
