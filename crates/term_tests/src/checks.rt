@@ -84,6 +84,47 @@ fn is_shaped(
     }
 }
 
+/// Whether all ways come to what a command added, or to its verdict.
+fn are_alike(
+    alloc: Global,
+    version: &Version,
+    command: &Scoped,
+    budget: u64,
+    entered: &Result<Entry<Stored>, Verdict>,
+) -> Result<bool, NoMemory> {
+    let due = verdict_of(entered);
+    Ok(
+        is_verdict_of_trees(alloc, version, command, budget, due)?
+            && is_inferred(alloc, version, command, budget, entered)?
+            && is_shaped(alloc, version, command, due)?,
+    )
+}
+
+/// What comes behind a command.
+#[derive(Drop)]
+enum Next {
+    Version(Version),
+    Ends(Verdict),
+    Differs,
+}
+
+fn next_of(
+    alloc: Global,
+    terms: &mut PoolReducer,
+    version: &Version,
+    command: &Scoped,
+    budget: u64,
+) -> Result<Next, NoMemory> {
+    let entered = entered(terms, version, command, budget);
+    if !are_alike(alloc, version, command, budget, &entered)? {
+        return Ok(Next::Differs);
+    }
+    match entered {
+        Ok(entry) => Ok(Next::Version(with(alloc, version, entry)?)),
+        Err(verdict) => Ok(Next::Ends(verdict)),
+    }
+}
+
 /// The number of the first command that isn't accepted, and its verdict; or how many there are. Where the ways differ the
 /// number is 0.
 fn outcome(alloc: Global, commands: &[Scoped], budget: u64) -> Result<(usize, Verdict), NoMemory> {
@@ -92,17 +133,10 @@ fn outcome(alloc: Global, commands: &[Scoped], budget: u64) -> Result<(usize, Ve
     let mut number = 0usize;
     for command in commands {
         number = number.wrapping_add(1);
-        let entered = entered(&mut terms, &version, command, budget);
-        let due = verdict_of(&entered);
-        if !is_verdict_of_trees(alloc, &version, command, budget, due)?
-            || !is_inferred(alloc, &version, command, budget, &entered)?
-            || !is_shaped(alloc, &version, command, due)?
-        {
-            return Ok((0, due));
-        }
-        match entered {
-            Ok(entry) => version = with(alloc, &version, entry)?,
-            Err(verdict) => return Ok((number, verdict)),
+        match next_of(alloc, &mut terms, &version, command, budget)? {
+            Next::Version(next) => version = next,
+            Next::Ends(verdict) => return Ok((number, verdict)),
+            Next::Differs => return Ok((0, Verdict::Accepted)),
         }
     }
     Ok((number, Verdict::Accepted))
