@@ -1,4 +1,5 @@
-"""The files that are too large to store: each is made anew, by a formula, where a case needs it."""
+"""The files that are too large to store, and the folders of many files: each is made anew, by a formula, where a case needs it."""
+import os
 
 COMMAND = 16777216
 NAME = 255
@@ -42,6 +43,25 @@ def levels_of(levels, head, arguments, argument):
     return b'(' * levels + head + ((b' ' + argument) * arguments + b')') * levels
 
 
+def chain(files, last):
+    """So many files, each of which needs the next one, from main.dk on; and the text of the last one."""
+    texts = {'main.dk': b'x : Type.\ny : m1.a.\n'}
+    texts.update({'m%d.dk' % at: b'b : m%d.a.\na : Type.\n' % (at + 1) for at in range(1, files - 1)})
+    texts['m%d.dk' % (files - 1)] = last
+    return texts
+
+
+def side_by_side(modules, main):
+    """So many modules with a declaration each, and main.dk."""
+    texts = {'m%d.dk' % at: b'a : Type.\n' for at in range(1, modules + 1)}
+    texts['main.dk'] = main
+    return texts
+
+
+def requires(modules):
+    return b''.join(b'#REQUIRE m%d.\n' % at for at in range(1, modules + 1))
+
+
 FILES = {
     'brackets_1000': lambda: b'x : ' + b'(' * 1000 + b'Type' + b')' * 1000 + b'.\n',
     'brackets_1001': lambda: b'x : ' + b'(' * 1001 + b'Type' + b')' * 1001 + b'.\n',
@@ -74,13 +94,37 @@ FILES = {
                                               + levels_of(100, b'f', 1000, b'z') + b'.\n'),
     'left_arguments_of_900_levels': lambda: (b'a : Type. z : a. def f : a -> a.\n[] ' + levels_of(900, b'f', 1000, b'z')
                                              + b' --> z.\n'),
+    'module_name_255': lambda: {'main.dk': b'a : Type.\nx : ' + b'm' * NAME + b'.' + b'n' * NAME + b'.\n'},
+    'files_64': lambda: chain(64, b'a : Type.\n'),
+    'files_65': lambda: chain(65, b'a : Type.\n'),
+    'files_64_missing': lambda: chain(64, b'b : Type.\na : gone.b.\n'),
+    'files_64_open': lambda: chain(64, b'b : Type.\na : m7.b.\n'),
+    'files_64_read': lambda: {**chain(64, b'c : early.b.\na : Type.\n'), 'main.dk': b'#REQUIRE early.\nx : Type.\n#REQUIRE m1.\ny : m63.a.\n',
+                              'early.dk': b'b : Type.\n'},
+    'modules_1000': lambda: side_by_side(1000, requires(1000) + b'#REQUIRE m1.\nx : Type.\ny : m1000.a -> main.x.\n'),
+    'modules_1001': lambda: side_by_side(1001, requires(1000) + b'x : m1.a.\ny : m2.a -> m1001.a.\n'),
+    'modules_1001_missing': lambda: side_by_side(1000, requires(1000) + b'#REQUIRE gone.\n'),
+    'modules_1001_below': lambda: {**side_by_side(1000, requires(999) + b'x : m1000.b.\n'), 'm1000.dk': b'a : Type.\n\nb : m1.a -> extra.a.\n',
+                                   'extra.dk': b'a : Type.\n'},
+    'modules_1001_and_files_65': lambda: {**chain(64, b'a : extra.a.\n'), **{'n%d.dk' % at: b'' for at in range(937)},
+                                          'main.dk': b''.join(b'#REQUIRE n%d.' % at for at in range(937)) + b'\nx : m1.a.\n'},
+    'odd_modules': lambda: {'main.dk': b"x : 0.a.\ny : m'.a.\nz : !?.a.\nw : __.a.\n",
+                            **{name + '.dk': b'a : Type.\nx : a.\n' for name in ('0', "m'", '!?', '__')}},
+    'small_and_large': lambda: {'main.dk': b'x : m.a.\ny : M.b.\n', 'm.dk': b'a : Type.\n', 'M.dk': b'b : Type.\n'},
+    'folder_names': lambda: {'with blank/\u2115/main.dk': b'x : m.a.\n', 'with blank/\u2115/m.dk': b'a : Type.\nb : a.\nb : a.\n'},
+    'commands_past_limit_in_modules': lambda: {'main.dk': b'x : Type.\n#REQUIRE m.\n#NAME late.\n(; 1,048,577 ;)\ny : m.x1.\n', 'm.dk': commands(COMMANDS - 1)},
     'patterns_1001': lambda: b'a : Type.\nx : a.\ndef f : a -> a.\n[] f' + b' x' * 1001 + b' --> x.\n',
 }
-LARGE = {'made:' + name for name in ('command_at_limit', 'command_past_limit', 'commands_at_limit', 'commands_past_limit',
-                                     'arguments_of_1000_levels', 'left_arguments_of_900_levels')}
+LARGE = {'command_at_limit', 'command_past_limit', 'commands_at_limit', 'commands_past_limit', 'commands_past_limit_in_modules',
+         'arguments_of_1000_levels', 'left_arguments_of_900_levels'}
 
 
-def write(name, path):
-    """Writes the made file of that name to a path."""
-    with open(path, 'wb') as file:
-        file.write(FILES[name]())
+def write(name, folder):
+    """Writes the made file of that name, or the made folder with its files, into a folder."""
+    text = FILES[name]()
+    texts = {name + '.dk': text} if isinstance(text, bytes) else {name + '/' + file: it for file, it in text.items()}
+    for file, it in texts.items():
+        path = os.path.join(folder, file)
+        os.makedirs(os.path.dirname(path), exist_ok=True)
+        with open(path, 'wb') as out:
+            out.write(it)

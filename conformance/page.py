@@ -10,7 +10,7 @@ HERE = os.path.dirname(os.path.abspath(__file__))
 PAGE = os.path.join(HERE, '..', 'docs', 'codes.md')
 DEDUKTI = os.path.join(HERE, '..', 'docs', 'from-dedukti.md')
 ROW = re.compile(r'^\| .+ \| `(.+)` \| (accepted|E\d\d)\b.* \| .+ \| (\w+) \|$', re.M)
-SHOWN = re.compile(r'`conformance/(page/\w+\.(?:dk|report))`[^\n]*\n\n```\n(.*?)```\n', re.S)
+SHOWN = re.compile(r'`conformance/(page/[\w/]+\.(?:dk|report))`[^\n]*\n\n```\n(.*?)```\n', re.S)
 
 
 def stored(path):
@@ -61,6 +61,7 @@ def code_differences():
         shown.add(path)
         if stored(path).rstrip('\n') != block.rstrip('\n'):
             said.append(path + ' is shown otherwise than it stands')
-    there = {'page/' + name for name in os.listdir(os.path.join(HERE, 'page'))}
+    folders = os.walk(os.path.join(HERE, 'page'))
+    there = {os.path.relpath(os.path.join(folder, name), HERE) for folder, _, names in folders for name in names}
     said += ['%s is not shown' % path for path in sorted(there - shown)]
     return said

@@ -99,23 +99,33 @@ class Command:
     def line(self):
         return place(self.text, self.start)[0]
 
+    def is_directive(self):
+        return bool(self.tokens) and self.tokens[0].text in (b"#NAME", b"#REQUIRE")
+
     def is_rules(self):
         return bool(self.tokens) and self.tokens[0].text in (b"[", b"{")
 
     def declared(self):
         """The token of the name that the command declares; of rules the head of the first."""
         words = self.tokens
+        if self.is_directive():
+            return None
         if self.is_rules():
             closed = next((k for k, it in enumerate(words) if it.text == b"]"), len(words))
             words = words[closed:]
         return next((it for it in words if it.kind in ("name", "quoted") and it.text not in KEYWORDS), None)
 
-    def rest_in_front(self, program, code):
-        """Keeps of the text in front what the command rests on; all of it where the program answers that otherwise."""
+    def rest_in_front(self, program, code, library):
+        """Keeps of the text in front what the command rests on; all of it where the program answers that otherwise, and the whole
+        theory where it answers that otherwise too."""
         own = {it.text for it in self.tokens if it.is_name()}
+        command = self.text[self.start : self.end]
         self.before = self.front.rested_on(own)
-        if program.answer(self.before + self.text[self.start : self.end]) != (b"refused", code):
-            self.before = self.text[: self.start]
+        if program.answer(self.before + command) == (b"refused", code):
+            return
+        self.before = self.text[: self.start]
+        if not library.is_alone() and program.answer(self.before + command) != (b"refused", code):
+            program.as_part_of(library)
 
     def with_parts(self, changes):
         """The text with parts of the command in the place of others: triples of a start, an end and what stands there."""

@@ -21,8 +21,9 @@ a : prop. b : prop. c : prop. ta : proof a. tb : proof b. q : el iota -> prop.
 vec : nat -> Type. nil : vec zero. cons : (n : nat) -> nat -> vec n -> vec (succ n).
 def length : (n : nat) -> vec n -> nat. def tail : (n : nat) -> vec (succ n) -> vec n.
 def plus : nat -> nat -> nat. def double : nat -> nat. def map : (nat -> nat) -> nat. def at : (n : nat -> vec n) -> nat.
+def zip : (n : nat) -> vec n -> vec n -> nat.
 """,
-    "sorts": """sort : Type. next : sort -> sort. univ : sort -> Type. def term : (s : sort) -> univ s -> Type.
+    "sorts": """sort : Type. base : sort. next : sort -> sort. univ : sort -> Type. def term : (s : sort) -> univ s -> Type.
 code : (s : sort) -> univ (next s). def lift : (s : sort) -> univ s -> univ (next s). pi : (s : sort) -> univ s -> univ s.
 """,
 }
@@ -58,7 +59,6 @@ FAULTS = [
     ("E10", "nat", "thm t : nat := plus zero @one."),
     ("E10", "nat", "def f : nat -> nat := n => @f n."),
     ("E10", "nat", "thm t : nat := ((y : nat => succ y) @y)."),
-    ("E10", "nat", "thm t : nat := plus zero @arith.one."),
     ("E10", "nat", "[m] plus m zero --> plus m @k."),
     ("E10", "nat", "[m : nat, n : @natural] plus m n --> m."),
     ("E10", "nat", "[m] plus (@suc m) zero --> m."),
@@ -155,11 +155,11 @@ FAULTS = [
     ("E34", "nat", "[n : @bool] plus n zero --> n."),
     ("E34", "nat", "[n : nat, m : @bool] plus n m --> n."),
     ("E34", "nat", "[n] plus (plus n @false) zero --> n."),
-    ("E34", "vector", "[n, x, v] length _ @(cons n x v) --> zero."),
+    ("E34", "vector", "[n] length (succ n) @nil --> zero."),
     ("E34", "vector", "[n, x, v] tail n (cons n x @n) --> nil."),
     ("E34", "vector", "[n, x] tail n @(x => x) --> nil."),
-    ("E34", "sorts", "[s] term _ @(code s) --> sort."),
-    ("E34", "sorts", "[s, t] term (next s) (pi t @(code s)) --> sort."),
+    ("E34", "sorts", "[s] term base @(code s) --> sort."),
+    ("E34", "sorts", "[s] term (next s) (pi base @(code s)) --> sort."),
     ("E35", "vector", "[v] at @(n => v) --> zero."),
     ("E20", "vector", "[n, v] length n v --> succ (n @v)."),
     ("E21", "vector", "[n, x, v] length (succ n) (cons n x v) --> succ @v."),
@@ -175,3 +175,14 @@ FAULTS = [
     # Budgets.
     ("budget", "nat", "def f : nat -> nat. [x] f x --> f x. p : nat -> Type. thm t : p (f zero) -> p zero := h => @h."),
 ]
+
+# The same of a file that needs more of the language, by the word that conformance/LEVEL has for it.
+FURTHER = {
+    "equations": [
+        ("E34", "vector", "[m, x, v] zip _ nil @(cons m x v) --> zero."),
+        ("E34", "vector", "[n, m, x, v : @(vec (succ m))] tail n (cons m x v) --> v."),
+        ("E34", "vector", "[n, x, v] zip n nil nil --> n [n, x, y, v] zip n (cons zero x nil) @(cons (succ zero) y v) --> n."),
+        ("E21", "vector", "[n, m, x, v] tail n (cons m x v) --> @cons m x v."),
+        ("E21", "vector", "[n, m, x, v] length n (cons m x v) --> plus n @v."),
+    ],
+}

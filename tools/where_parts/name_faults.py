@@ -64,7 +64,7 @@ def place_of_name(program, command, code):
 def said_of_unknown(command, name):
     declared = command.declared()
     if b"." in name.text and not name.text.startswith(b"{|"):
-        return "names of other modules aren't read"
+        return "no module that is read declares it"
     if declared is not None and name.text == declared.text and not command.is_rules():
         return "a command's own name isn't in scope in it"
     if any(it.text == name.text for it in command.tokens if it.start < name.start):

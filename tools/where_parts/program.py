@@ -1,6 +1,6 @@
 """The program as a black box: it is asked with files that are made of parts of the one that is refused."""
+import os
 import subprocess
-import tempfile
 import time
 
 
@@ -9,10 +9,27 @@ class Unsure(Exception):
 
 
 class Program:
-    """The program with the budget that it is asked with, how often it was, and how long its last answer took."""
+    """The program with the budget that it is asked with, how often it was, and how long its last answer took. What it is asked with
+    stands in a folder, beside the modules that it may need."""
 
-    def __init__(self, path, budget):
+    def __init__(self, path, budget, folder):
         self.path, self.budget, self.runs, self.seconds = path, budget, 0, 0.0
+        self.folder, self.book, self.file = folder, "f.dk", "f.dk"
+
+    def beside(self, library, book):
+        """From now on it is asked with texts in the place of a book of the library, each checked alone."""
+        self.book = self.file = os.path.basename(book)
+        for name in os.listdir(library.folder or "."):
+            path = os.path.join(self.folder, name)
+            if name.endswith(".dk") and not os.path.lexists(path):
+                os.symlink(os.path.abspath(os.path.join(library.folder, name)), path)
+
+    def as_part_of(self, library):
+        """From now on FILE is checked, with these texts in the place of that book."""
+        self.file = os.path.basename(library.name)
+        path = os.path.join(self.folder, self.file)
+        if not os.path.lexists(path):
+            os.symlink(os.path.abspath(library.name), path)
 
     def report_of(self, name):
         """The last line of the quiet report on a file of this name, and the status, as a shell has it."""
@@ -25,12 +42,18 @@ class Program:
         return (done.stdout.split(b"\n")[:-1] or [b""])[-1], status
 
     def answer(self, text):
-        """The last line's first word and its last, a code mostly, on a file of this text."""
+        """The last line's first word and its code or budget, on a file of this text; where another file is named it is accepted."""
         self.runs += 1
-        with tempfile.NamedTemporaryFile(suffix=".dk") as file:
+        path = os.path.join(self.folder, self.book)
+        if os.path.lexists(path):
+            os.unlink(path)
+        with open(path, "wb") as file:
             file.write(text)
-            file.flush()
-            words = self.report_of(file.name)[0].split()
+        last = self.report_of(os.path.join(self.folder, self.file))[0]
+        said, _, named = last.partition(b" in ")
+        words = said.split()
+        if named != (b"" if self.book == self.file else os.fsencode(path)) and words[:1] != [b"unopened"]:
+            return b"accepted", b""
         return (words[0], words[-1]) if words else (b"", b"")
 
 

@@ -2,7 +2,6 @@
 use Rattle.std.specs.Prelude.{◌≡◌, ℕ, Bool, true, false, List, [], ◌∷◌, nat_le, if◌then◌else◌, Option, Some, None}
 use Rattle.std.specs.Arc.{arc_value}
 use Rattle.dk_model.specs.declared.code.Verdict.{Verdict}
-use Rattle.board_core.specs.declared.event.End.{End}
 use Rattle.board_core.specs.declared.book.Waiting.{Waiting}
 use Rattle.board_core.specs.declared.task.Task.{Task}
 use Rattle.board_core.specs.declared.task.Claimed.{Claimed}
@@ -36,7 +35,7 @@ TakesBelow old f (Some t) new =
     (waiters_in old ≡ (t.number, arc_value t.job) ∷ waiters_in new) × (reaches f t.number ≡ false)
 
 -- what a worker is told where nothing can be claimed
-abbrev pub idle_reply : {J : Type 0} → Option End → Option (ℕ × Verdict) → Claimed J
+abbrev pub idle_reply : {J : Type 0} → Option ℕ → Option (ℕ × Verdict) → Claimed J
 idle_reply None None = Empty
 idle_reply None (Some _) = Over
 idle_reply (Some _) f = Over

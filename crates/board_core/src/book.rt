@@ -1,6 +1,7 @@
 //! The book: the jobs, what was done with them, and the history that says so.
 ghost use Rattle.std.specs.Prelude.{◌≡◌, ◌+◌, ◌-◌, ◌*◌, ◌^◌, ◌<◌, ◌≤◌, false, [], length, IfOk, IfErr, IfSome, IfNone};
 ghost use Rattle.std.specs.List.{list_any};
+ghost use Rattle.std.specs.Option.{option_copied};
 ghost use Rattle.std.specs.Arc.{arc_value};
 ghost use Rattle.board_core.specs.declared.event.Event.{Event};
 ghost use Rattle.board_core.specs.Events.{is_seal, is_fault, puts, end_of, verdict_at, is_settled, IsFirstFault};
@@ -46,7 +47,8 @@ pub struct Book<J> {
     verdicts: Vec<Option<Verdict>>,
     // The least number with a verdict other than `Accepted`, and that verdict.
     fault: Option<(u32, Verdict)>,
-    end: Option<End>,
+    // Where in the history the seal stands, if there is one.
+    sealed_at: Option<usize>,
     history: Vec<Event>,
 }
 
@@ -110,10 +112,13 @@ impl<J> Book<J> {
     }
 
     /// How the board was sealed, if it was.
-    pub fn end(&self) -> Option<End>
-        ensures { result ≡ end_of self.now.events }
+    pub fn end(&self) -> Option<&End>
+        ensures { option_copied result ≡ end_of self.now.events }
     {
-        self.end
+        match &self.history[self.sealed_at?] {
+            Event::Seal(end) => Some(end),
+            Event::Put(_) | Event::Claim(..) | Event::Answer(..) => unreachable!(),
+        }
     }
 }
 
@@ -133,7 +138,7 @@ impl<J: Drop> Book<J> {
             waiting,
             verdicts,
             fault: None,
-            end: None,
+            sealed_at: None,
             history,
         })
     }
@@ -223,7 +228,7 @@ impl<J: Drop> Book<J> {
         ensures holds { HoldsGiven worker result self.new.events }
     {
         let Some(task) = take_below(&mut self.waiting, self.fault) else {
-            return idle(self.end, self.fault);
+            return idle(self.sealed_at, self.fault);
         };
         self.history
             .push_reserved(Event::Claim(worker, task.number));
@@ -249,8 +254,7 @@ impl<J: Drop> Book<J> {
         requires { Allowed (marks_of self.old.jobs) self.old.events (Event.Seal end) }
         ensures { self.new ≡ added self.old (Event.Seal end) }
     {
-        let _opened = &self.history;
-        self.end = Some(end);
+        self.sealed_at = Some(self.history.len());
         self.history.push_reserved(Event::Seal(end));
     }
 }

@@ -17,7 +17,7 @@ mod task;
 
 pub use book::Book;
 pub use checker::{Checker, Gate};
-pub use event::{End, Event};
+pub use event::{End, Event, Place};
 pub use laws::{
     answered_by_claimer, answered_once, claimed_by_one, claimed_once, finished_when_drained,
     lawful_prefix, one_task_each, settled_unclaimed, verdict_answered, verdict_due,

@@ -6,7 +6,6 @@ ghost use Rattle.board_core.specs.Kept.{waiters_in};
 ghost use Rattle.board_core.specs.Parts.{fault_with, idle_reply, newcomers, TakesBelow, reaches};
 
 use crate::book::Waiting;
-use crate::event::{End, Event};
 use crate::task::{Claimed, Task};
 use dk_model::Verdict;
 use std::collections::VecDeque;
@@ -56,10 +55,10 @@ pub fn take_below<J>(
 }
 
 /// What a worker is told where nothing can be claimed.
-pub fn idle<J>(end: Option<End>, fault: Option<(u32, Verdict)>) -> Claimed<J>
-    ensures { result ≡ idle_reply end fault }
+pub fn idle<J>(sealed_at: Option<usize>, fault: Option<(u32, Verdict)>) -> Claimed<J>
+    ensures { result ≡ idle_reply sealed_at fault }
 {
-    match (end, fault) {
+    match (sealed_at, fault) {
         (None, None) => Claimed::Empty,
         _ => Claimed::Over,
     }

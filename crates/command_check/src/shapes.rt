@@ -1,27 +1,13 @@
 //! The rules of a command over a version: each has its shape, and its head is definable.
 ghost use Rattle.std.specs.Prelude.{◌≡◌, [], IfOk};
-ghost use Rattle.dk_model.specs.Shapes.{is_definable};
 ghost use Rattle.signature_log.specs.Versions.{entries_of};
 ghost use Rattle.command_check.specs.Given.{command_shapes, GivesShapes};
 
-use dk_model::{Code, Entry, Fault, Listed, NoMemory, Rule, ScopedRule, SymSort, TypeFault};
+use dk_model::{Code, Fault, Listed, NoMemory, Rule, ScopedRule, TypeFault};
 use pattern_compile::shape;
+use rule_check::is_definable;
 use signature_log::Version;
 use std::alloc::Global;
-
-/// Whether the symbol was declared by `def`.
-fn is_definable(version: &Version, symbol: u32) -> bool
-    ensures { result ≡ is_definable (entries_of version.now) symbol }
-{
-    match version.get(symbol) {
-        Some(Entry::Symbol { sort, .. }) => match sort {
-            SymSort::Definable => true,
-            SymSort::Static => false,
-            SymSort::Theorem => false,
-        },
-        _ => false,
-    }
-}
 
 /// No rules, with room for so many.
 fn room_for(alloc: Global, count: usize) -> Result<Listed<Rule>, NoMemory>

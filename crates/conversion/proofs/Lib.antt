@@ -13,3 +13,4 @@ mod Waiting
 mod References
 mod Pooling
 mod Treeing
+pub mod Raising

@@ -1,6 +1,7 @@
 -- The clauses of a reducer from those of a pool.
-use Rattle.std.proofs.Common.{◌≡◌, ◌∙◌, ◌<◌, ℕ, List, [], ◌∷◌, Some, None, Bool, Result, Ok, Err, refl, arith, length}
+use Rattle.std.proofs.Common.{◌≡◌, ◌∙◌, ◌<◌, ℕ, List, [], ◌∷◌, Option, Some, None, Bool, Result, Ok, Err, refl, ap, arith, length, map}
 use Rattle.dk_model.specs.Trees.{Tree}
+use Rattle.dk_model.specs.Signatures.{maybe_by}
 use Rattle.dk_model.specs.Units.{Units}
 use Rattle.dk_model.specs.declared.NodeOf.TheVariants.{Star, Kind, Sym, Var, Rvar, App, Abs, Prod}
 use Rattle.dk_model.specs.declared.stop.Stop.{Stop}
@@ -8,8 +9,8 @@ use Rattle.dk_model.specs.declared.stop.Stop.TheVariants.{Ended, NoMemory}
 use Rattle.shared_term.specs.declared.id.TermId.{TermId}
 use Rattle.shared_term.specs.Pools.{Node, term, terms, Extends, IsWithin}
 use Rattle.shared_term.specs.Pools.{denoted as node_term}
-use Rattle.shared_term.specs.Changes.{AreTerms}
-use Rattle.signature_log.specs.Reducers.{Keeps, Gives, GivesAnswer, Shows, OwnsParts, AreOwned, built}
+use Rattle.shared_term.specs.Changes.{AreTerms, AreCaptures, captured_terms}
+use Rattle.signature_log.specs.Reducers.{Keeps, Gives, GivesAnswer, Shows, OwnsParts, AreOwned, OwnsSomes, built}
 use Rattle.conversion.specs.declared.state.PoolReducer.{PoolReducer}
 use Rattle.conversion.specs.Given.{GivesTerm, GivesBool}
 use Rattle.conversion.specs.Owned.{owned, denoted}
@@ -68,3 +69,15 @@ pool_shows r t n l e h = (e ∙ pool_built r n, parts_owned r t.0 n l h)
 pub terms_owned : (r : PoolReducer) (ts : List TermId) → AreOwned owned r ts → AreTerms (length r.pool) ts
 terms_owned r [] h = tt
 terms_owned r (t ∷ ts) h = (h.0, terms_owned r ts h.1)
+
+-- captures
+
+pub somes_captured : (r : PoolReducer) (os : List (Option TermId)) → OwnsSomes owned r os → AreCaptures (length r.pool) os
+somes_captured r [] h = tt
+somes_captured r (None ∷ os) h = somes_captured r os h.1
+somes_captured r (Some t ∷ os) h = (h.0, somes_captured r os h.1)
+
+pub somes_denoted : (r : PoolReducer) (os : List (Option TermId)) → captured_terms r.pool os ≡ map (maybe_by (denoted r)) os
+somes_denoted r [] = refl
+somes_denoted r (None ∷ os) = ap (λ (xs : List (Option Tree)). None ∷ xs) (somes_denoted r os)
+somes_denoted r (Some t ∷ os) = ap (λ (xs : List (Option Tree)). Some (term r.pool t) ∷ xs) (somes_denoted r os)

@@ -4,7 +4,6 @@ use Rattle.std.specs.Prelude.{insert}
 use Rattle.dk_model.specs.Trees.{Tree as Term}
 use Rattle.dk_model.specs.Signatures.{PlainSignature}
 use Rattle.dk_model.specs.SymbolRules.{rules_of}
-use Rattle.dk_model.specs.Units.{Units}
 use Rattle.dk_model.specs.Evaluation.{whnf_of, comparison_of, normal_of}
 use Rattle.dk_model.specs.declared.stop.Stop.{Stop}
 use Rattle.shared_term.specs.declared.id.TermId.{TermId}

@@ -11,6 +11,7 @@ mod evaluate;
 mod known;
 mod loading;
 mod machine;
+mod mentions;
 mod normal;
 mod putting;
 mod reducer;

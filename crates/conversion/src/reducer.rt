@@ -7,6 +7,7 @@ ghost use Rattle.conversion.specs.Reducers.{Serves};
 
 use crate::PoolReducer;
 use crate::loading::loaded;
+use crate::mentions::may_bind;
 use dk_model::{NoMemory, NodeOf, Stop, Term};
 use shared_term::{Stored, TermId};
 use signature_log::{Reducer, Version};
@@ -117,6 +118,16 @@ impl Reducer for PoolReducer {
     #[tactic(auto, using(crate::proofs::Pooling::pool_keeps, crate::proofs::Serving::loaded_grown, crate::proofs::Serving::heads_grown, crate::proofs::Serving::values_grown, crate::proofs::Serving::normals_grown, crate::proofs::Serving::answers_grown))]
     fn rename(&mut self, t: &TermId, depth: u64, variables: &[u32]) -> Result<TermId, NoMemory> {
         self.pool.renamed(*t, depth, variables)
+    }
+
+    #[tactic(auto, using(crate::proofs::Pooling::somes_captured, crate::proofs::Pooling::somes_denoted, crate::proofs::Pooling::pool_keeps, crate::proofs::Serving::loaded_grown, crate::proofs::Serving::heads_grown, crate::proofs::Serving::values_grown, crate::proofs::Serving::normals_grown, crate::proofs::Serving::answers_grown))]
+    fn fill(&mut self, t: &TermId, terms: &[Option<TermId>]) -> Result<TermId, NoMemory> {
+        self.pool.filled(*t, terms)
+    }
+
+    #[tactic(auto, using(crate::proofs::Winding::extends_more, crate::proofs::Pooling::pool_keeps, crate::proofs::Serving::loaded_grown, crate::proofs::Serving::heads_grown, crate::proofs::Serving::values_grown, crate::proofs::Serving::normals_grown, crate::proofs::Serving::answers_grown))]
+    fn may_bind(&mut self, t: &TermId, number: u32) -> Result<bool, NoMemory> {
+        may_bind(self.alloc, &mut self.pool, *t, number)
     }
 
     #[tactic(auto, using(crate::proofs::Pooling::pool_keeps, crate::proofs::Serving::loaded_grown, crate::proofs::Serving::heads_grown, crate::proofs::Serving::values_grown, crate::proofs::Serving::normals_grown, crate::proofs::Serving::answers_grown))]

@@ -52,12 +52,15 @@ fn words_of_call<R: Env + AllocGlobal>(rt: &R) -> Result<Vec<String>, ErrorKind>
     }
 }
 
-// Answers this call, with the files of the system and standard output (docs/report.md).
+// Answers this call, with the files of the system and standard output (docs/report.md); where there is no room for a shelf,
+// memory has ended before the call.
 fn status_of_call<R: Env + Files + Print + AllocGlobal + Threads + Wait + Sync>(rt: &R) -> u8
     ensures statuses { result < 7 }
 {
     let words = words_of_call(rt);
-    let mut shelf = OsShelf::new(rt);
+    let Ok(mut shelf) = OsShelf::new(rt, rt.alloc()) else {
+        return status::MEMORY;
+    };
     let mut sink = OsSink::new(io::writer(rt));
     answer_call(rt, rt.alloc(), &words, &mut shelf, &mut sink)
 }

@@ -8,9 +8,11 @@ use Rattle.dk_model.specs.declared.code.Verdict.{Verdict}
 use Rattle.dk_model.specs.declared.code.Verdict.TheVariants as verdict
 use Rattle.dk_lexer.specs.Tokens.{broken, whole}
 use Rattle.command_line.specs.Requests.{CheckRequest, to_check}
-use Rattle.verdict_book.specs.Report.{FileReport, report_of, status_of}
+use Rattle.board_core.specs.declared.event.Place.{Place}
+use Rattle.board_core.specs.Places.{in_file}
+use Rattle.verdict_book.specs.Report.{FileReport, nowhere, report_of, status_of}
 use Rattle.verdict_book.specs.declared.outcome.Outcome.{Outcome}
-use Rattle.verdict_book.specs.declared.outcome.Outcome.TheVariants.{Accepted, Stopped, Unread}
+use Rattle.verdict_book.specs.declared.outcome.Outcome.TheVariants.{Accepted, Stopped, Unread, Unopened}
 use Rattle.file_report.specs.Histories.{EndsInMemory}
 use Rattle.file_report.specs.Memory.{IsCutByMemory}
 use Rattle.file_check.specs.Counts.{CountsAt, EndsGiven, EndsOn}
@@ -37,7 +39,7 @@ of_either (Some shelf) name left A C B D (bytes, has, is) f counts = let at = f 
   | inr c ↦ inr (c.0, (bytes, has, (at.0, c.1)))
 ]
 
-at_once : (quiet : Bool) → report_of [] (Stopped 0 0 verdict.Memory) 0 quiet ≡ memory_at_once
+at_once : (quiet : Bool) → report_of [] (Stopped 0 nowhere verdict.Memory) 0 quiet [] ≡ memory_at_once
 at_once true = refl
 at_once false = refl
 
@@ -57,7 +59,7 @@ module _ (limits : Limits) (q : CheckRequest) (old new : ShelfState) (before aft
     reported o = record { names = names; outcome = o }
 
     abbrev pub Written : Outcome → Type 0
-    Written o = Writes before after (report_of names o q.budget q.quiet) (status_of o) result
+    Written o = Writes before after (report_of names o q.budget q.quiet []) (status_of o) result
 
     abbrev Own : Outcome → List ℕ → Type 0
     Own o = check.IsReport limits q (reported o) whole
@@ -76,7 +78,7 @@ module _ (limits : Limits) (q : CheckRequest) (old new : ShelfState) (before aft
         record { cause = books; status = status_of o; text = text_of q (reported o); row = check.of_the_file (reported o) own; shows = (decided, held_over held); writes = w }
 
     -- the file stopped, and the shelf held, or a read failed behind that command
-    stopped_row : (number place : ℕ) (v : Verdict) → (status_of (Stopped number place v) ≡ 1) ⊎ (status_of (Stopped number place v) ≡ 6)
+    stopped_row : (number : ℕ) (place : Place) (v : Verdict) → (status_of (Stopped number place v) ≡ 1) ⊎ (status_of (Stopped number place v) ≡ 6)
         → ((bytes : List ℕ) → opened.left ≡ Some bytes → Own (Stopped number place v) bytes × (HasHeld opened new ⊎ (Rose opened.faults new.faults × Given (Stopped number place v) bytes)))
         → HasHeld opened new ⊎ Rose opened.faults new.faults → Written (Stopped number place v) → Row
     stopped_row number place v is ends counts w =
@@ -92,50 +94,53 @@ module _ (limits : Limits) (q : CheckRequest) (old new : ShelfState) (before aft
           }
         ]
 
-    abbrev Cut : ℕ → ℕ → List ℕ → Type 0
-    Cut number place bytes = IsCutByMemory limits q.budget bytes whole names number place
-        × (HasHeld old new ⊎ IsOfGiven bytes new.left (λ given. IsCutByMemory limits q.budget given broken names number place))
+    abbrev Cut : ℕ → Place → List ℕ → Type 0
+    Cut number place bytes = (line : ℕ) × (place ≡ in_file line) × IsCutByMemory limits q.budget bytes whole names number line
+        × (HasHeld old new ⊎ IsOfGiven bytes new.left (λ given. IsCutByMemory limits q.budget given broken names number line))
 
-    cut_row : (number place : ℕ) → IsOfBook old.books q.file (Cut number place) → Written (Stopped number place verdict.Memory) → Row
+    cut_row : (number : ℕ) (place : Place) → IsOfBook old.books q.file (Cut number place) → Written (Stopped number place verdict.Memory) → Row
     cut_row number place of w = record { cause = memory; status = 4; text = text_of q (reported (Stopped number place verdict.Memory)); row = check.of_memory names number place of; shows = refl; writes = w }
 
-    at_cut : (number place : ℕ) (bytes : List ℕ) → number ≡ length names + 1 → EndsInMemory limits q.budget bytes broken names number place → IsCutByMemory limits q.budget bytes broken names number place
-    at_cut number place bytes is (inl none) = let zero : number ≡ 0 = none.1 in absurd (omega (arith, is, zero))
-    at_cut number place bytes is (inr cut) = cut
+    at_cut : (number line : ℕ) (place : Place) (bytes : List ℕ) → place ≡ in_file line → number ≡ length names + 1 → EndsInMemory limits q.budget bytes broken names number place
+        → IsCutByMemory limits q.budget bytes broken names number line
+    at_cut number line place bytes place_is is (inl none) = let zero : number ≡ 0 = none.1 in absurd (omega (arith, is, zero))
+    at_cut number line place bytes place_is is (inr (other, other_is, cut)) =
+        subst (IsCutByMemory limits q.budget bytes broken names number) (ap (λ (p : Place). p.line) (sym other_is ∙ place_is)) cut
 
-    cut_by : (number place : ℕ) (bytes : List ℕ) → IsCutByMemory limits q.budget bytes whole names number place
+    cut_by : (number line : ℕ) (place : Place) (bytes : List ℕ) → place ≡ in_file line → IsCutByMemory limits q.budget bytes whole names number line
         → HasHeld opened new ⊎ EndsGiven limits q.budget bytes opened new names (Stopped number place verdict.Memory) → Cut number place bytes
-    cut_by number place bytes m (inl held) = (m, inl (held_over held))
-    cut_by number place bytes m (inr g) = (m, inr (g.0, g.1, g.2, g.3, at_cut number place g.0 m.number_is g.5))
+    cut_by number line place bytes place_is m (inl held) = (line, place_is, m, inl (held_over held))
+    cut_by number line place bytes place_is m (inr g) = (line, place_is, m, inr (g.0, g.1, g.2, g.3, at_cut number line place g.0 place_is m.number_is g.5))
 
-    in_memory : (held : Option Books) → old.books ≡ held → Opens held q.file opened.left → (number place : ℕ)
+    in_memory : (held : Option Books) → old.books ≡ held → Opens held q.file opened.left → (number : ℕ) (place : Place)
         → ((bytes : List ℕ) → opened.left ≡ Some bytes → EndsOn limits q.budget bytes opened new names (Stopped number place verdict.Memory)) → Written (Stopped number place verdict.Memory) → Row
     in_memory None is op number place ends w = cut_row number place (subst (λ b. IsOfBook b q.file (Cut number place)) (sym is) tt) w
     in_memory (Some shelf) is (bytes, has, left) number place ends w = by_end (ends bytes left).0 (ends bytes left).1
       where
         by_end : EndsInMemory limits q.budget bytes whole names number place → HasHeld opened new ⊎ EndsGiven limits q.budget bytes opened new names (Stopped number place verdict.Memory) → Row
-        by_end (inl m) how = no_memory_row (subst (λ t. Writes before after t 4 result) (ap (λ ns. report_of ns (Stopped number place verdict.Memory) q.budget q.quiet) m.0
-            ∙ ap (λ k. report_of [] (Stopped k place verdict.Memory) q.budget q.quiet) m.1 ∙ ap (λ l. report_of [] (Stopped 0 l verdict.Memory) q.budget q.quiet) m.2 ∙ at_once q.quiet) w)
-        by_end (inr m) how = cut_row number place (subst (λ b. IsOfBook b q.file (Cut number place)) (sym is) (bytes, has, cut_by number place bytes m how)) w
+        by_end (inl m) how = no_memory_row (subst (λ t. Writes before after t 4 result) (ap (λ ns. report_of ns (Stopped number place verdict.Memory) q.budget q.quiet []) m.0
+            ∙ ap (λ k. report_of [] (Stopped k place verdict.Memory) q.budget q.quiet []) m.1 ∙ ap (λ p. report_of [] (Stopped 0 p verdict.Memory) q.budget q.quiet []) m.2 ∙ at_once q.quiet) w)
+        by_end (inr (line, place_is, m)) how = cut_row number place (subst (λ b. IsOfBook b q.file (Cut number place)) (sym is) (bytes, has, cut_by number line place bytes place_is m how)) w
 
     pub book_row : (o : Outcome) → ((bytes : List ℕ) → opened.left ≡ Some bytes → EndsOn limits q.budget bytes opened new names o) → CountsAt opened new o → Written o → Row
     book_row (Accepted n) ends counts w =
         own_row (Accepted n) (inl refl) counts (of_book old.books q.file opened.left (Own (Accepted n)) opens (λ bytes left. (ends bytes left).0)) w
-    book_row (Unread n) ends counts w = record {
+    book_row (Unopened name) ends counts w = absurd counts
+    book_row (Unread n place) ends counts w = record {
       cause = unread;
       status = 3;
-      text = text_of q (reported (Unread n));
-      row = check.of_a_failed_read (reported (Unread n)) n refl
-          (of_book old.books q.file opened.left (Given (Unread n)) opens (λ bytes left. let g = ends bytes left in (g.0, g.1, g.2, g.3, g.5)));
+      text = text_of q (reported (Unread n place));
+      row = check.of_a_failed_read (reported (Unread n place)) n place refl
+          (of_book old.books q.file opened.left (Given (Unread n place)) opens (λ bytes left. let g = ends bytes left in (g.0, g.1, g.2, g.3, g.5)));
       shows = (refl, rose_over counts);
       writes = w;
     }
-    book_row (Stopped n line verdict.Accepted) ends counts w =
-        own_row (Stopped n line verdict.Accepted) (inl refl) counts (of_book old.books q.file opened.left (Own (Stopped n line verdict.Accepted)) opens (λ bytes left. (ends bytes left).0)) w
-    book_row (Stopped n line (verdict.Refused code)) ends counts w =
-        stopped_row n line (verdict.Refused code) (inl refl)
+    book_row (Stopped n place verdict.Accepted) ends counts w =
+        own_row (Stopped n place verdict.Accepted) (inl refl) counts (of_book old.books q.file opened.left (Own (Stopped n place verdict.Accepted)) opens (λ bytes left. (ends bytes left).0)) w
+    book_row (Stopped n place (verdict.Refused code)) ends counts w =
+        stopped_row n place (verdict.Refused code) (inl refl)
         (λ bytes left. let e = ends bytes left in (e.0, elim e.1 [ inl held ↦ inl held | inr g ↦ inr (g.4, (g.0, g.1, g.2, g.3, g.5)) ])) counts w
-    book_row (Stopped n line verdict.Ended) ends counts w =
-        stopped_row n line verdict.Ended (inr refl)
+    book_row (Stopped n place verdict.Ended) ends counts w =
+        stopped_row n place verdict.Ended (inr refl)
         (λ bytes left. let e = ends bytes left in (e.0, elim e.1 [ inl held ↦ inl held | inr g ↦ inr (g.4, (g.0, g.1, g.2, g.3, g.5)) ])) counts w
-    book_row (Stopped n line verdict.Memory) ends counts w = in_memory old.books refl opens n line ends w
+    book_row (Stopped n place verdict.Memory) ends counts w = in_memory old.books refl opens n place ends w

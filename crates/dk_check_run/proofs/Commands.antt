@@ -35,7 +35,7 @@ module _ (limits : Limits) (q : CheckRequest) (bytes : List ℕ) (old new : Shel
   check_own cause status text (check.of_the_file r of) shows not3 not4 = own_at r (told shelf old.books q.file bytes (check.IsReport limits q r whole) is has of)
   check_own cause status text (check.of_the_given r number place v outcome_is rose of) shows not3 not4 =
       own_at r (told shelf old.books q.file bytes (λ bytes. check.IsReport limits q r whole bytes × IsOfGiven bytes new.left (check.IsReport limits q r broken)) is has of).0
-  check_own cause status text (check.of_a_failed_read r number unread_is of) shows not3 not4 = absurd (not3 shows.0)
+  check_own cause status text (check.of_a_failed_read r number place unread_is of) shows not3 not4 = absurd (not3 shows.0)
   check_own cause status text (check.of_a_failed_opening left) shows not3 not4 = absurd (not3 refl)
   check_own cause status text (check.of_memory names number place of) shows not3 not4 = absurd (not4 refl)
   check_own cause status text check.of_no_memory shows not3 not4 = absurd (not4 refl)
@@ -51,7 +51,7 @@ check_failed : (limits : Limits) (q : CheckRequest) (old new : ShelfState) (befo
     → check.IsDue limits q old new cause status text → Shows cause status old new → status ≡ 3 → after.taken ≡ added before.taken text → HasShelfFault q.file old new before after
 check_failed limits q old new before after cause status text (check.of_the_file r of) shows three taken = decided_not3 shows.0 three
 check_failed limits q old new before after cause status text (check.of_the_given r number place v outcome_is rose of) shows three taken = inr rose
-check_failed limits q old new before after cause status text (check.of_a_failed_read r number unread_is of) shows three taken = inr shows.1
+check_failed limits q old new before after cause status text (check.of_a_failed_read r number place unread_is of) shows three taken = inr shows.1
 check_failed limits q old new before after cause status text (check.of_a_failed_opening left) shows three taken = inl (left, shows.1, taken)
 check_failed limits q old new before after cause status text (check.of_memory names number place of) shows three taken = absurd (omega (arith, three))
 check_failed limits q old new before after cause status text check.of_no_memory shows three taken = absurd (omega (arith, three))

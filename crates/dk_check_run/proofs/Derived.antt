@@ -1,7 +1,7 @@
 -- Where a file is accepted, each command has a derivation over the commands before it: a law of the fold alone, with no word on `run`.
 use Rattle.std.proofs.Common.{◌≡◌, ℕ, ◌+◌, Bool, true, false, List, [], ◌∷◌, ◌++◌, refl, sym, subst, arith}
 use Rattle.std.proofs.lemmas.List.{append-nil}
-use Rattle.std.specs.Prelude.{if◌then◌else◌, nat_le}
+use Rattle.std.specs.Prelude.{None, if◌then◌else◌, nat_le}
 use Rattle.dk_model.specs.Scoping.{PlainCommand}
 use Rattle.dk_model.specs.Signatures.{PlainSignature}
 use Rattle.dk_model.specs.Typing.{by_units}
@@ -47,8 +47,8 @@ all_derived : (limits : Limits) (budget : ℕ) (T : Theory) (n : ℕ) (cs : List
 all_derived limits budget T n [] tail formed e = tt
 all_derived limits budget T n (c ∷ cs) tail formed e =
     let first = accepted_first (verdict_at limits budget T n c.form) n c (report_from limits budget (theory_after T budget c.form) (n + 1) cs tail) e in (
-      scoped_derives T.signature budget T (scope_of T.names c.form) refl formed (accepted_after (nat_le limits.commands n) (verdict_after T budget c.form) first.0),
-      all_derived limits budget (theory_after T budget c.form) (n + 1) cs tail (formed_after T.signature budget (scope_of T.names c.form) formed) first.1,
+      scoped_derives T.signature budget T (scope_of T.names None c.form) refl formed (accepted_after (nat_le limits.commands n) (verdict_after T budget c.form) first.0),
+      all_derived limits budget (theory_after T budget c.form) (n + 1) cs tail (formed_after T.signature budget (scope_of T.names None c.form) formed) first.1,
     )
 
 -- and of what a file is read as

@@ -7,9 +7,11 @@ use Rattle.dk_model.specs.declared.limits.Limits.{Limits}
 use Rattle.dk_lexer.specs.Tokens.{whole}
 use Rattle.dk_make.specs.Theory.{theory_of}
 use Rattle.command_line.specs.Requests.{MakeRequest, to_make}
+use Rattle.board_core.specs.declared.event.Place.{Place}
+use Rattle.board_core.specs.Places.{in_file}
 use Rattle.verdict_book.specs.Report.{FileReport, status_of}
 use Rattle.verdict_book.specs.declared.outcome.Outcome.{Outcome}
-use Rattle.verdict_book.specs.declared.outcome.Outcome.TheVariants.{Accepted, Stopped, Unread}
+use Rattle.verdict_book.specs.declared.outcome.Outcome.TheVariants.{Accepted, Stopped, Unread, Unopened}
 use Rattle.file_report.specs.Histories.{EndsInMemory}
 use Rattle.file_check.specs.Counts.{EndsOn}
 use Rattle.file_check.specs.Shelves.{ShelfState}
@@ -46,18 +48,22 @@ module _ (limits : Limits) (q : MakeRequest) (shelf : ShelfState) (before after 
       writes = w;
     }
 
-    cut_row : (number place : ℕ) (early : Bool) → (number == 0) ≡ early → EndsInMemory limits q.budget (theory_of q.count) whole names number place
+    cut_row : (number : ℕ) (place : Place) (early : Bool) → (number == 0) ≡ early → EndsInMemory limits q.budget (theory_of q.count) whole names number place
         → Writes before after (if early then memory_at_once else summary q (Stopped number place verdict.Memory)) 4 result → Row
     cut_row number place true is ends w = no_memory_row w
     cut_row number place false is (inl none) w = let e : (0 == 0) ≡ false = ap (λ n. n == 0) (sym none.1) ∙ is in absurd (never e)
       where
         never : true ≡ false → ⊥
         never e = cc
-    cut_row number place false is (inr cut) w = record {
+    cut_row number place false is (inr (line, place_is, cut)) w = record {
       cause = memory;
       status = 4;
       text = summary q (Stopped number place verdict.Memory);
-      row = (refl, subst (λ n. make.IsDue limits q memory 4 (summary q (Stopped n place verdict.Memory))) (sym cut.number_is) (make.of_memory (length names) place cut.memory));
+      row = (
+        refl,
+        subst (λ (p : Place). make.IsDue limits q memory 4 (summary q (Stopped number p verdict.Memory))) (sym place_is)
+            (subst (λ n. make.IsDue limits q memory 4 (summary q (Stopped n (in_file line) verdict.Memory))) (sym cut.number_is) (make.of_memory (length names) line cut.memory)),
+      );
       shows = refl;
       writes = w;
     }
@@ -66,7 +72,8 @@ module _ (limits : Limits) (q : MakeRequest) (shelf : ShelfState) (before after 
     pub theory_row : (old new : ShelfState) (o : Outcome) → old.faults ≡ 0 → new.faults ≡ 0 → EndsOn limits q.budget (theory_of q.count) old new names o
         → Writes before after (text_by (made_line q.count (length (theory_of q.count))) q.budget o) (status_of o) result → Row
     theory_row old new (Accepted n) a b ends w = own_row (Accepted n) ends.0 (inl refl) w
-    theory_row old new (Unread n) a b ends w = absurd (not_rose old.faults new.faults a b ends.4)
+    theory_row old new (Unread n place) a b ends w = absurd (not_rose old.faults new.faults a b ends.4)
+    theory_row old new (Unopened name) a b ends w = absurd ends
     theory_row old new (Stopped n line verdict.Accepted) a b ends w = own_row (Stopped n line verdict.Accepted) ends.0 (inl refl) w
     theory_row old new (Stopped n line (verdict.Refused code)) a b ends w = own_row (Stopped n line (verdict.Refused code)) ends.0 (inr (inl refl)) w
     theory_row old new (Stopped n line verdict.Ended) a b ends w = own_row (Stopped n line verdict.Ended) ends.0 (inr (inr refl)) w

@@ -14,8 +14,9 @@ use Rattle.dk_model.specs.Scoping.{PlainCommand}
 use Rattle.dk_model.specs.Signatures.{PlainEntry}
 use Rattle.typing_model.specs.Derivations.{HasDerivation}
 use Rattle.command_line.specs.Requests.{CheckRequest, MakeRequest, Request, to_check, to_make}
-use Rattle.verdict_book.specs.Report.{concat, FileReport, last_line, report_of, status_of, stop_line}
+use Rattle.verdict_book.specs.Report.{concat, FileReport, last_line, nowhere, report_of, status_of}
 use Rattle.verdict_book.specs.declared.outcome.Outcome.{Outcome}
+use Rattle.verdict_book.specs.declared.outcome.Outcome.TheVariants.{Stopped}
 use Rattle.dk_make.specs.Theory.{theory_of}
 use Rattle.file_report.specs.Outcomes.{Theory, no_theory, report_of_bytes, scoped_entry, theory_after}
 use Rattle.file_check.specs.Shelves.{ShelfState, shelf_state}
@@ -24,7 +25,7 @@ use Rattle.file_check.specs.Shelves.{ShelfState, shelf_state}
 
 -- the text of a report
 abbrev pub text_of : CheckRequest → FileReport → List ℕ
-text_of q r = report_of r.names r.outcome q.budget q.quiet
+text_of q r = report_of r.names r.outcome q.budget q.quiet []
 
 -- the report of a file that was read whole
 abbrev pub report_for : Limits → CheckRequest → List ℕ → FileReport
@@ -35,7 +36,7 @@ unopened file = concat (codes "unopened " ∷ file ∷ codes "\n" ∷ [])
 
 -- memory ended before the first command was begun
 abbrev pub memory_at_once : List ℕ
-memory_at_once = stop_line 0 0 verdict.Memory 0
+memory_at_once = last_line (Stopped 0 nowhere verdict.Memory) 0 []
 
 -- ---- the made theory
 
@@ -49,7 +50,7 @@ made_line count size = concat (codes "make " ∷ decimal count ∷ codes " bytes
 
 -- that line, and the last line of a report
 abbrev pub summary : MakeRequest → Outcome → List ℕ
-summary q outcome = made_line q.count (length (theory_of q.count)) ++ last_line outcome q.budget
+summary q outcome = made_line q.count (length (theory_of q.count)) ++ last_line outcome q.budget []
 
 -- ---- derivations
 
@@ -65,18 +66,18 @@ pub record Entered : Type 0 where
 
 -- the theory with a command and its entries
 abbrev pub with_entered : Theory → Entered → Theory
-with_entered T e = record { names = names_after T.names e.command.form; signature = T.signature ++ e.entries }
+with_entered T e = record { names = names_after T.names None e.command.form; signature = T.signature ++ e.entries }
 
 -- each declared type, body and rule has a derivation over the entries before it
 abbrev pub AllDerived : Theory → List Entered → Type 0
 AllDerived T [] = Unit {0}
-AllDerived T (e ∷ es) = IsDerived T (scope_of T.names e.command.form) × AllDerived (with_entered T e) es
+AllDerived T (e ∷ es) = IsDerived T (scope_of T.names None e.command.form) × AllDerived (with_entered T e) es
 
 -- the commands after a theory, each with the entries that the plain check gives it
 abbrev pub entered : ℕ → Theory → List WrittenCommand → List Entered
 entered budget T [] = []
 entered budget T (c ∷ cs) =
-    record { command = c; entries = scoped_entry T.signature budget (scope_of T.names c.form) } ∷ entered budget (theory_after T budget c.form) cs
+    record { command = c; entries = scoped_entry T.signature budget (scope_of T.names None c.form) } ∷ entered budget (theory_after T budget c.form) cs
 
 -- each declared type, body and rule of a reading has a derivation over the commands before it
 abbrev pub IsReadingDerived : ℕ → Reading → Type 0

@@ -1,5 +1,5 @@
 //! What the program does: reads its words, opens the book, checks it and writes the report.
-ghost use Rattle.std.specs.Prelude.{◌≡◌, ◌<◌, ◌++◌, length, map};
+ghost use Rattle.std.specs.Prelude.{◌≡◌, ◌<◌, ◌++◌, [], length, map};
 ghost use Rattle.std.specs.String.{string_bytes};
 ghost use Rattle.command_line.specs.Requests.{request_of, to_check, to_make};
 ghost use Rattle.command_line.specs.Usage.{usage_text};
@@ -23,7 +23,7 @@ use file_check::{CheckedBook, check_open_book};
 use std::alloc::Global;
 use std::sync::Wait;
 use std::thread::Threads;
-use verdict_book::{Outcome, Piece, outcome_of, status, write_last, write_report};
+use verdict_book::{Outcome, Piece, PlaceRef, outcome_of, status, write_last, write_report};
 
 fn put_usage<K: Sink>(sink: &mut K) -> u8
     ensures { Writes (sink_of K.Sink sink.old) (sink_of K.Sink sink.new) usage_text 2 result }
@@ -35,12 +35,17 @@ fn put_usage<K: Sink>(sink: &mut K) -> u8
 }
 
 // Writes these pieces, and the last line of a report behind them.
-fn put_last<K: Sink>(sink: &mut K, head: &[Piece<'_>], outcome: Outcome, budget: u64) -> u8
-    requires { StopsAtFault outcome }
+fn put_last<'x, K: Sink>(
+    sink: &mut K,
+    head: &[Piece<'_>],
+    outcome: &'x Outcome<'x>,
+    budget: u64,
+) -> u8
+    requires { StopsAtFault outcome.now }
     ensures { Writes (sink_of K.Sink sink.old) (sink_of K.Sink sink.new)
-        (pieces_text head.now ++ last_line outcome budget) (status_of outcome) result }
+        (pieces_text head.now ++ last_line outcome.now budget []) (status_of outcome.now) result }
 {
-    match write_last(head, outcome, budget, sink) {
+    match write_last(head, outcome, budget, "", sink) {
         Ok(()) => outcome.status(),
         Err(_) => status::SINK_FAILED,
     }
@@ -50,7 +55,8 @@ fn put_last<K: Sink>(sink: &mut K, head: &[Piece<'_>], outcome: Outcome, budget:
 fn put_memory<K: Sink>(sink: &mut K) -> u8
     ensures { Writes (sink_of K.Sink sink.old) (sink_of K.Sink sink.new) memory_at_once 4 result }
 {
-    put_last(sink, &[], Outcome::Stopped(0, 0, Verdict::Memory), 0)
+    let outcome = Outcome::Stopped(0, PlaceRef::nowhere(), Verdict::Memory);
+    put_last(sink, &[], &outcome, 0)
 }
 
 fn put_unopened<K: Sink>(sink: &mut K, file: &str) -> u8
@@ -71,11 +77,11 @@ fn put_report<K: Sink>(sink: &mut K, checked: &CheckedBook, budget: u64, quiet: 
     ensures { (report : FileReport) →
         IsReportOf checked.now.titles checked.now.book.events report →
         Writes (sink_of K.Sink sink.old) (sink_of K.Sink sink.new)
-        (report_of report.names report.outcome budget quiet) (status_of report.outcome) result }
+        (report_of report.names report.outcome budget quiet []) (status_of report.outcome) result }
 {
     let CheckedBook { book, titles } = checked;
     let outcome = outcome_of(book, titles);
-    match write_report(book, titles, budget, quiet, sink) {
+    match write_report(book, titles, budget, quiet, "", sink) {
         Ok(()) => outcome.status(),
         Err(_) => status::SINK_FAILED,
     }
@@ -93,6 +99,7 @@ fn check_file<R: Threads + Wait + Sync, H: Shelf, K: Sink, G: Gate + Sync>(
 ) -> u8
     requires limit { limits.commands < 4294967294 }
     requires some { IsWorkerCount request.now.workers }
+    requires shelf { H.aside shelf.old ≡ [] }
     ensures { RunsCommand limits (to_check (plain_check request.now))
         (shelf_of H.Shelf shelf.old) (shelf_of H.Shelf shelf.new)
         (sink_of K.Sink sink.old) (sink_of K.Sink sink.new) result }
@@ -108,21 +115,26 @@ fn check_file<R: Threads + Wait + Sync, H: Shelf, K: Sink, G: Gate + Sync>(
 }
 
 // Whether memory ended before the first command.
-fn is_at_once(outcome: Outcome) -> bool
-    ensures { result ≡ is_at_once outcome }
+fn is_at_once(outcome: &Outcome<'_>) -> bool
+    ensures { result ≡ is_at_once outcome.now }
 {
     match outcome {
-        Outcome::Stopped(number, _, Verdict::Memory) => number == 0,
+        Outcome::Stopped(number, _, Verdict::Memory) => *number == 0,
         _ => false,
     }
 }
 
 // Writes the summary of a made theory of so many bytes, whose check ended so.
-fn put_summary<K: Sink>(sink: &mut K, request: &MakeRequest, size: usize, outcome: Outcome) -> u8
-    requires { StopsAtFault outcome }
+fn put_summary<'x, K: Sink>(
+    sink: &mut K,
+    request: &MakeRequest,
+    size: usize,
+    outcome: &'x Outcome<'x>,
+) -> u8
+    requires { StopsAtFault outcome.now }
     ensures { Writes (sink_of K.Sink sink.old) (sink_of K.Sink sink.new)
-        (text_by (made_line request.now.count size) request.now.budget outcome)
-        (status_of outcome) result }
+        (text_by (made_line request.now.count size) request.now.budget outcome.now)
+        (status_of outcome.now) result }
 {
     if is_at_once(outcome) {
         return put_memory(sink);
@@ -160,7 +172,7 @@ fn check_theory<R: Threads + Wait + Sync, K: Sink, G: Gate + Sync>(
     match check_open_book(rt, alloc, limits, budget, workers, &mut text, gate) {
         Ok(checked) => {
             let outcome = outcome_of(&checked.book, &checked.titles);
-            put_summary(sink, request, size, outcome)
+            put_summary(sink, request, size, &outcome)
         }
         Err(_) => put_memory(sink),
     }
@@ -177,6 +189,7 @@ pub fn run_with<R: Threads + Wait + Sync, H: Shelf, K: Sink, G: Gate + Sync>(
     gate: &G,
 ) -> u8
     requires limit { limits.commands < 4294967294 }
+    requires shelf { H.aside shelf.old ≡ [] }
     ensures { Runs limits (request_of (map string_bytes words.now))
         (shelf_of H.Shelf shelf.old) (shelf_of H.Shelf shelf.new)
         (sink_of K.Sink sink.old) (sink_of K.Sink sink.new) result }

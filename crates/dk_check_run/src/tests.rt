@@ -1,5 +1,5 @@
 //! Whole reports: what the program is asked, and what it answers.
-ghost use Rattle.std.specs.Prelude.{◌<◌};
+ghost use Rattle.std.specs.Prelude.{◌≡◌, ◌<◌, [], IfOk};
 
 use crate::file_rows::{ASKED, FILES, LONG, MADE};
 use crate::rule_rows::RULES;
@@ -43,6 +43,7 @@ pub(crate) const EMPTY: Row<'static> = Row {
 
 fn shelf_of(alloc: Global, row: &Row<'_>) -> Result<MemShelf, NoMemory>
     requires { 0 < row.now.piece }
+    ensures { IfOk result (λ s. s.aside ≡ []) }
 {
     let book = Book {
         name: String::from_str(alloc, "f.dk")?,

@@ -1,5 +1,5 @@
 //! The call that the program makes.
-ghost use Rattle.std.specs.Prelude.{map};
+ghost use Rattle.std.specs.Prelude.{◌≡◌, [], map};
 ghost use Rattle.std.specs.String.{string_bytes};
 ghost use Rattle.command_line.specs.Requests.{request_of};
 ghost use Rattle.dk_model.specs.Limits.{standard};
@@ -18,7 +18,7 @@ use std::thread::Threads;
 /// Checks the file that the words name, or the theory that they have made, and writes its report to the sink; answers the
 /// status (docs/report.md).
 ///
-/// `words[0]` is the program's name and isn't looked at. The clauses hold for every number of workers and whatever the order
+/// `words[0]` is the program's name and isn't looked at. The shelf has no book put aside (`dk_io::Shelf`). The clauses hold for every number of workers and whatever the order
 /// of their steps; that the waits for other threads end is a premise of them. How far the shelf is read behind the first
 /// command that isn't accepted depends on the workers, and the report doesn't. A want of memory is answered as such wherever
 /// it comes, and no clause says that it came. The gate's calls stand round each check, and no answer depends on them.
@@ -30,6 +30,8 @@ pub fn run<R: Threads + Wait + Sync, H: Shelf, K: Sink, G: Gate + Sync>(
     sink: &mut K,
     gate: &G,
 ) -> u8
+    requires shelf { H.aside shelf.old ≡ [] }
+
     // A row of the table was due, and was written or cut.
     ensures due { Runs standard (request_of (map string_bytes words.now))
         (shelf_of H.Shelf shelf.old) (shelf_of H.Shelf shelf.new)

@@ -1,5 +1,5 @@
 -- For proofs: what a sink in memory and a shelf in memory are, as their callers see them.
-use Rattle.std.specs.Prelude.{ℕ, List, Contains, slice_index_or}
+use Rattle.std.specs.Prelude.{ℕ, Bool, List, Contains, slice_index_or}
 use Rattle.dk_io.specs.Causes.{raised}
 use Rattle.dk_io.specs.Bytes.{Books, place_of}
 
@@ -21,12 +21,15 @@ pub record SinkState : Type 0 where
   pub calls : ℕ
   pub faults : ℕ
 
--- a shelf in memory: its books, the bytes that are left of the open one (none before any is opened), how many it gives at
--- most in one read, the numbers of the calls that fail, how many calls it had, how many reads
--- failed, how many openings of each book failed, and how many of all names that it doesn't have
+-- a shelf in memory: its books, whether one is open, the bytes that are left of it (none before any is opened) and of
+-- each that was put aside, the last one first, how many it gives at most in one read, the numbers of the calls that
+-- fail, how many calls it had, how many reads failed, how many openings of each book failed, and how many of all names
+-- that it doesn't have
 pub record ShelfState : Type 0 where
   pub books : Books
+  pub is_open : Bool
   pub left : List ℕ
+  pub aside : List (List ℕ)
   pub piece : ℕ
   pub failing : List ℕ
   pub calls : ℕ

@@ -1,6 +1,7 @@
 -- Trusted: what is spelt at a place: the longest spelling of a blank, a comment or a token that stands there
 -- (Dedukti manual, lexical conventions; docs/syntax.md).
-use Rattle.std.specs.Prelude.{ℕ, zero, suc, ◌+◌, ◌-◌, Bool, true, false, List, [], ◌∷◌, ◌++◌, length, codes, if◌then◌else◌, nat_le, ◌==◌, ◌||◌}
+use Rattle.std.specs.Prelude.{ℕ, zero, suc, ◌+◌, ◌-◌, Bool, true, false, List, [], ◌∷◌, ◌++◌, length, codes, if◌then◌else◌, nat_le, ◌==◌, ◌||◌, ◌&&◌, not}
+use Rattle.std.specs.List.{list_all}
 use Rattle.std.specs.Str.{bytes_eq}
 use Rattle.dk_model.specs.declared.code.Code.{Code}
 use Rattle.dk_model.specs.declared.code.Code.TheVariants.{E01, E03, E05}
@@ -57,6 +58,15 @@ behind_letters (b ∷ bs) = if is_letter_class (class_of b) then behind_letters 
 abbrev pub is_wildcard : List ℕ → Bool
 is_wildcard (b ∷ []) = b == 95
 is_wildcard _ = false
+
+-- may it stand in a name
+abbrev pub is_name_byte : ℕ → Bool
+is_name_byte b = in_name (class_of b)
+
+-- a plain name as a whole: bytes of names, of which the first isn't `'`, but not the wildcard
+abbrev pub is_plain_name : List ℕ → Bool
+is_plain_name [] = false
+is_plain_name (b ∷ bs) = not (is_wildcard (b ∷ bs)) && (not (b == 39) && list_all is_name_byte (b ∷ bs))
 
 -- the words that the profile leaves out
 abbrev pub is_outside : List ℕ → Bool

@@ -1,6 +1,6 @@
 //! What a byte is for the lexer (docs/syntax.md).
 ghost use Rattle.std.specs.Prelude.{◌≡◌};
-ghost use Rattle.dk_lexer.specs.Classes.{class_of};
+ghost use Rattle.dk_lexer.specs.Classes.{class_of, in_name};
 
 /// The classes of bytes; bytes of one class are treated alike.
 #[derive(Clone, Copy, Debug, PartialEq, Eq)]
@@ -81,4 +81,16 @@ pub fn classify(byte: u8) -> Class
         b'#' => Class::Hash,
         _ => Class::Other,
     }
+}
+
+/// May it stand in a name.
+#[inline(always)]
+#[tactic(auto, unfolding(crate::specs::Classes::class_of))]
+pub fn is_in_name(byte: u8) -> bool
+    ensures { result ≡ in_name (class_of byte) }
+{
+    matches!(
+        byte,
+        b'a'..=b'z' | b'A'..=b'Z' | b'0'..=b'9' | b'_' | b'\'' | b'!' | b'?'
+    )
 }

@@ -15,3 +15,4 @@ pub use laws::{front_law, pieces_law, place_law};
 pub use lexer::{Exhausted, Lexer};
 pub use place::Place;
 pub use token::{Sign, Token, TokenKind};
+pub use words::is_plain_name;

@@ -1,9 +1,11 @@
 //! What a plain run is.
 ghost use Rattle.std.specs.Prelude.{◌≡◌, Some, slice_get, if◌then◌else◌};
+ghost use Rattle.std.specs.List.{list_all};
 ghost use Rattle.std.specs.Str.{bytes_eq};
-ghost use Rattle.dk_lexer.specs.Spelling.{is_wildcard, kind_of};
+ghost use Rattle.dk_lexer.specs.Spelling.{is_name_byte, is_plain_name, is_wildcard, kind_of};
 ghost use Rattle.dk_lexer.specs.Tokens.{command_after};
 
+use crate::class::is_in_name;
 use crate::{Sign, TokenKind};
 
 /// Is it the wildcard.
@@ -14,6 +16,24 @@ pub fn is_wildcard(text: &[u8]) -> bool
         [byte] => *byte == b'_',
         _ => false,
     }
+}
+
+/// Whether a text is a plain name as a whole: bytes of names, of which the first isn't `'`, but not `_` alone
+/// (docs/syntax.md). A keyword is one here.
+pub fn is_plain_name(text: &[u8]) -> bool
+    ensures { result ≡ is_plain_name text.now }
+{
+    match text {
+        [] => false,
+        [first, ..] => !is_wildcard(text) && *first != b'\'' && is_run(text),
+    }
+}
+
+// Whether all bytes are of names.
+fn is_run(text: &[u8]) -> bool
+    ensures { result ≡ list_all is_name_byte text.now }
+{
+    text.iter().all(|byte| is_in_name(*byte))
 }
 
 /// The kind of a plain run that stands alone.

@@ -35,36 +35,43 @@ impl Sink for Gathered {
 }
 
 /// The text of a made theory: the one book of a shelf, open from the start, whose reads never fail.
-/// It has no name, so each opening fails.
+/// Its name is empty, and an opening of any other name fails.
 #[derive(Drop)]
 pub struct MadeText {
     bytes: Vec<u8>,
     at: usize,
+    // How many bytes were read when it was put aside, the last time at the end; there is room for 64.
+    aside: Vec<usize>,
     missed: u64,
 }
 
 impl Model for MadeText {
-    ghost use Rattle.std.specs.Prelude.{drop, vec_len};
-    ghost use Rattle.dk_make.specs.Texts.{TextState};
+    ghost use Rattle.std.specs.Prelude.{◌≤◌, drop, vec_capacity};
+    ghost use Rattle.dk_make.specs.Texts.{TextState, rests};
 
     ghost Value = { TextState };
 
     ghost view = { λ t. record {
-      size = vec_len t.bytes;
+      bytes = t.bytes.items;
       left = drop t.at t.bytes.items;
+      aside = rests t.bytes.items t.aside.items;
       missed = t.missed;
     } };
+
+    ghost invariant = { λ t. 64 ≤ vec_capacity t.aside };
 }
 
 impl MadeText {
     /// The theory with so many theorems.
     pub fn new(alloc: Global, n: u32) -> Result<MadeText, NoMemory>
         ensures { IfOk result (λ t. t ≡ record {
-          size = length (theory_of n);
+          bytes = theory_of n;
           left = theory_of n;
+          aside = [];
           missed = 0;
         }) }
     {
+        let aside = Vec::with_capacity(alloc, 64)?;
         let mut gathered = Gathered {
             bytes: Vec::new(alloc),
             faults: 0,
@@ -73,6 +80,7 @@ impl MadeText {
             Ok(()) => Ok(MadeText {
                 bytes: gathered.bytes,
                 at: 0,
+                aside,
                 missed: 0,
             }),
             Err(Failed) => Err(NoMemory),
@@ -81,26 +89,41 @@ impl MadeText {
 
     /// The bytes of the whole text.
     pub fn size(&self) -> usize
-        ensures { result ≡ self.now.size }
+        ensures { result ≡ length self.now.bytes }
     {
         self.bytes.len()
     }
 }
 
 impl Shelf for MadeText {
-    ghost use Rattle.std.specs.Prelude.{None, Some};
+    ghost use Rattle.std.specs.Prelude.{◌∷◌, [], Some, map, true};
 
-    ghost books = { λ t. None };
+    ghost books = { λ t. Some (([], t.bytes) ∷ []) };
+
+    ghost is_open = { λ t. true };
 
     ghost left = { λ t. Some t.left };
+
+    ghost aside = { λ t. map Some t.aside };
 
     ghost faults = { λ t. 0 };
 
     ghost missed = { λ t name. t.missed };
 
-    fn open_book(&mut self, _: &str) -> Result<(), Failed> {
-        self.missed = self.missed.saturating_add(1);
-        Err(Failed)
+    fn open_book(&mut self, name: &str) -> Result<(), Failed> {
+        if !name.is_empty() {
+            self.missed = self.missed.saturating_add(1);
+            return Err(Failed);
+        }
+        self.aside.push_reserved(self.at);
+        self.at = 0;
+        Ok(())
+    }
+
+    fn back(&mut self) {
+        if let Some(at) = self.aside.pop() {
+            self.at = at;
+        }
     }
 
     fn read(&mut self, buf: &mut [u8]) -> Result<usize, Failed> {

@@ -1,7 +1,7 @@
 -- Typing takes the same units whatever it is given: with fewer it comes to the same, or they do not suffice. So it is over
 -- any evaluation of which that holds.
 use Rattle.std.specs.Prelude.{length}
-use Rattle.std.proofs.Common.{List, [], ◌∷◌, ◌++◌, ℕ, suc, ◌≡◌, ◌<◌, ◌≤◌, ◌+◌, ◌-◌, Bool, true, false, nat_lt, Option, Some, None, Result, Ok, Err, refl, ap, sym as flip, ◌∙◌, arith, if◌then◌else◌}
+use Rattle.std.proofs.Common.{List, [], ◌∷◌, ◌++◌, ℕ, zero, suc, ◌≡◌, ◌<◌, ◌≤◌, ◌+◌, ◌-◌, Bool, true, false, nat_lt, Option, Some, None, Result, Ok, Err, refl, ap, sym as flip, ◌∙◌, arith, if◌then◌else◌}
 use Rattle.std.proofs.lemmas.Bool.Decides.{nat_tests}
 use Rattle.dk_model.specs.Trees.{Tree}
 use Rattle.dk_model.specs.Signatures.{PlainSignature}
@@ -12,11 +12,15 @@ use Rattle.dk_model.specs.RuleTypingOver.{convertible}
 use Rattle.dk_model.specs.CommandTypingOver.{command_checked}
 use Rattle.dk_model.specs.Typing.{Judged, by_units}
 use Rattle.dk_model.specs.Verdicts.{verdict, verdict_of}
+use Rattle.dk_model.specs.Bindings.{Bindings, under, bound}
+use Rattle.dk_model.specs.Solving.{Solver, Equation, binds, parts, clash, nothing, equation_of, each_solved, equation_solved, heads_solved, unless_same, solved_with, solved}
 use Rattle.dk_model.specs.declared.code.Code.{Code}
+use Rattle.dk_model.specs.declared.code.Code.TheVariants.{E34}
 use Rattle.dk_model.specs.declared.code.Verdict.{Verdict}
 use Rattle.dk_model.specs.declared.code.Verdict.TheVariants.{Ended}
 use Rattle.dk_model.proofs.Counting as evaluation
 use Rattle.dk_model.proofs.Fuel as fuel
+use Rattle.dk_model.proofs.Solving.{solved_alike}
 use Rattle.dk_model.proofs.RelatedTyping.{IsRespected, as_product_related, inferred_related, checked_related, command_related}
 
 -- the same with `d` units fewer left, or the end where there are fewer
@@ -126,11 +130,46 @@ convertible_counts : (b : Bool) → Counts (convertible b)
 convertible_counts true = counts_answer tt
 convertible_counts false = counts_refused _
 
+-- ---- solving
+
+abbrev SolverCounts : Solver → Type 0
+SolverCounts Q = (s : Bindings) (t u : Tree) → Counts (Q s t u)
+
+module _ (S : PlainSignature) where
+  module _ (Q : Solver) (h : SolverCounts Q) where
+    each_counts : (ps : List (Tree × Tree)) (s : Bindings) → Counts (each_solved Q ps s)
+    each_counts [] s = counts_answer s
+    each_counts (p ∷ ps) s = counts_next (h s p.0 p.1) (λ r. each_counts ps r)
+
+    equation_counts : (s : Bindings) (e : Equation) → Counts (equation_solved Q s e)
+    equation_counts s (binds k u) = counts_answer (bound s k u)
+    equation_counts s (parts ps) = each_counts ps s
+    equation_counts s clash = counts_refused E34
+    equation_counts s nothing = counts_answer s
+
+    heads_count : SolverCounts (heads_solved S Q)
+    heads_count s t u = counts_after (evaluation.whnf_counts S (under s t)) (λ v. counts_after (evaluation.whnf_counts S (under s u)) (λ w. equation_counts s (equation_of S (under s v) (under s w))))
+
+    unless_counts : (s : Bindings) (t u : Tree) (same : Bool) → Counts (λ n. unless_same (heads_solved S Q s t u n) s same n)
+    unless_counts s t u true = counts_answer s
+    unless_counts s t u false = heads_count s t u
+
+  with_counts : (f : ℕ) → SolverCounts (solved_with f S)
+  with_counts zero s t u = counts_ended
+  with_counts (suc f) s t u = counts_after (evaluation.comparison_counts S (under s t) (under s u)) (unless_counts (solved_with f S) (with_counts f) s t u)
+
+  solved_counts : SolverCounts (solved S)
+  solved_counts s t u = record {
+    lowers = λ n d. (solved_alike S n (n + d) n s t u (omega arith) (omega arith)).0 ∙ (with_counts (n + d) s t u).lowers n d;
+    falls = λ n. (with_counts n s t u).falls n;
+  }
+
 -- an evaluation of which it holds
 pub record EvaluatorCounts (E : Evaluator ℕ) : Type 0 where
   pub whnf : (t : Tree) → evaluation.Counts (λ n. E.whnf n t)
   pub same : (t u : Tree) → evaluation.Counts (λ n. E.same n t u)
   pub normal : (t : Tree) → evaluation.Counts (λ n. E.normal n t)
+  pub solve : (s : Bindings) (t u : Tree) → Counts (λ n. E.solve n s t u)
 
 abbrev OfFirst : (A : Type 0) → (ℕ → Judged A) → (ℕ → Judged A) → Type 0
 OfFirst A f g = Counts f
@@ -145,6 +184,7 @@ module _ (E : Evaluator ℕ) (K : EvaluatorCounts E) where
     normal = λ B t h k y. counts_after (K.normal t) y;
     same = λ t u. counts_after (K.same t u) agreed_counts;
     convertible = λ t u. counts_after (K.same t u) convertible_counts;
+    solve = K.solve;
   }
 
   pub as_product_counts : (c : Code) (T : Tree) → Counts (as_product E c T)
@@ -161,7 +201,7 @@ module _ (E : Evaluator ℕ) (K : EvaluatorCounts E) where
 
 -- evaluation with units
 pub units_count : (S : PlainSignature) → EvaluatorCounts (by_units S)
-units_count S = record { whnf = evaluation.whnf_counts S; same = evaluation.comparison_counts S; normal = evaluation.normal_counts S }
+units_count S = record { whnf = evaluation.whnf_counts S; same = evaluation.comparison_counts S; normal = evaluation.normal_counts S; solve = solved_counts S }
 
 abbrev of_judged : Judged (Unit {0}) → Verdict
 of_judged x = verdict x

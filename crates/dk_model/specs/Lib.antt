@@ -21,12 +21,14 @@ pub mod Selection
 pub mod Parts
 pub mod Evaluation
 pub mod Equations
+pub mod Shapes
+pub mod Bindings
 pub mod TypingOver
+pub mod Solving
 pub mod ByUnits
 pub mod Typing
 pub mod RuleTypingOver
 pub mod RuleTyping
-pub mod Shapes
 pub mod CommandTypingOver
 pub mod CommandTyping
 pub mod Verdicts

@@ -3,8 +3,9 @@ use Rattle.std.specs.Prelude.{ℕ, Option, List}
 use Rattle.dk_model.specs.PlainTerms.{Tree}
 use Rattle.dk_model.specs.PlainEntries.{Pattern, Patterns, PlainRule, PlainSignature}
 use Rattle.dk_model.specs.Typing.{Judged, by_units}
+use Rattle.dk_model.specs.Bindings.{Bindings}
 use Rattle.dk_model.specs.RuleTypingOver as over
-pub use Rattle.dk_model.specs.RuleTypingOver.{Guard, Found, Walked, found_type, with_type, with_wildcard, with_guard, type_or_kind, all_types, outermost_first, occurrence, guard_walked, abstraction_over, nothing_found, patterns_of, convertible, allowed}
+pub use Rattle.dk_model.specs.RuleTypingOver.{Guard, Found, Walked, Posed, found_type, with_type, with_wildcard, with_guard, with_bindings, type_or_kind, all_types, types_under, outermost_first, occurrence, guard_walked, abstraction_over, nothing_found, patterns_of, convertible, allowed}
 
 module _ (S : PlainSignature) where
   abbrev pub as_convertible : Tree → Tree → ℕ → Judged (Unit {0})
@@ -19,8 +20,11 @@ module _ (S : PlainSignature) where
   abbrev pub first_type : List Tree → List ℕ → List ℕ → Tree → ℕ → Judged Tree
   first_type = over.first_type (by_units S)
 
-  abbrev pub later_type : List Tree → List ℕ → Tree → ℕ → Judged Tree
+  abbrev pub later_type : List Tree → List ℕ → Tree → Bindings → ℕ → Judged Posed
   later_type = over.later_type (by_units S)
+
+  abbrev pub first_typed : Bindings → List Tree → List ℕ → Tree → ℕ → Judged Tree
+  first_typed = over.first_typed (by_units S)
 
   abbrev pub first_occurrence : List Tree → ℕ → List ℕ → Tree → Found → ℕ → Judged Walked
   first_occurrence = over.first_occurrence (by_units S)
@@ -37,7 +41,7 @@ module _ (S : PlainSignature) where
   abbrev pub as_expected : Tree → Walked → ℕ → Judged Walked
   as_expected = over.as_expected (by_units S)
 
-  abbrev pub notes_agree : List (Option Tree) → List (Option Tree) → ℕ → Judged (Unit {0})
+  abbrev pub notes_agree : Bindings → List (Option Tree) → List (Option Tree) → ℕ → Judged (Unit {0})
   notes_agree = over.notes_agree (by_units S)
 
   abbrev pub walked : List Tree → Pattern → Tree → Found → ℕ → Judged Walked
@@ -46,7 +50,7 @@ module _ (S : PlainSignature) where
   abbrev pub spine_walked : List Tree → Tree → Tree → Patterns → Found → ℕ → Judged Walked
   spine_walked = over.spine_walked (by_units S) S
 
-  abbrev pub guards_fit : List Tree → List Guard → ℕ → Judged (Unit {0})
+  abbrev pub guards_fit : Bindings → List Tree → List Guard → ℕ → Judged (Unit {0})
   guards_fit = over.guards_fit (by_units S) S
 
   abbrev pub sides_fit : List (Option Tree) → Tree → Walked → ℕ → Judged (Unit {0})

@@ -3,22 +3,25 @@ use Rattle.std.specs.Prelude.{ℕ, ◌+◌, Option, Some, None, Bool, true, fals
 use Rattle.dk_model.specs.PlainTerms.{Tree, star, kind, symbol, variable, rule_variable, apply, bare, annotated, product}
 use Rattle.dk_model.specs.Substitution.{shift, substitute}
 use Rattle.dk_model.specs.Erasure.{erased}
+use Rattle.dk_model.specs.Bindings.{Bindings}
 use Rattle.dk_model.specs.PlainEntries.{PlainEntry, symbol_entry, rules_entry, PlainSignature}
 use Rattle.dk_model.specs.declared.code.Code.{Code}
 use Rattle.dk_model.specs.declared.code.Code.TheVariants.{E20, E21, E22, E23, E24, E25}
-
--- what typing asks of evaluation: the weak head form, whether two terms are the same, and the normal form. Each is given
--- what is left to spend, as units, and gives what is left then; None where it doesn't suffice
-pub record Evaluator (X : Type 0) : Type 0 where
-  pub whnf : X → Tree → Option (Tree × X)
-  pub same : X → Tree → Tree → Option (Bool × X)
-  pub normal : X → Tree → Option (Tree × X)
 
 -- what typing gives: an answer or the first fault, with what is left to spend, or the end of it
 pub data JudgedIn (X A : Type 0) : Type 0 where
   answer : A → X → JudgedIn X A
   refused : Code → X → JudgedIn X A
   ended : JudgedIn X A
+
+-- what typing asks of evaluation: the weak head form, whether two terms are the same, the normal form, and what rule variables
+-- are bound to once the equation of two types is solved. Each is given what is left to spend, as units, and gives what is left
+-- then; None and `ended` where it doesn't suffice
+pub record Evaluator (X : Type 0) : Type 0 where
+  pub whnf : X → Tree → Option (Tree × X)
+  pub same : X → Tree → Tree → Option (Bool × X)
+  pub normal : X → Tree → Option (Tree × X)
+  pub solve : X → Bindings → Tree → Tree → JudgedIn X Bindings
 
 -- typing goes on after an evaluation
 abbrev pub after : {X A B : Type 0} → Option (A × X) → (A → X → JudgedIn X B) → JudgedIn X B

@@ -31,6 +31,14 @@ pub enum Code {
     E12,
     /// A name twice in the context of one rule.
     E13,
+    /// A needed module is open and isn't the one being read, or a directive needs the one being read.
+    E14,
+    /// A module is needed while as many files are open as may be.
+    E15,
+    /// A module is needed where as many were opened as may be.
+    E16,
+    /// A need of another module in a theory that is pruned.
+    E17,
     /// An applied term whose type isn't a product.
     E20,
     /// Two types that aren't convertible.
@@ -76,6 +84,10 @@ impl Code {
             Code::E11 => b"E11",
             Code::E12 => b"E12",
             Code::E13 => b"E13",
+            Code::E14 => b"E14",
+            Code::E15 => b"E15",
+            Code::E16 => b"E16",
+            Code::E17 => b"E17",
             Code::E20 => b"E20",
             Code::E21 => b"E21",
             Code::E22 => b"E22",

@@ -1,6 +1,8 @@
 -- From each part of a command some terminals lead to its end.
 use Rattle.std.proofs.Common.{◌≡◌, ℕ, List, [], ◌∷◌, refl, ap, ◌∙◌}
-use Rattle.std.specs.Prelude.{Option, Some, None}
+use Rattle.std.specs.Prelude.{Option, Some, None, true, codes, if◌then◌else◌}
+use Rattle.dk_lexer.specs.Classes.{class_of}
+use Rattle.dk_lexer.specs.Spelling.{is_plain_name}
 use Rattle.dk_model.specs.declared.signature.SymSort.{SymSort}
 use Rattle.dk_model.specs.declared.signature.SymSort.TheVariants.{Static, Theorem}
 use Rattle.dk_lexer.specs.declared.token.Sign.{Sign}
@@ -10,7 +12,7 @@ use Rattle.dk_terms.specs.declared.terminal.Terminal.TheVariants as terminal
 use Rattle.dk_terms.specs.Parsing.{at_front, domain, Application, reading, bindable, bracketed, Frame, bracket_frame, wrapping, binder_term, applied_to, ended, end_next, PatternFrame, pattern_bracket, pattern_wrapping, LeftApplication, pattern_reading, pattern_bindable, LeftSoFar, left_ended, binder_pattern, left_read, pattern_applied_to, end_left}
 use Rattle.dk_parser.specs.Written.{Written, written_star, written_product, WrittenParam, WrittenPattern, pattern_wild, pattern_guard, WrittenForm}
 use Rattle.dk_parser.specs.Grammar.{colon, dot, arrow, open_square, close_square, close_brace}
-use Rattle.dk_parser.specs.Parsing.{Head, with_param, RuleHead, with_entry, Purpose, as_param, as_type, as_entry, as_guard, CommandSoFar, command_due, name_due, head_due, binder_due, binder_colon_due, rule_name_due, rule_brace_due, square_due, context_due, entry_due, entry_named, in_left, in_term, in_term_by, in_left_by, in_left_next, Advance, goes, ends, advanced}
+use Rattle.dk_parser.specs.Parsing.{Head, with_param, RuleHead, with_entry, Purpose, as_param, as_type, as_entry, as_guard, CommandSoFar, command_due, name_due, head_due, binder_due, binder_colon_due, rule_name_due, rule_brace_due, square_due, context_due, entry_due, entry_named, in_left, in_term, module_due, dot_due, in_term_by, in_left_by, in_left_next, Advance, goes, ends, refuses, advanced}
 use Rattle.dk_parser.proofs.Complete as machine
 use Rattle.dk_parser.proofs.Complete.{run_by, run, Enders, at, head_of}
 
@@ -117,6 +119,10 @@ square_alive h = before open_square refl (before close_square refl (left_alive h
 named_alive : (h : RuleHead) (n : List ℕ) → Alive (entry_named h n)
 named_alive h n = before close_square refl (left_alive (with_entry h n None) [] (pattern_reading None))
 
+plain_m : is_plain_name (codes "m") ≡ true
+unfolding class_of
+plain_m = refl
+
 pub alive : (p : CommandSoFar) → Alive p
 alive command_due = before (terminal.Name []) refl (head_alive (head_of Static [] []))
 alive (name_due s) = before (terminal.Name []) refl (head_alive (head_of s [] []))
@@ -129,5 +135,7 @@ alive (square_due h) = square_alive h
 alive (context_due h) = before close_square refl (left_alive h [] (pattern_reading None))
 alive (entry_due h) = before (terminal.Name []) refl (named_alive h [])
 alive (entry_named h n) = named_alive h n
+alive (module_due d) = before (terminal.Name (codes "m")) (ap (λ b. if b then goes (dot_due d (codes "m")) else refuses) plain_m) (before dot refl whole)
+alive (dot_due d m) = before dot refl whole
 alive (in_left h part) = left_alive h part.frames part.application
 alive (in_term purpose p) = term_alive purpose p.frames p.application

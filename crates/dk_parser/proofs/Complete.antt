@@ -1,6 +1,6 @@
 -- The parts of a command, one terminal after the other; what is spelt so is read so.
 use Rattle.std.proofs.Common.{◌≡◌, ℕ, List, [], ◌∷◌, ◌++◌, refl, sym, ap, ◌∙◌, append_assoc, append-nil}
-use Rattle.std.specs.Prelude.{Option, Some, None}
+use Rattle.std.specs.Prelude.{Option, Some, None, true, if◌then◌else◌}
 use Rattle.dk_model.specs.declared.signature.SymSort.{SymSort}
 use Rattle.dk_model.specs.declared.signature.SymSort.TheVariants.{Static, Definable, Theorem}
 use Rattle.dk_lexer.specs.declared.token.Sign.{Sign}
@@ -9,8 +9,11 @@ use Rattle.dk_terms.specs.declared.terminal.Terminal.{Terminal}
 use Rattle.dk_terms.specs.declared.terminal.Terminal.TheVariants as terminal
 use Rattle.dk_terms.specs.Parsing.{Role, at_front, domain, Application, reading, bindable, Frame, bracket_frame, wrapping, TermSoFar, term_due, TermStep, binder_term, applied_to, end_next, term_next, PatternFrame, pattern_bracket, pattern_wrapping, LeftApplication, pattern_reading, pattern_bindable, left_due, binder_pattern, left_read, pattern_applied_to}
 use Rattle.dk_parser.specs.Written.{Written, written_arrow, written_product, written_bare, written_annotated, WrittenPattern, pattern_guard, pattern_bare, WrittenParam, WrittenNote, WrittenRule, WrittenForm, written_declare, written_rules}
-use Rattle.dk_parser.specs.Grammar.{colon, arrow, double_arrow, open_bracket, close_bracket, open_brace, close_brace, long_arrow, SpellsBinder, spells_binder, spells_no_binder, SpellsAtom, spells_name, spells_qualified, spells_star, spells_wildcard, spells_brackets, SpellsApplication, spells_head, spells_applied, SpellsTerm, spells_application, spells_arrow, spells_product, spells_bracketed_product, spells_bare, spells_annotated, SpellsPatternAtom, spells_pattern_name, spells_pattern_qualified, spells_pattern_wildcard, spells_guard, spells_pattern_brackets, SpellsPatternApplication, spells_pattern_head, spells_pattern_applied, SpellsPattern, spells_pattern_application, spells_pattern_bare, defined, dot, open_square, close_square, comma, param, rule, SpellsParams, spells_no_params, spells_params, SpellsEntry, spells_entry, spells_typed_entry, SpellsEntries, spells_last_entry, spells_more_entries, SpellsContext, spells_no_context, spells_context, spells_no_rule_name, spells_rule_name, spells_qualified_rule_name, SpellsRule, spells_rule, SpellsRules, spells_last_rule, spells_more_rules, SpellsForm, spells_static, spells_definable, spells_definition, spells_typed_definition, spells_theorem, spells_rules}
-use Rattle.dk_parser.specs.Parsing.{Purpose, as_guard, as_right, RuleHead, CommandSoFar, in_left, in_term, in_term_by, behind_term, Head, with_entry, as_param, as_type, as_body, as_entry, command_due, head_due, binder_due, binder_colon_due, rule_name_due, square_due, context_due, entry_due, entry_named, Advance, goes, behind_entry, named_next, advanced, ends, refuses}
+use Rattle.dk_lexer.specs.Spelling.{is_plain_name}
+use Rattle.dk_parser.specs.declared.directive_part.Directive.{Directive}
+use Rattle.dk_parser.specs.declared.directive_part.Directive.TheVariants as directive
+use Rattle.dk_parser.specs.Grammar.{colon, arrow, double_arrow, open_bracket, close_bracket, open_brace, close_brace, long_arrow, SpellsBinder, spells_binder, spells_no_binder, SpellsAtom, spells_name, spells_qualified, spells_star, spells_wildcard, spells_brackets, SpellsApplication, spells_head, spells_applied, SpellsTerm, spells_application, spells_arrow, spells_product, spells_bracketed_product, spells_bare, spells_annotated, SpellsPatternAtom, spells_pattern_name, spells_pattern_qualified, spells_pattern_wildcard, spells_guard, spells_pattern_brackets, SpellsPatternApplication, spells_pattern_head, spells_pattern_applied, SpellsPattern, spells_pattern_application, spells_pattern_bare, defined, dot, open_square, close_square, comma, param, rule, SpellsParams, spells_no_params, spells_params, SpellsEntry, spells_entry, spells_typed_entry, SpellsEntries, spells_last_entry, spells_more_entries, SpellsContext, spells_no_context, spells_context, spells_no_rule_name, spells_rule_name, spells_qualified_rule_name, SpellsRule, spells_rule, SpellsRules, spells_last_rule, spells_more_rules, SpellsForm, spells_static, spells_definable, spells_definition, spells_typed_definition, spells_theorem, spells_rules, spells_module, spells_require}
+use Rattle.dk_parser.specs.Parsing.{Purpose, as_guard, as_right, RuleHead, CommandSoFar, in_left, in_term, in_term_by, behind_term, Head, with_entry, as_param, as_type, as_body, as_entry, command_due, head_due, binder_due, binder_colon_due, rule_name_due, square_due, context_due, entry_due, entry_named, Advance, goes, behind_entry, named_next, advanced, ends, refuses, module_due, dot_due, directive_form}
 
 -- the part after these terminals, or the form and what is behind it, or no command
 pub data Run : Type 0 where
@@ -340,6 +343,11 @@ rules_complete p done t (spells_more_rules {xs} {ys} {r} {rs} s k) =
     ∙ rules_complete (behind done r) (done ++ r ∷ []) (λ rest. refl, λ rest. refl) k
     ∙ ap (λ rs. ended (written_rules rs) []) (append_assoc done (r ∷ []) rs)
 
+-- Directives
+
+directive_complete : (d : Directive) (m : List ℕ) → is_plain_name m ≡ true → Ends (module_due d) (terminal.Name m ∷ dot ∷ []) (directive_form d m)
+directive_complete d m plain = ap (λ b. run_by (if b then goes (dot_due d m) else refuses) (λ q. run q (dot ∷ [])) (dot ∷ [])) plain
+
 -- Commands
 
 -- a command is read as what it spells
@@ -358,4 +366,6 @@ complete (spells_theorem {n} {xs} {ys} {zs} {ps} {a} h k j) =
     params_complete Theorem n [] h (colon ∷ (ys ++ defined ∷ (zs ++ dot ∷ [])))
     ∙ term_complete (as_type (head_of Theorem n ps)) k sign.Defined (zs ++ dot ∷ []) (λ p. refl)
     ∙ body_complete (head_of Theorem n ps) (Some a) j
+complete (spells_module {m} plain) = directive_complete directive.Name m plain
+complete (spells_require {m} plain) = directive_complete directive.Require m plain
 complete (spells_rules k) = rules_complete command_due [] (λ rest. refl, λ rest. refl) k

@@ -1,6 +1,6 @@
 -- What is read is spelt so.
-use Rattle.std.proofs.Common.{◌≡◌, ℕ, List, [], ◌∷◌, ◌++◌, sym, ap, ◌∙◌, subst, append_assoc, append-nil}
-use Rattle.std.specs.Prelude.{Option, Some, None}
+use Rattle.std.proofs.Common.{◌≡◌, ℕ, List, [], ◌∷◌, ◌++◌, refl, sym, ap, ◌∙◌, subst, append_assoc, append-nil}
+use Rattle.std.specs.Prelude.{Option, Some, None, Bool, true, false, if◌then◌else◌}
 use Rattle.dk_model.specs.declared.signature.SymSort.{SymSort}
 use Rattle.dk_model.specs.declared.signature.SymSort.TheVariants.{Static, Definable, Theorem}
 use Rattle.dk_lexer.specs.declared.token.Sign.{Sign}
@@ -8,9 +8,12 @@ use Rattle.dk_lexer.specs.declared.token.Sign.TheVariants as sign
 use Rattle.dk_terms.specs.declared.terminal.Terminal.{Terminal}
 use Rattle.dk_terms.specs.declared.terminal.Terminal.TheVariants as terminal
 use Rattle.dk_terms.specs.Parsing.{TermSoFar, term_due, TermStep, term_goes, term_ends, term_refuses, term_next, LeftSoFar, left_due, LeftStep, left_goes, left_ends, left_refuses, left_next, with_atom}
+use Rattle.dk_lexer.specs.Spelling.{is_plain_name}
+use Rattle.dk_parser.specs.declared.directive_part.Directive.{Directive}
+use Rattle.dk_parser.specs.declared.directive_part.Directive.TheVariants as directive
 use Rattle.dk_parser.specs.Written.{Written, WrittenParam, WrittenPattern, pattern_guard, WrittenNote, WrittenRule, WrittenForm, written_declare}
-use Rattle.dk_parser.specs.Grammar.{colon, defined, dot, open_bracket, close_bracket, open_square, close_square, open_brace, close_brace, comma, long_arrow, param, entry, rule, SpellsBinder, spells_binder, spells_no_binder, SpellsTerm, SpellsPatternApplication, spells_guard, SpellsParams, spells_no_params, spells_params, SpellsEntry, spells_entry, spells_typed_entry, SpellsEntries, spells_last_entry, spells_more_entries, SpellsContext, spells_no_context, spells_context, SpellsRuleName, spells_no_rule_name, spells_rule_name, spells_qualified_rule_name, SpellsRule, spells_rule, SpellsRules, spells_last_rule, spells_more_rules, SpellsForm, spells_static, spells_definable, spells_definition, spells_typed_definition, spells_theorem, spells_rules}
-use Rattle.dk_parser.specs.Parsing.{Head, RuleHead, with_entry, Purpose, as_param, as_type, as_body, as_entry, as_guard, as_right, CommandSoFar, command_due, name_due, head_due, binder_due, binder_colon_due, rule_name_due, rule_brace_due, square_due, context_due, entry_due, entry_named, in_left, in_term, Advance, goes, ends, refuses, behind_entry, behind_rule, behind_term, in_term_by, head_next, named_next, in_left_by, in_left_next, dot_behind_type, body_behind_type, advanced}
+use Rattle.dk_parser.specs.Grammar.{colon, defined, dot, open_bracket, close_bracket, open_square, close_square, open_brace, close_brace, comma, long_arrow, param, entry, rule, SpellsBinder, spells_binder, spells_no_binder, SpellsTerm, SpellsPatternApplication, spells_guard, SpellsParams, spells_no_params, spells_params, SpellsEntry, spells_entry, spells_typed_entry, SpellsEntries, spells_last_entry, spells_more_entries, SpellsContext, spells_no_context, spells_context, SpellsRuleName, spells_no_rule_name, spells_rule_name, spells_qualified_rule_name, SpellsRule, spells_rule, SpellsRules, spells_last_rule, spells_more_rules, SpellsForm, spells_static, spells_definable, spells_definition, spells_typed_definition, spells_theorem, spells_rules, spells_module, spells_require}
+use Rattle.dk_parser.specs.Parsing.{Head, RuleHead, with_entry, Purpose, as_param, as_type, as_body, as_entry, as_guard, as_right, CommandSoFar, command_due, name_due, head_due, binder_due, binder_colon_due, rule_name_due, rule_brace_due, square_due, context_due, entry_due, entry_named, in_left, in_term, Advance, goes, ends, refuses, behind_entry, behind_rule, behind_term, in_term_by, head_next, named_next, in_left_by, in_left_next, dot_behind_type, body_behind_type, module_due, dot_due, directive_form, advanced}
 use Rattle.dk_parser.proofs.Complete.{ended, run, run_by, Ends}
 use Rattle.dk_parser.proofs.SoundTerms.{within_lists, nested_lists, ReachedTerm, nothing_reached, MadeTerm, term_made, ReachedLeft, left_reached_nothing, left_atom_reached, MadeLeft, left_made}
 
@@ -65,6 +68,11 @@ data Before : List Terminal → Purpose → Type 0 where
   before_guard : {xs ys : List Terminal} {h : RuleHead} {part : LeftSoFar} → ContextRead xs h → ReachedLeft ys part → Before (xs ++ (ys ++ open_brace ∷ [])) (as_guard h part)
   before_right : {xs ys : List Terminal} {h : RuleHead} {l : WrittenPattern} → ContextRead xs h → SpellsPatternApplication ys l → Before (xs ++ (ys ++ long_arrow ∷ [])) (as_right h l)
 
+-- the word of a directive
+abbrev word : Directive → Terminal
+word directive.Name = terminal.NameWord
+word directive.Require = terminal.RequireWord
+
 -- these terminals lead to this part of a command
 data Reached : List Terminal → CommandSoFar → Type 0 where
   at_command : Reached [] command_due
@@ -80,6 +88,8 @@ data Reached : List Terminal → CommandSoFar → Type 0 where
   at_entry : {xs : List Terminal} {h : RuleHead} → ContextSoFar xs h → Reached xs (entry_due h)
   at_named : {xs : List Terminal} {h : RuleHead} {n : List ℕ} → ContextSoFar xs h → Reached (xs ++ terminal.Name n ∷ []) (entry_named h n)
   at_left : {xs ys : List Terminal} {h : RuleHead} {part : LeftSoFar} → ContextRead xs h → ReachedLeft ys part → Reached (xs ++ ys) (in_left h part)
+  at_module : (d : Directive) → Reached (word d ∷ []) (module_due d)
+  at_dot : {m : List ℕ} (d : Directive) → is_plain_name m ≡ true → Reached (word d ∷ terminal.Name m ∷ []) (dot_due d m)
   at_term : {xs ys : List Terminal} {purpose : Purpose} {p : TermSoFar} → Before xs purpose → ReachedTerm ys p → Reached (xs ++ ys) (in_term purpose p)
 
 -- what a step makes of these terminals
@@ -209,12 +219,22 @@ named_made {xs} n (terminal.Sign sign.Colon) c = there xs (terminal.Name n ∷ [
 named_made n (terminal.Sign s) c = entry_made (entry_added {n = n} c spells_entry) s
 named_made n x c = tt
 
+module_made : (d : Directive) (m : List ℕ) (b : Bool) → is_plain_name m ≡ b → Made (word d ∷ terminal.Name m ∷ []) (if b then goes (dot_due d m) else refuses)
+module_made d m true is = at_dot d is
+module_made d m false is = tt
+
+dot_behind_module : (d : Directive) (m : List ℕ) → is_plain_name m ≡ true → SpellsForm (word d ∷ terminal.Name m ∷ dot ∷ []) (directive_form d m)
+dot_behind_module directive.Name m plain = spells_module plain
+dot_behind_module directive.Require m plain = spells_require plain
+
 made : {xs : List Terminal} {p : CommandSoFar} → Reached xs p → (x : Terminal) → Made (xs ++ x ∷ []) (advanced p x)
 made at_command (terminal.Name n) = at_head (spells_head {s = Static} spells_no_params)
 made at_command terminal.Def = at_def
 made at_command terminal.Thm = at_thm
 made at_command (terminal.Sign sign.OpenBrace) = at_rule_name none_so_far
 made at_command (terminal.Sign sign.OpenSquare) = at_context (spells_named none_so_far spells_no_rule_name)
+made at_command terminal.NameWord = at_module directive.Name
+made at_command terminal.RequireWord = at_module directive.Require
 made at_def (terminal.Name n) = at_head (spells_head {s = Definable} spells_no_params)
 made at_thm (terminal.Name n) = at_head (spells_head {s = Theorem} spells_no_params)
 made (at_head h) x = head_made x h
@@ -231,6 +251,8 @@ made (at_entry c) (terminal.Name n) = at_named c
 made (at_named {n = n} c) x = named_made n x c
 made (at_left {part = part} c l) x = in_left_made part x c l
 made (at_term {ys = ys} {p = p} b t) x = term_by ys x (term_next p x) b (term_made p t x)
+made (at_module d) (terminal.Name m) = module_made d m (is_plain_name m) refl
+made (at_dot {m} d plain) (terminal.Sign sign.Dot) = dot_behind_module d m plain
 made r x = tt
 
 -- what is left of a list that is read

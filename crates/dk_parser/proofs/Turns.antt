@@ -9,14 +9,16 @@ use Rattle.dk_lexer.specs.declared.token.Token.{Token}
 use Rattle.dk_terms.specs.Terminals.{terminal_of}
 use Rattle.dk_parser.specs.declared.parser.Step.{Step}
 use Rattle.dk_parser.specs.declared.parser.Step.TheVariants as step
+use Rattle.dk_parser.specs.Modules.{is_directive}
 use Rattle.dk_parser.specs.Written.{WrittenCommand}
-use Rattle.dk_parser.specs.RawViews.{written_command}
+use Rattle.dk_parser.specs.RawViews.{written_command, written_form}
+use Rattle.dk_parser.specs.declared.raw.Raw.{Raw}
 use Rattle.dk_parser.specs.Groups.{load}
 use Rattle.dk_parser.specs.Levels.{standing_behind}
 use Rattle.dk_parser.specs.Parsing.{Advance, refuses, advanced, Parsing, started, begun_by, Answer, more, command, refused, Turn, turn, turn_by_step, turn_by_fault, refusal, parsing_from, parsing_after, answered, commands_from}
 use Rattle.dk_parser.specs.Reading.{TokenReading}
 use Rattle.dk_parser.specs.Steps.{read_tokens, reading_at, GoesOn, AddsCommand, AddsFault, AddsStep, Answers}
-use Rattle.dk_parser.specs.Views.{CameTo}
+use Rattle.dk_parser.specs.Views.{CameTo, IsStep}
 
 pub parsing_append : (s : Parsing) (ts us : List Token) → parsing_from s (ts ++ us) ≡ parsing_from (parsing_from s ts) us
 parsing_append s [] us = refl
@@ -58,9 +60,10 @@ adds_more cs s n h = record {
   after = h.1;
 }
 
-adds_command : (cs : List WrittenCommand) (c : WrittenCommand) (s n : Parsing) → Says (command c) s n → AddsCommand (reading_at cs s) (reading_at (cs ++ c ∷ []) n) c
-adds_command cs c s n h = record {
+adds_command : (cs : List WrittenCommand) (c : WrittenCommand) (directive : Bool) (s n : Parsing) → Says (command c) s n → is_directive c.form ≡ directive → AddsCommand (reading_at cs s) (reading_at (cs ++ c ∷ []) n) c directive
+adds_command cs c directive s n h which = record {
   commands = refl;
+  which = which;
   begun = ap (λ (f : Option (ℕ × Code)). begun_by f n.begun) h.1 ∙ h.2;
   before = h.0;
   after = h.1;
@@ -74,6 +77,14 @@ adds_fault cs code s n h = record {
   after = h.1;
   before = λ some. ap (λ cs. reading_at cs n) (append-nil cs) ∙ ap (reading_at cs) (h.2 some);
 }
+
+-- a command or a directive ends
+pub step_came : (t : Turn) (raw : Raw) (s : Step) (n : Parsing) → IsStep raw s → n ≡ t.state → t.answer ≡ command (written_command raw) → CameTo t (Ok s) n
+step_came t raw step.More n is state answer = absurd is
+step_came t raw (step.Command r) n is state answer =
+    (state, answer ∙ ap (λ (x : Raw). command (written_command x)) (sym is.0), ap (λ (x : Raw). is_directive (written_form x.form)) is.0 ∙ is.1)
+step_came t raw (step.Directive r) n is state answer =
+    (state, answer ∙ ap (λ (x : Raw). command (written_command x)) (sym is.0), ap (λ (x : Raw). is_directive (written_form x.form)) is.0 ∙ is.1)
 
 module _ (limits : Limits) (ts : List Token) (t : Token) where
   -- the commands and the parser before the token, and its turn
@@ -93,11 +104,14 @@ module _ (limits : Limits) (ts : List Token) (t : Token) where
       ∙ ap (λ cs. reading_at cs now.state) (sym (commands_append (started limits) ts (t ∷ [])))
       ∙ ap (reading_at (commands_from (started limits) (ts ++ t ∷ []))) (sym (parsing_append (started limits) ts (t ∷ [])))
 
+  adds_form : (c : WrittenCommand) (directive : Bool) → now.answer ≡ command c → is_directive c.form ≡ directive → AddsCommand (read_tokens limits ts) (read_tokens limits (ts ++ t ∷ [])) c directive
+  adds_form c directive e which =
+      subst (λ (r : TokenReading). AddsCommand (read_tokens limits ts) r c directive) (read_more (command c) e) (adds_command read c directive (parsing_after limits ts) now.state (says (command c) e) which)
+
   adds_came : (r : Result Step Fault) (n : Parsing) → CameTo now r n → AddsStep (read_tokens limits ts) r (read_tokens limits (ts ++ t ∷ []))
   adds_came (Ok step.More) n h = subst (GoesOn (read_tokens limits ts)) (read_more more h.1) (adds_more read (parsing_after limits ts) now.state (says more h.1))
-  adds_came (Ok (step.Command raw)) n h =
-      let c = written_command raw.value in
-      subst (λ (r : TokenReading). AddsCommand (read_tokens limits ts) r c) (read_more (command c) h.1) (adds_command read c (parsing_after limits ts) now.state (says (command c) h.1))
+  adds_came (Ok (step.Command raw)) n h = adds_form (written_command raw.value) false h.1 h.2
+  adds_came (Ok (step.Directive raw)) n h = adds_form (written_command raw.value) true h.1 h.2
   adds_came (Err (fault.Refused code)) n h =
       subst (λ (r : TokenReading). AddsFault (read_tokens limits ts) r code) (read_more (refused code) h.1) (adds_fault read code (parsing_after limits ts) now.state (says (refused code) h.1))
   adds_came (Err fault.NoMemory) n h = tt

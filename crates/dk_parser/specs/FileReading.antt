@@ -1,5 +1,5 @@
 -- Trusted: what the bytes of a file are read as (docs/report.md). That `read_tokens` gives what `Reads` says is a law (src/laws.rt).
-use Rattle.std.specs.Prelude.{ℕ, List, Option, Some, None, unwrap_or}
+use Rattle.std.specs.Prelude.{ℕ, List, [], ◌∷◌, Option, Some, None, unwrap_or}
 use Rattle.dk_model.specs.declared.code.Code.{Code}
 use Rattle.dk_model.specs.declared.code.Code.TheVariants.{E03}
 use Rattle.dk_model.specs.declared.limits.Limits.{Limits}
@@ -14,7 +14,7 @@ pub data Tail : Type 0 where
   fault : ℕ → Code → Tail
   unread : Tail
 
--- the commands of a file, each with the line of its first token, and the tail
+-- the commands and directives of a file, each with the line of its first token, and the tail
 pub record Reading : Type 0 where
   pub commands : List WrittenCommand
   pub tail : Tail
@@ -41,3 +41,8 @@ reading_of r lexed ending = record { commands = r.commands; tail = tail_by_token
 -- what the bytes of a file are read as
 abbrev pub read : Limits → List ℕ → lexer.Ending → Reading
 read limits bytes ending = reading_of (read_tokens limits (lexer.tokens limits bytes ending).tokens) (lexer.tokens limits bytes ending) ending
+
+-- the line of the next command or directive: its own where it is whole; else that of its first token where one was read; else this one
+abbrev pub next_line : List WrittenCommand → Option ℕ → ℕ → ℕ
+next_line (c ∷ cs) begun place = c.line
+next_line [] begun place = unwrap_or begun place

@@ -1,11 +1,12 @@
--- Trusted: the grammar of commands: which terminals spell which (Dedukti manual, syntax; docs/grammar.md).
-use Rattle.std.specs.Prelude.{◌≡◌, ℕ, List, [], ◌∷◌, ◌++◌, Option, Some, None, map}
+-- Trusted: the grammar of commands and directives: which terminals spell which (Dedukti manual, syntax; docs/grammar.md).
+use Rattle.std.specs.Prelude.{◌≡◌, ℕ, true, List, [], ◌∷◌, ◌++◌, Option, Some, None, map}
 use Rattle.dk_model.specs.declared.signature.SymSort.TheVariants.{Static, Definable, Theorem}
 use Rattle.dk_lexer.specs.declared.token.Token.{Token}
+use Rattle.dk_lexer.specs.Spelling.{is_plain_name}
 use Rattle.dk_terms.specs.declared.terminal.Terminal.{Terminal}
 use Rattle.dk_terms.specs.declared.terminal.Terminal.TheVariants as terminal
 use Rattle.dk_terms.specs.Terminals.{terminal_of}
-use Rattle.dk_parser.specs.Written.{Written, WrittenParam, WrittenPattern, WrittenNote, WrittenRule, WrittenForm, written_declare, written_rules, WrittenCommand}
+use Rattle.dk_parser.specs.Written.{Written, WrittenParam, WrittenPattern, WrittenNote, WrittenRule, WrittenForm, written_declare, written_rules, written_module, written_require, WrittenCommand}
 pub use Rattle.dk_terms.specs.Signs.{colon, defined, dot, arrow, double_arrow, open_bracket, close_bracket, open_square, close_square, open_brace, close_brace, comma, long_arrow}
 pub use Rattle.dk_terms.specs.Grammar.{SpellsBinder, spells_binder, spells_no_binder, SpellsAtom, SpellsApplication, SpellsTerm, SpellsPatternAtom, SpellsPatternApplication, SpellsPattern, spells_name, spells_qualified, spells_star, spells_wildcard, spells_brackets, spells_head, spells_applied, spells_application, spells_arrow, spells_product, spells_bracketed_product, spells_bare, spells_annotated, spells_pattern_name, spells_pattern_qualified, spells_pattern_wildcard, spells_guard, spells_pattern_brackets, spells_pattern_head, spells_pattern_applied, spells_pattern_application, spells_pattern_bare}
 
@@ -56,7 +57,7 @@ pub data SpellsRules : List Terminal → List WrittenRule → Type 0 where
   spells_last_rule : {xs : List Terminal} {r : WrittenRule} → SpellsRule xs r → SpellsRules xs (r ∷ [])
   spells_more_rules : {xs ys : List Terminal} {r : WrittenRule} {rs : List WrittenRule} → SpellsRule xs r → SpellsRules ys rs → SpellsRules (xs ++ ys) (r ∷ rs)
 
--- this command: `c : A.`, `def c : A.`, `def c := t.`, `def c : A := t.` or `thm c : A := t.`, each with its parameters behind the name; or rules
+-- this directive: `#NAME m.` or `#REQUIRE m.`, where `m` is plain; or this command: `c : A.`, `def c : A.`, `def c := t.`, `def c : A := t.` or `thm c : A := t.`, each with its parameters behind the name; or rules
 pub data SpellsForm : List Terminal → WrittenForm → Type 0 where
   spells_static : {n : List ℕ} {xs ys : List Terminal} {ps : List WrittenParam} {a : Written} → SpellsParams xs ps → SpellsTerm ys a → SpellsForm (terminal.Name n ∷ (xs ++ colon ∷ (ys ++ dot ∷ []))) (written_declare Static n ps (Some a) None)
   spells_definable : {n : List ℕ} {xs ys : List Terminal} {ps : List WrittenParam} {a : Written} → SpellsParams xs ps → SpellsTerm ys a → SpellsForm (terminal.Def ∷ terminal.Name n ∷ (xs ++ colon ∷ (ys ++ dot ∷ []))) (written_declare Definable n ps (Some a) None)
@@ -64,6 +65,8 @@ pub data SpellsForm : List Terminal → WrittenForm → Type 0 where
   spells_typed_definition : {n : List ℕ} {xs ys zs : List Terminal} {ps : List WrittenParam} {a b : Written} → SpellsParams xs ps → SpellsTerm ys a → SpellsTerm zs b → SpellsForm (terminal.Def ∷ terminal.Name n ∷ (xs ++ colon ∷ (ys ++ defined ∷ (zs ++ dot ∷ [])))) (written_declare Definable n ps (Some a) (Some b))
   spells_theorem : {n : List ℕ} {xs ys zs : List Terminal} {ps : List WrittenParam} {a b : Written} → SpellsParams xs ps → SpellsTerm ys a → SpellsTerm zs b → SpellsForm (terminal.Thm ∷ terminal.Name n ∷ (xs ++ colon ∷ (ys ++ defined ∷ (zs ++ dot ∷ [])))) (written_declare Theorem n ps (Some a) (Some b))
   spells_rules : {xs : List Terminal} {rs : List WrittenRule} → SpellsRules xs rs → SpellsForm (xs ++ dot ∷ []) (written_rules rs)
+  spells_module : {m : List ℕ} → is_plain_name m ≡ true → SpellsForm (terminal.NameWord ∷ terminal.Name m ∷ dot ∷ []) (written_module m)
+  spells_require : {m : List ℕ} → is_plain_name m ≡ true → SpellsForm (terminal.RequireWord ∷ terminal.Name m ∷ dot ∷ []) (written_require m)
 
 abbrev pub terminals : List Token → List Terminal
 terminals ts = map terminal_of ts
@@ -73,15 +76,15 @@ abbrev pub first_line : List Token → ℕ
 first_line [] = 0
 first_line (t ∷ ts) = t.line
 
--- these tokens spell this command
+-- these tokens spell this command or directive
 pub record Spells (ts : List Token) (c : WrittenCommand) : Type 0 where
   pub line : c.line ≡ first_line ts
   pub form : SpellsForm (terminals ts) c.form
 
--- a command begins so, or is spelt so
+-- a command or a directive begins so, or is spelt so
 abbrev pub Begins : List Terminal → Type 0
 Begins xs = (rest : List Terminal) × (form : WrittenForm) × SpellsForm (xs ++ rest) form
 
--- a command begins so, and more of it is due
+-- a command or a directive begins so, and more of it is due
 abbrev pub IsBegun : List Terminal → Type 0
 IsBegun xs = (x : Terminal) × (rest : List Terminal) × (form : WrittenForm) × SpellsForm (xs ++ x ∷ rest) form

@@ -2,6 +2,7 @@ pub mod FileReading
 pub mod Grammar
 pub mod Groups
 pub mod Levels
+pub mod Modules
 pub mod Parsing
 pub mod RawViews
 pub mod Reading

@@ -1,5 +1,5 @@
 -- For proofs: what the parser has made of the tokens so far. `Reading` has its meaning.
-use Rattle.std.specs.Prelude.{ℕ, Bool, true, false, List, [], ◌∷◌, ◌++◌, Option, Some, None, unwrap_or, nat_lt}
+use Rattle.std.specs.Prelude.{ℕ, Bool, true, false, List, [], ◌∷◌, ◌++◌, Option, Some, None, unwrap_or, nat_lt, if◌then◌else◌}
 use Rattle.dk_model.specs.declared.code.Code.{Code}
 use Rattle.dk_model.specs.declared.code.Code.TheVariants.{E02, E04, E06}
 use Rattle.dk_model.specs.declared.limits.Limits.{Limits}
@@ -8,11 +8,14 @@ use Rattle.dk_model.specs.declared.signature.SymSort.TheVariants.{Static, Defina
 use Rattle.dk_lexer.specs.declared.token.Token.{Token}
 use Rattle.dk_lexer.specs.declared.token.Sign.{Sign}
 use Rattle.dk_lexer.specs.declared.token.Sign.TheVariants as sign
+use Rattle.dk_lexer.specs.Spelling.{is_plain_name}
 use Rattle.dk_terms.specs.declared.terminal.Terminal.{Terminal}
 use Rattle.dk_terms.specs.declared.terminal.Terminal.TheVariants as terminal
 use Rattle.dk_terms.specs.Parsing.{TermSoFar, term_due, TermStep, term_goes, term_ends, term_refuses, term_next, LeftSoFar, left_due, LeftStep, left_goes, left_ends, left_refuses, left_next, with_atom}
 use Rattle.dk_terms.specs.Terminals.{terminal_of}
-use Rattle.dk_parser.specs.Written.{Written, WrittenParam, WrittenPattern, pattern_guard, WrittenNote, WrittenRule, WrittenForm, written_declare, written_rules, WrittenCommand}
+use Rattle.dk_parser.specs.declared.directive_part.Directive.{Directive}
+use Rattle.dk_parser.specs.declared.directive_part.Directive.TheVariants as directive
+use Rattle.dk_parser.specs.Written.{Written, WrittenParam, WrittenPattern, pattern_guard, WrittenNote, WrittenRule, WrittenForm, written_declare, written_rules, written_module, written_require, WrittenCommand}
 use Rattle.dk_parser.specs.Grammar.{param, entry, rule}
 use Rattle.dk_parser.specs.Groups.{load}
 use Rattle.dk_parser.specs.Levels.{Standing, at_start, standing_behind}
@@ -68,6 +71,8 @@ pub data CommandSoFar : Type 0 where
   entry_named : RuleHead → List ℕ → CommandSoFar
   in_left : RuleHead → LeftSoFar → CommandSoFar
   in_term : Purpose → TermSoFar → CommandSoFar
+  module_due : Directive → CommandSoFar
+  dot_due : Directive → List ℕ → CommandSoFar
 
 -- what a terminal makes of it: a command that goes on; a command; or nothing
 pub data Advance : Type 0 where
@@ -147,13 +152,24 @@ in_left_next h part x = in_left_by h (left_next part x)
 abbrev pub named : SymSort → List ℕ → Advance
 named sort name = goes (head_due record { sort = sort; name = name; params = [] })
 
--- one terminal of a command
+-- a name behind the word of a directive
+abbrev pub module_named : Directive → List ℕ → Advance
+module_named d m = if is_plain_name m then goes (dot_due d m) else refuses
+
+-- a directive with its module
+abbrev pub directive_form : Directive → List ℕ → WrittenForm
+directive_form directive.Name m = written_module m
+directive_form directive.Require m = written_require m
+
+-- one terminal of a command or a directive
 abbrev pub advanced : CommandSoFar → Terminal → Advance
 advanced command_due (terminal.Name n) = named Static n
 advanced command_due terminal.Def = goes (name_due Definable)
 advanced command_due terminal.Thm = goes (name_due Theorem)
 advanced command_due (terminal.Sign sign.OpenBrace) = goes (rule_name_due no_rules)
 advanced command_due (terminal.Sign sign.OpenSquare) = goes (context_due no_rules)
+advanced command_due terminal.NameWord = goes (module_due directive.Name)
+advanced command_due terminal.RequireWord = goes (module_due directive.Require)
 advanced (name_due sort) (terminal.Name n) = named sort n
 advanced (head_due h) x = head_next h x
 advanced (binder_due h) (terminal.Name n) = goes (binder_colon_due h (Some n))
@@ -169,6 +185,8 @@ advanced (entry_due h) (terminal.Name n) = goes (entry_named h n)
 advanced (entry_named h n) x = named_next h n x
 advanced (in_left h part) x = in_left_next h part x
 advanced (in_term purpose part) x = in_term_by purpose (term_next part x)
+advanced (module_due d) (terminal.Name m) = module_named d m
+advanced (dot_due d m) (terminal.Sign sign.Dot) = ends (directive_form d m)
 advanced part x = refuses
 
 -- the command that has begun, with the line of its first token, and the fault with its line

@@ -6,10 +6,10 @@ use Rattle.dk_parser.specs.declared.raw.RawRule.{RawRule}
 use Rattle.dk_parser.specs.declared.raw.RawForm.{RawForm}
 use Rattle.dk_parser.specs.declared.raw.RawForm.TheVariants as form
 use Rattle.dk_parser.specs.declared.raw.Raw.{Raw}
-use Rattle.dk_parser.specs.Written.{WrittenCommand, WrittenForm, WrittenNote, WrittenParam, WrittenRule, written_declare, written_rules}
+use Rattle.dk_parser.specs.Written.{WrittenCommand, WrittenForm, WrittenNote, WrittenParam, WrittenRule, written_declare, written_rules, written_module, written_require}
 pub use Rattle.dk_terms.specs.RawViews.{written, maybe_written, written_pattern}
 
--- a parameter, an entry of a context, a rule, a command as written
+-- a parameter, an entry of a context, a rule, a command or directive as written
 abbrev pub written_param : RawParam → WrittenParam
 written_param p = record { binder = p.binder; typ = written p.typ }
 
@@ -22,6 +22,8 @@ written_rule r = record { context = map written_note r.context; left = written_p
 abbrev pub written_form : RawForm → WrittenForm
 written_form (form.Declare s n ps t b) = written_declare s n (map written_param ps) (maybe_written t) (maybe_written b)
 written_form (form.Rules rs) = written_rules (map written_rule rs)
+written_form (form.Module m) = written_module m
+written_form (form.Require m) = written_require m
 
 abbrev pub written_command : Raw → WrittenCommand
 written_command raw = record { line = raw.line; form = written_form raw.form }

@@ -1,5 +1,5 @@
 -- For proofs: what the parser's steps read, and what a token adds to it. That it is what `Reads` says is a law (src/laws.rt).
-use Rattle.std.specs.Prelude.{◌≡◌, ℕ, List, [], ◌∷◌, ◌++◌, Option, Some, None, Result, Ok, Err, IsSome}
+use Rattle.std.specs.Prelude.{◌≡◌, ℕ, Bool, true, false, List, [], ◌∷◌, ◌++◌, Option, Some, None, Result, Ok, Err, IsSome}
 use Rattle.dk_model.specs.declared.code.Code.{Code}
 use Rattle.dk_model.specs.declared.code.Code.TheVariants.{E03}
 use Rattle.dk_model.specs.declared.code.Fault.{Fault}
@@ -8,6 +8,7 @@ use Rattle.dk_model.specs.declared.limits.Limits.{Limits}
 use Rattle.dk_lexer.specs.declared.token.Token.{Token}
 use Rattle.dk_parser.specs.declared.parser.Step.{Step}
 use Rattle.dk_parser.specs.declared.parser.Step.TheVariants as step
+use Rattle.dk_parser.specs.Modules.{is_directive}
 use Rattle.dk_parser.specs.Written.{WrittenCommand}
 use Rattle.dk_parser.specs.RawViews.{written_command}
 use Rattle.dk_parser.specs.Parsing.{Parsing, started, begun_line, parsing_after, commands_from}
@@ -43,9 +44,10 @@ pub record GoesOn (old new : TokenReading) : Type 0 where
   pub before : old.fault ≡ None
   pub after : new.fault ≡ None
 
--- one more token, and it ends a command
-pub record AddsCommand (old new : TokenReading) (c : WrittenCommand) : Type 0 where
+-- one more token, and it ends a command, or a directive
+pub record AddsCommand (old new : TokenReading) (c : WrittenCommand) (directive : Bool) : Type 0 where
   pub commands : new.commands ≡ old.commands ++ c ∷ []
+  pub which : is_directive c.form ≡ directive
   pub begun : new.begun ≡ None
   pub before : old.fault ≡ None
   pub after : new.fault ≡ None
@@ -61,7 +63,8 @@ pub record AddsFault (old new : TokenReading) (code : Code) : Type 0 where
 -- what an answer says of the reading before the token and with it; want of memory says nothing
 abbrev pub AddsStep : TokenReading → Result Step Fault → TokenReading → Type 0
 AddsStep old (Ok step.More) new = GoesOn old new
-AddsStep old (Ok (step.Command raw)) new = AddsCommand old new (written_command raw.value)
+AddsStep old (Ok (step.Command raw)) new = AddsCommand old new (written_command raw.value) false
+AddsStep old (Ok (step.Directive raw)) new = AddsCommand old new (written_command raw.value) true
 AddsStep old (Err (answer_fault.Refused code)) new = AddsFault old new code
 AddsStep old (Err answer_fault.NoMemory) new = Unit {0}
 

@@ -1,5 +1,5 @@
 -- For proofs: the parser and its parts as plain data.
-use Rattle.std.specs.Prelude.{◌≡◌, List, Result, Ok, Err, map}
+use Rattle.std.specs.Prelude.{◌≡◌, true, false, List, Result, Ok, Err, map}
 use Rattle.dk_model.specs.declared.code.Fault.{Fault}
 use Rattle.dk_model.specs.declared.code.Fault.TheVariants as fault
 use Rattle.dk_model.specs.declared.limits.Limits.{Limits}
@@ -13,11 +13,13 @@ use Rattle.dk_parser.specs.declared.command_so_far.Due.TheVariants as due
 use Rattle.dk_parser.specs.declared.command_so_far.CommandSoFar.{CommandSoFar}
 use Rattle.dk_parser.specs.declared.command_so_far.Advance.{Advance}
 use Rattle.dk_parser.specs.declared.command_so_far.Advance.TheVariants as advance
+use Rattle.dk_parser.specs.declared.raw.Raw.{Raw}
 use Rattle.dk_parser.specs.declared.parser.Parser.{Parser}
 use Rattle.dk_parser.specs.declared.standing.Standing.{Standing}
 use Rattle.dk_parser.specs.declared.parser.Step.{Step}
 use Rattle.dk_parser.specs.declared.parser.Step.TheVariants as step
 use Rattle.dk_parser.specs.RawViews.{maybe_written, written_param, written_pattern, written_note, written_rule, written_form, written_command}
+use Rattle.dk_parser.specs.Modules.{is_directive}
 use Rattle.dk_parser.specs.Parsing as plain
 use Rattle.dk_terms.specs.Parsing as terms
 use Rattle.dk_parser.specs.Groups.{plain_group, plain_groups, plain_side}
@@ -56,6 +58,8 @@ due_by h r l t due.Entry = plain.entry_due r
 due_by h r l t (due.EntryNamed n) = plain.entry_named r n
 due_by h r l t due.Left = plain.in_left r l
 due_by h r l t (due.Term u) = plain.in_term (purpose_by h r l u) t
+due_by h r l t (due.Module d) = plain.module_due d
+due_by h r l t (due.Dot d m) = plain.dot_due d m
 
 -- a command in which this is due
 abbrev pub plain_due : CommandSoFar → Due → plain.CommandSoFar
@@ -81,9 +85,16 @@ parsing p = record { limits = p.limits; begun = p.begun; standing = plain_standi
 abbrev pub HasRead : Limits → List Token → Parser → Type 0
 HasRead limits ts p = parsing p ≡ plain.parsing_after limits ts
 
+-- a whole command or directive, told by which it is
+abbrev pub IsStep : Raw → Step → Type 0
+IsStep raw step.More = ⊥
+IsStep raw (step.Command r) = (r.value ≡ raw) × (is_directive (written_form raw.form) ≡ false)
+IsStep raw (step.Directive r) = (r.value ≡ raw) × (is_directive (written_form raw.form) ≡ true)
+
 -- the turn came to this answer and left this parser; want of memory says nothing
 abbrev pub CameTo : plain.Turn → Result Step Fault → plain.Parsing → Type 0
 CameTo t (Ok step.More) s = (s ≡ t.state) × (t.answer ≡ plain.more)
-CameTo t (Ok (step.Command raw)) s = (s ≡ t.state) × (t.answer ≡ plain.command (written_command raw.value))
+CameTo t (Ok (step.Command raw)) s = (s ≡ t.state) × (t.answer ≡ plain.command (written_command raw.value)) × (is_directive (written_form raw.value.form) ≡ false)
+CameTo t (Ok (step.Directive raw)) s = (s ≡ t.state) × (t.answer ≡ plain.command (written_command raw.value)) × (is_directive (written_form raw.value.form) ≡ true)
 CameTo t (Err (fault.Refused code)) s = (s ≡ t.state) × (t.answer ≡ plain.refused code)
 CameTo t (Err fault.NoMemory) s = Unit {0}

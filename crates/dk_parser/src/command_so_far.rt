@@ -1,4 +1,4 @@
-//! Commands, one terminal at a time.
+//! Commands and directives, one terminal at a time.
 ghost use Rattle.std.specs.Prelude.{◌≡◌, IfOk};
 ghost use Rattle.dk_parser.specs.Parsing.{advanced, behind_term, goes_into, in_term_by};
 ghost use Rattle.dk_terms.specs.Parsing.{term_next};
@@ -8,6 +8,7 @@ ghost use Rattle.dk_terms.specs.Views.{plain_term};
 ghost use Rattle.dk_parser.specs.RawViews.{written, written_form};
 
 use crate::declare_part::Head;
+use crate::directive_part::Directive;
 use crate::rule_part::RuleHead;
 use crate::{Raw, RawForm, RawParam};
 use dk_lexer::Sign;
@@ -62,6 +63,10 @@ pub enum Due {
     Left,
     /// More of a term, or what ends it.
     Term(Purpose),
+    /// The module of a directive.
+    Module(Directive),
+    /// The dot behind a directive with this module.
+    Dot(Directive, Listed<u8>),
 }
 
 /// A command that has begun: what is due, and what has been read of the parts that it may have.
@@ -134,6 +139,12 @@ impl CommandSoFar {
             (Due::EntryNamed(name), x) => self.named_next(alloc, name, x),
             (Due::Left, x) => self.left_next(alloc, x),
             (Due::Term(purpose), x) => self.in_term(alloc, purpose, x),
+            (Due::Module(directive), Terminal::Name(name)) => {
+                Ok(self.module_named(directive, name))
+            }
+            (Due::Dot(directive, name), Terminal::Sign(Sign::Dot)) => {
+                self.ends(alloc, directive.form(name))
+            }
             _ => Ok(Advance::Refuses),
         }
     }
@@ -186,6 +197,8 @@ impl CommandSoFar {
                 self.rules = RuleHead::new(alloc);
                 self.goes(Due::Context)
             }
+            Terminal::NameWord => self.goes(Due::Module(Directive::Name)),
+            Terminal::RequireWord => self.goes(Due::Module(Directive::Require)),
             _ => Advance::Refuses,
         }
     }

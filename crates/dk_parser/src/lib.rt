@@ -5,7 +5,9 @@
 
 mod command_so_far;
 mod declare_part;
+mod directive_part;
 mod laws;
+mod needs;
 mod parser;
 mod raw;
 mod rule_part;

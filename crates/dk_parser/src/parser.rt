@@ -5,7 +5,7 @@ ghost use Rattle.dk_model.specs.declared.code.Fault.{Fault};
 ghost use Rattle.dk_model.specs.declared.limits.Limits.{Limits};
 ghost use Rattle.dk_parser.specs.Parsing.{command_due, refusal, turn, turn_by_step};
 ghost use Rattle.dk_parser.specs.Steps.{AddsStep, Answers, finished, read_tokens};
-ghost use Rattle.dk_parser.specs.Views.{CameTo, HasRead, parsing, plain_step};
+ghost use Rattle.dk_parser.specs.Views.{CameTo, HasRead, IsStep, parsing, plain_step};
 
 use crate::Raw;
 use crate::command_so_far::{Advance, CommandSoFar, Due};
@@ -18,13 +18,15 @@ use std::alloc::Global;
 /// Why `feed` gave no step.
 pub type ParseFault = Fault;
 
-/// What a token came to.
+/// What a token came to. A directive is no command, and has no number.
 #[derive(Drop)]
 pub enum Step {
-    /// The command goes on.
+    /// The command or directive goes on.
     More,
     /// The token ended this command.
     Command(Box<Raw>),
+    /// The token ended this directive.
+    Directive(Box<Raw>),
 }
 
 /// Reads commands from tokens that come one at a time.
@@ -54,8 +56,8 @@ impl Parser {
 
     /// Takes the next token.
     ///
-    /// The codes are E06 for a word outside the profile, else E02 where no command begins with
-    /// the tokens of this command and this one, else E04 where it is on a level past the limit.
+    /// The codes are E06 for a word outside the profile, else E02 where no command and no directive
+    /// begins with the tokens of this one so far and this one, else E04 where it is on a level past the limit.
     /// After a code every later call answers the same code, and nothing changes. After want of
     /// memory the parser is to be dropped.
     pub fn feed(&mut self, alloc: Global, token: Token) -> Result<Step, ParseFault>
@@ -109,6 +111,7 @@ impl Parser {
     }
 
     // The answer to a step.
+    #[tactic(auto, using(crate::proofs::Turns::step_came))]
     fn answer(
         &mut self,
         alloc: Global,
@@ -134,7 +137,7 @@ impl Parser {
                 self.begun = None;
                 self.standing.start(alloc);
                 self.part.due = Due::Command;
-                Ok(Step::Command(command))
+                Ok(whole(command))
             }
         }
     }
@@ -147,6 +150,17 @@ impl Parser {
         self.part.due = Due::Command;
         self.fault = Some((line, code));
         Err(Fault::Refused(code))
+    }
+}
+
+// What a whole command or directive comes to.
+fn whole(raw: Box<Raw>) -> Step
+    ensures { IsStep raw.value result }
+{
+    if raw.form.is_directive() {
+        Step::Directive(raw)
+    } else {
+        Step::Command(raw)
     }
 }
 

@@ -1,15 +1,19 @@
-//! Commands as they are written, before scoping (docs/syntax.md).
+//! Commands and directives as they are written, before scoping (docs/grammar.md).
+ghost use Rattle.std.specs.Prelude.{◌≡◌};
+ghost use Rattle.dk_parser.specs.RawViews.{written_form};
+ghost use Rattle.dk_parser.specs.Modules.{is_directive};
+
 use dk_model::{Listed, SymSort};
 use dk_terms::{RawPat, RawTerm};
 
-/// A command and the line of its first token, from 1.
+/// A command or a directive, and the line of its first token, from 1.
 #[derive(Drop)]
 pub struct Raw {
     pub line: u32,
     pub form: RawForm,
 }
 
-/// The forms of a command.
+/// The forms of commands and of directives.
 #[derive(Drop)]
 pub enum RawForm {
     /// A declaration, a definition or a theorem.
@@ -25,6 +29,19 @@ pub enum RawForm {
     },
     /// One or more rewrite rules.
     Rules(Listed<RawRule>),
+    /// The directive `#NAME` and a module, which changes nothing.
+    Module(Listed<u8>),
+    /// The directive `#REQUIRE` and the module that it needs.
+    Require(Listed<u8>),
+}
+
+impl RawForm {
+    /// Whether it is a directive, and no command.
+    pub fn is_directive(&self) -> bool
+        ensures { result ≡ is_directive (written_form self.now) }
+    {
+        matches!(self, RawForm::Module(_) | RawForm::Require(_))
+    }
 }
 
 /// A parameter `(binder : type)`. A binder that is None is the wildcard.

@@ -1,5 +1,6 @@
 -- Trusted: the terminal of a token.
-use Rattle.std.specs.Prelude.{ℕ, ◌+◌, Bool, List, ◌==◌, length, take, drop, position, unwrap_or}
+use Rattle.std.specs.Prelude.{ℕ, ◌+◌, Bool, List, ◌==◌, length, take, drop, position, unwrap_or, codes, if◌then◌else◌}
+use Rattle.std.specs.Str.{bytes_eq}
 use Rattle.dk_lexer.specs.declared.token.Token.{Token}
 use Rattle.dk_lexer.specs.declared.token.TokenKind.{TokenKind}
 use Rattle.dk_lexer.specs.declared.token.TokenKind.TheVariants as kind
@@ -21,6 +22,10 @@ module_part spelling = take (dot_role spelling) spelling
 abbrev pub name_part : List ℕ → List ℕ
 name_part spelling = drop (dot_role spelling + 1) spelling
 
+-- a word outside the profile of commands: two of these begin directives
+abbrev pub word_terminal : List ℕ → Terminal
+word_terminal spelling = if bytes_eq spelling (codes "#NAME") then terminal.NameWord else (if bytes_eq spelling (codes "#REQUIRE") then terminal.RequireWord else terminal.Profile)
+
 abbrev pub terminal_by : TokenKind → List ℕ → Terminal
 terminal_by kind.Plain spelling = terminal.Name spelling
 terminal_by kind.Quoted spelling = terminal.Name spelling
@@ -29,7 +34,7 @@ terminal_by kind.Wildcard spelling = terminal.Wildcard
 terminal_by kind.Star spelling = terminal.Star
 terminal_by kind.Def spelling = terminal.Def
 terminal_by kind.Thm spelling = terminal.Thm
-terminal_by kind.Profile spelling = terminal.Profile
+terminal_by kind.Profile spelling = word_terminal spelling
 terminal_by (kind.Sign s) spelling = terminal.Sign s
 
 abbrev pub terminal_of : Token → Terminal

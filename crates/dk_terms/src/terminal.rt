@@ -1,6 +1,6 @@
 //! Terminals: what a token is to the grammar (docs/grammar.md).
 ghost use Rattle.std.specs.Prelude.{◌≡◌, ◌+◌, IfOk, drop, position, take};
-ghost use Rattle.dk_terms.specs.Terminals.{dot_role, is_dot, module_part, name_part, terminal_of};
+ghost use Rattle.dk_terms.specs.Terminals.{dot_role, is_dot, module_part, name_part, terminal_of, word_terminal};
 
 use dk_lexer::{Sign, Token, TokenKind};
 use dk_model::{Listed, NoMemory};
@@ -18,7 +18,11 @@ pub enum Terminal {
     Star,
     Def,
     Thm,
-    /// A word outside the profile.
+    /// The word `#NAME`.
+    NameWord,
+    /// The word `#REQUIRE`.
+    RequireWord,
+    /// Any other word outside the profile.
     Profile,
     Sign(Sign),
 }
@@ -42,9 +46,22 @@ impl Terminal {
             TokenKind::Star => Ok(Terminal::Star),
             TokenKind::Def => Ok(Terminal::Def),
             TokenKind::Thm => Ok(Terminal::Thm),
-            TokenKind::Profile => Ok(Terminal::Profile),
+            TokenKind::Profile => Ok(word(spelling.as_slice())),
             TokenKind::Sign(sign) => Ok(Terminal::Sign(sign)),
         }
+    }
+}
+
+// The terminal of a word outside the profile of commands: two of these begin directives.
+fn word(spelling: &[u8]) -> Terminal
+    ensures { result ≡ word_terminal spelling.now }
+{
+    if spelling == b"#NAME".as_slice() {
+        Terminal::NameWord
+    } else if spelling == b"#REQUIRE".as_slice() {
+        Terminal::RequireWord
+    } else {
+        Terminal::Profile
     }
 }
 

@@ -54,6 +54,7 @@ fresh_ready desk fresh = record {
     titled = fresh.titles ∙ sym (ap (titles_of job_of) fresh.jobs);
   };
   counted = ap (λ (T : Theory). T.names.count) fresh.theory ∙ sym (ap length fresh.titles);
+  unentered = fresh.unentered;
 }
 
 -- ---- the seal

@@ -11,11 +11,12 @@ use Rattle.dk_lexer.specs.Given.{begun_line}
 use Rattle.dk_parser.specs.FileReading.{Reading, read}
 use Rattle.dk_parser.specs.Steps.{read_tokens}
 use Rattle.dk_parser.specs.Written.{WrittenCommand}
-use Rattle.dk_parser.specs.declared.raw.Raw.{Raw}
 use Rattle.board_core.specs.declared.event.End.{End}
 use Rattle.board_core.specs.declared.event.End.TheVariants as end
 use Rattle.board_core.specs.declared.event.Event.{Event}
+use Rattle.board_core.specs.declared.event.Place.{Place}
 use Rattle.board_core.specs.Events.{is_accepted}
+use Rattle.board_core.specs.Places.{in_file}
 use Rattle.board_core.specs.Machine.{MayEnd}
 use Rattle.verdict_book.specs.Report.{FileReport}
 use Rattle.verdict_book.specs.declared.outcome.Outcome.TheVariants.{Stopped}
@@ -24,6 +25,7 @@ use Rattle.file_report.specs.Memory.{IsNextLine, next_line}
 use Rattle.file_report.specs.Ends.{IsReadersEnd, report_behind}
 use Rattle.file_report.specs.Jobs.{AreJobsFrom, theory_over}
 use Rattle.file_report.proofs.Putting.{jobs_wider, next_refused, tail_refused}
+use Rattle.file_reader.specs.declared.reader.Next.{Next}
 use Rattle.file_reader.specs.declared.reader.ReadEnd.{ReadEnd}
 use Rattle.file_reader.specs.declared.reader.ReadEnd.TheVariants as read_end
 use Rattle.file_reader.specs.declared.reader.Reader.{Reader}
@@ -60,36 +62,40 @@ module _ (limits : Limits) (budget : ℕ) (bytes : List ℕ) (jobs : List (Job �
   }
 
   -- the next command has a verdict other than Accepted
-  pub due_ends : (done : List WrittenCommand) (c : WrittenCommand) (line : ℕ) (v : Verdict) → BeginsWith limits bytes (done ++ c ∷ []) → length jobs ≡ length done → line ≡ c.line → v ≢ verdict.Accepted
-      → (v ≡ verdict.Memory) ⊎ (verdict_at limits budget (theory_over no_theory budget done) (length done) c.form ≡ v) → IsReadersEnd limits budget bytes whole (length jobs) (end.Fault line v)
-  due_ends done c line v begins counted line_is other = by_verdict v other
+  pub due_ends : (done : List WrittenCommand) (c : WrittenCommand) (place : Place) (v : Verdict) → BeginsWith limits bytes (done ++ c ∷ []) → length jobs ≡ length done → place ≡ in_file c.line → v ≢ verdict.Accepted
+      → (v ≡ verdict.Memory) ⊎ (verdict_at limits budget (theory_over no_theory budget done) (length done) c.form ≡ v) → IsReadersEnd limits budget bytes whole (length jobs) (end.Fault place v)
+  due_ends done c place v begins counted place_is other = by_verdict v other
     where
       commands_are : (read limits bytes whole).commands ≡ done ++ c ∷ begins.0
       commands_are = begins.1 ∙ append_assoc done (c ∷ []) begins.0
 
       refused : (u : Verdict) → is_accepted u ≡ false → verdict_at limits budget (theory_over no_theory budget done) (length done) c.form ≡ u
-          → report_behind limits budget (read limits bytes whole) (length jobs) ≡ (let r : FileReport = record { names = []; outcome = Stopped (length jobs + 1) line u } in r)
+          → report_behind limits budget (read limits bytes whole) (length jobs) ≡ (let r : FileReport = record { names = []; outcome = Stopped (length jobs + 1) place u } in r)
       refused u differs due_is =
           ap (report_behind limits budget (read limits bytes whole)) counted
           ∙ next_refused limits budget (read limits bytes whole) done begins.0 c u commands_are due_is differs
-          ∙ ap (λ n. let r : FileReport = record { names = []; outcome = Stopped (n + 1) c.line u } in r) (sym counted)
-          ∙ ap (λ l. let r : FileReport = record { names = []; outcome = Stopped (length jobs + 1) l u } in r) (sym line_is)
+          ∙ ap (λ n. let r : FileReport = record { names = []; outcome = Stopped (n + 1) (in_file c.line) u } in r) (sym counted)
+          ∙ ap (λ p. let r : FileReport = record { names = []; outcome = Stopped (length jobs + 1) p u } in r) (sym place_is)
 
       by_verdict : (u : Verdict) → u ≢ verdict.Accepted → (u ≡ verdict.Memory) ⊎ (verdict_at limits budget (theory_over no_theory budget done) (length done) c.form ≡ u)
-          → IsReadersEnd limits budget bytes whole (length jobs) (end.Fault line u)
+          → IsReadersEnd limits budget bytes whole (length jobs) (end.Fault place u)
       by_verdict verdict.Accepted differs is = absurd (differs refl)
       by_verdict (verdict.Refused code) differs is = refused (verdict.Refused code) refl (⊎_elim (λ e. cc) (λ e. e) is)
       by_verdict verdict.Ended differs is = refused verdict.Ended refl (⊎_elim (λ e. cc) (λ e. e) is)
-      by_verdict verdict.Memory differs is = inr (next_line_is done line counted (record {
-        given = bytes;
-        rest = [];
-        bytes_are = sym (append-nil bytes);
-        ending = whole;
-        last = λ e. (refl, refl);
-        later = c ∷ begins.0;
-        commands_are = commands_are;
-        line_is = line_is;
-      }))
+      by_verdict verdict.Memory differs is = (
+        c.line,
+        place_is,
+        inr (next_line_is done c.line counted (record {
+          given = bytes;
+          rest = [];
+          bytes_are = sym (append-nil bytes);
+          ending = whole;
+          last = λ e. (refl, refl);
+          later = c ∷ begins.0;
+          commands_are = commands_are;
+          line_is = refl;
+        })),
+      )
 
 -- the desk stands behind all commands of the bytes, and they end so
 module _ (limits : Limits) (budget : ℕ) (desk : Desk) (done : List WrittenCommand) (behind : StandsBehind limits budget desk done) (r : Reading) (commands : r.commands ≡ done) where
@@ -120,11 +126,11 @@ reading_ends limits budget desk done bytes left r (read_end.Refused line code) b
       jobs_are = jobs_so limits budget desk done behind whole_book commands;
       reader = ap (report_behind limits budget whole_book) counted
           ∙ tail_refused limits budget whole_book line code (ap (λ (x : Reading). x.tail) is)
-          ∙ ap (λ n. let x : FileReport = record { names = []; outcome = Stopped (n + 1) line (verdict.Refused code) } in x) (sym counted);
+          ∙ ap (λ n. let x : FileReport = record { names = []; outcome = Stopped (n + 1) (in_file line) (verdict.Refused code) } in x) (sym counted);
     }
 reading_ends limits budget desk done bytes left r (read_end.NoMemory line) behind m = record {
   jobs_are = wider limits budget bytes (known_at desk) done (memory_begins limits bytes done line m) behind.jobs;
-  reader = inr (next_line_is limits budget bytes (known_at desk) done line behind.counted m);
+  reader = (line, refl, inr (next_line_is limits budget bytes (known_at desk) done line behind.counted m));
 }
 reading_ends limits budget desk done bytes left r read_end.Unread behind u =
     let part : Reading = read limits u.0 broken in
@@ -135,7 +141,7 @@ reading_ends limits budget desk done bytes left r read_end.Unread behind u =
       u.3,
       record {
         jobs_are = jobs_so limits budget desk done behind part commands;
-        reader = (all_done limits budget desk done behind part commands, ap (λ (x : Reading). x.tail) u.4);
+        reader = (all_done limits budget desk done behind part commands, ap (λ (x : Reading). x.tail) u.4, refl);
       },
     )
 
@@ -145,20 +151,21 @@ reading_may_end seen read_end.Unread = tt
 reading_may_end seen (read_end.Refused line code) = refl
 reading_may_end seen (read_end.NoMemory line) = refl
 
-pub reading_rose : (e : ReadEnd) (before now : ℕ) → RoseByAnswer {A = Raw} before now (Err e) → RoseByEnd before now (end_at e)
+pub reading_rose : (e : ReadEnd) (before now : ℕ) → RoseByAnswer {A = Next} before now (Err e) → RoseByEnd before now (end_at e)
 reading_rose read_end.Whole before now is = is
 reading_rose read_end.Unread before now is = is
 reading_rose (read_end.Refused line code) before now is = is
 reading_rose (read_end.NoMemory line) before now is = is
 
-pub reading_may_rise : (e : ReadEnd) (before now : List ℕ → ℕ) → MayRiseByAnswer {A = Raw} before now (Err e) → MayRiseByEnd before now (end_at e)
+pub reading_may_rise : (e : ReadEnd) (before now : List ℕ → ℕ) → MayRiseByAnswer {A = Next} before now (Err e) → MayRiseByEnd before now (end_at e)
 reading_may_rise read_end.Whole before now is = is
 reading_may_rise read_end.Unread before now is = is
 reading_may_rise (read_end.Refused line code) before now is = is
 reading_may_rise (read_end.NoMemory line) before now is = is
 
 pub may_rise_from : (e : End) (first before now : List ℕ → ℕ) → ((name : List ℕ) → before name ≡ first name) → MayRiseByEnd before now e → MayRiseByEnd first now e
-may_rise_from end.Unread first before now same is = λ name. subst (λ n. n ≤ now name) (same name) (is name)
+may_rise_from (end.Unread place) first before now same is = λ name. subst (λ n. n ≤ now name) (same name) (is name)
 may_rise_from end.Whole first before now same is = λ name. is name ∙ same name
 may_rise_from end.Stopped first before now same is = λ name. is name ∙ same name
-may_rise_from (end.Fault line v) first before now same is = λ name. is name ∙ same name
+may_rise_from (end.Fault place v) first before now same is = λ name. is name ∙ same name
+may_rise_from (end.Unopened home) first before now same is = λ name. is name ∙ same name

@@ -1,11 +1,11 @@
 -- The desk behind the commands of a file.
 use Rattle.std.proofs.Common.{◌≡◌, inl, inr, ⊎_elim, ℕ, suc, ◌+◌, ◌-◌, ◌<◌, Bool, List, [], ◌∷◌, ◌++◌, length, refl, sym, ap, subst, ◌∙◌, arith, length-append}
-use Rattle.std.specs.Prelude.{Ok, Err, Option}
+use Rattle.std.specs.Prelude.{Ok, Err, Option, None}
 use Rattle.std.proofs.lemmas.List.{map-append}
 use Rattle.dk_model.specs.declared.code.Verdict.{Verdict}
 use Rattle.dk_model.specs.declared.limits.Limits.{Limits}
-use Rattle.dk_parser.specs.Written.{WrittenCommand, WrittenForm, written_declare, written_rules}
-use Rattle.scope_terms.specs.Scopes.{Numbered, names_after}
+use Rattle.dk_parser.specs.Written.{WrittenCommand, WrittenForm, written_declare}
+use Rattle.scope_terms.specs.Scopes.{Symbols, names_after}
 use Rattle.board_core.specs.declared.event.End.{End}
 use Rattle.board_core.specs.declared.event.End.TheVariants as end
 use Rattle.board_core.specs.Machine.{MayEnd}
@@ -15,7 +15,9 @@ use Rattle.file_report.proofs.Putting.{jobs_more, jobs_wider, theory_more}
 use Rattle.dk_parser.specs.RawViews.{written_command}
 use Rattle.dk_parser.specs.declared.raw.Raw.{Raw}
 use Rattle.file_reader.specs.declared.reader.ReadEnd.{ReadEnd}
+use Rattle.file_reader.specs.declared.reader.Next.{Next}
 use Rattle.file_reader.specs.declared.reader.Reader.{Reader}
+use Rattle.file_reader.specs.Nexts.{raw_of}
 use Rattle.file_reader.specs.Progress.{Answers, BeginsWith, IsBehind}
 use Rattle.file_reader.proofs.Begins.{begins}
 use Rattle.file_check.specs.declared.desk.Desk.{Desk}
@@ -76,13 +78,14 @@ module _ (limits : Limits) (budget : ℕ) (old new : Desk) (done : List WrittenC
   -- the book ends at the command
   pub ends_at : (bytes : List ℕ) (left : Option (List ℕ)) (e : End) → length old.titles ≡ length (known_at old) → Enters old c new (Err e) → BeginsWith limits bytes (done ++ c ∷ []) → EndsBook limits budget bytes left (known_at new) e
   ends_at bytes left end.Stopped as_many enters begins = record { jobs_are = wider limits budget bytes (known_at new) (done ++ c ∷ []) begins (jobs_stay enters.0); reader = tt }
-  ends_at bytes left (end.Fault line v) as_many enters begins = record {
+  ends_at bytes left (end.Fault place v) as_many enters begins = record {
     jobs_are = wider limits budget bytes (known_at new) (done ++ c ∷ []) begins (jobs_stay enters.0);
-    reader = due_ends limits budget bytes (known_at new) done c line v begins (ap length enters.0.jobs ∙ behind.counted) enters.1 enters.2.0
+    reader = due_ends limits budget bytes (known_at new) done c place v begins (ap length enters.0.jobs ∙ behind.counted) enters.1 enters.2.0
         (⊎_elim inl (λ is. inr (verdict_is v as_many is)) enters.2.1);
   }
   ends_at bytes left end.Whole as_many enters begins = absurd enters
-  ends_at bytes left end.Unread as_many enters begins = absurd enters
+  ends_at bytes left (end.Unread place) as_many enters begins = absurd enters
+  ends_at bytes left (end.Unopened name) as_many enters begins = absurd enters
 
 -- ---- what a step of the desk leaves
 
@@ -96,9 +99,9 @@ starts_behind desk fresh = record {
   jobs = subst (λ js. AreJobsFrom desk.budget no_theory [] (plain_jobs js)) (sym fresh.jobs) tt;
 }
 
-counted_after : (names : Numbered) (form : WrittenForm) → (names_after names form).count ≡ names.count + 1
+counted_after : (names : Symbols) (form : WrittenForm) → (names_after names None form).count ≡ names.count + 1
 counted_after names (written_declare sort x params typ body) = refl
-counted_after names (written_rules rs) = refl
+counted_after names form = refl
 
 pub ready_more : (old new : Desk) (c : WrittenCommand) → IsReady old → IsSound new.limits new.titles (known_at new) → Takes old new c → IsReady new
 ready_more old new c ready sound t = record {
@@ -107,26 +110,30 @@ ready_more old new c ready sound t = record {
       ∙ counted_after (theory_of old.theory).names c.form
       ∙ ap (λ n. n + 1) ready.counted
       ∙ sym (ap length t.joins.titles ∙ length-append old.titles (t.prepared.title ∷ []));
+  unentered = t.unentered;
 }
 
 module _ (old new : Desk) (c : WrittenCommand) where
   pub enters_end : (e : End) → Enters old c new (Err e) → MayEnd (seen_at new) e
   enters_end end.Stopped enters = enters.1
-  enters_end (end.Fault line v) enters = not_accepted v enters.2.0
+  enters_end (end.Fault place v) enters = not_accepted v enters.2.0
   enters_end end.Whole enters = absurd enters
-  enters_end end.Unread enters = absurd enters
+  enters_end (end.Unread place) enters = absurd enters
+  enters_end (end.Unopened name) enters = absurd enters
 
   pub enters_kept : (e : End) (before now : ℕ) → Enters old c new (Err e) → now ≡ before → RoseByEnd before now e
   enters_kept end.Stopped before now enters same = same
-  enters_kept (end.Fault line v) before now enters same = same
+  enters_kept (end.Fault place v) before now enters same = same
   enters_kept end.Whole before now enters same = absurd enters
-  enters_kept end.Unread before now enters same = absurd enters
+  enters_kept (end.Unread place) before now enters same = absurd enters
+  enters_kept (end.Unopened name) before now enters same = absurd enters
 
   pub enters_kept_all : (e : End) (before now : List ℕ → ℕ) → Enters old c new (Err e) → ((name : List ℕ) → now name ≡ before name) → MayRiseByEnd before now e
   enters_kept_all end.Stopped before now enters same = same
-  enters_kept_all (end.Fault line v) before now enters same = same
+  enters_kept_all (end.Fault place v) before now enters same = same
   enters_kept_all end.Whole before now enters same = absurd enters
-  enters_kept_all end.Unread before now enters same = absurd enters
+  enters_kept_all (end.Unread place) before now enters same = absurd enters
+  enters_kept_all (end.Unopened name) before now enters same = absurd enters
 
 -- ---- the loop over the commands of a book
 
@@ -141,12 +148,16 @@ module _ (limits : Limits) (budget : ℕ) (bytes : List ℕ) (left : Option (Lis
   pub entered_all : (after : Option (List ℕ)) (new : Reader) (e : ReadEnd) → Answers limits bytes h.done after new (Err e) → EndsBook limits budget bytes after (known_at desk) (end_at e)
   entered_all after new e answers = reading_ends limits budget desk h.done bytes after new e h.stands answers
 
-  module _ (after : Option (List ℕ)) (new : Reader) (raw : Raw) (answers : Answers limits bytes h.done after new (Ok raw)) (next : Desk) (same : same_bounds desk next) where
+  module _ (after : Option (List ℕ)) (new : Reader) (item : Next) (answers : Answers limits bytes h.done after new (Ok item)) (next : Desk) (same : same_bounds desk next) where
+    -- the command or directive
+    abbrev raw : Raw
+    raw = raw_of item
+
     -- one command more was entered
     pub entered_more : Takes desk next (written_command raw) → HasEntered limits budget bytes after new next
     entered_more takes = record {
       done = h.done ++ written_command raw ∷ [];
-      behind = answers;
+      behind = answers.0;
       stands = goes_on limits budget desk next h.done (written_command raw) h.stands same takes;
     }
 
@@ -154,7 +165,7 @@ module _ (limits : Limits) (budget : ℕ) (bytes : List ℕ) (left : Option (Lis
     pub entered_last : (e : End) → length desk.titles ≡ length (known_at desk) → Enters desk (written_command raw) next (Err e) → EndsBook limits budget bytes after (known_at next) e
     entered_last e as_many enters =
         ends_at limits budget desk next h.done (written_command raw) h.stands same bytes after e as_many enters
-        (begins limits bytes (h.done ++ written_command raw ∷ []) after new answers)
+        (begins limits bytes (h.done ++ written_command raw ∷ []) after new answers.0)
 
 -- one title more, and so fewer commands that may come
 pub smaller : (old new : Desk) (c : WrittenCommand) → same_bounds old new → IsSound new.limits new.titles (known_at new) → Takes old new c

@@ -12,7 +12,9 @@ use Rattle.board_core.specs.declared.event.End.{End}
 use Rattle.board_core.specs.declared.event.End.TheVariants as end
 use Rattle.board_core.specs.declared.event.Event.{Event}
 use Rattle.board_core.specs.Events.{is_fault}
+use Rattle.board_core.specs.Places.{in_file}
 use Rattle.task_board.specs.Histories.{events_in}
+use Rattle.verdict_book.specs.Report.{nowhere}
 use Rattle.verdict_book.specs.declared.title.Title.{Title}
 use Rattle.file_report.specs.Outcomes.{no_theory, verdict_at}
 use Rattle.file_report.specs.Jobs.{AreJobsFrom, Job as PlainJob, theory_over, titles_of}
@@ -22,7 +24,7 @@ use Rattle.file_reader.specs.declared.reader.ReadEnd.TheVariants as read_end
 use Rattle.file_check.specs.declared.desk.Desk.{Desk}
 use Rattle.file_check.specs.declared.job.Job.{Job}
 use Rattle.file_check.specs.declared.theory.Prepared.{Prepared}
-use Rattle.file_check.specs.Jobs.{Prepares, job_of, theory_of}
+use Rattle.file_check.specs.Jobs.{IsUnentered, Prepares, job_of, theory_of}
 use Rattle.file_check.specs.Shelves.{ShelfState}
 
 abbrev pub plain_jobs : List (Job × Bool) → List PlainJob
@@ -47,6 +49,7 @@ pub record IsSound (limits : Limits) (titles : List Title) (jobs : List (Job × 
 pub record IsReady (desk : Desk) : Type 0 where
   pub sound : IsSound desk.limits desk.titles (known_at desk)
   pub counted : (theory_of desk.theory).names.count ≡ length desk.titles
+  pub unentered : IsUnentered desk.theory
 
 -- ---- steps
 
@@ -66,15 +69,17 @@ pub record Stays (old new : Desk) : Type 0 where
 abbrev pub Puts : Desk → Prepared → Desk → Result Unit End → Type 0
 Puts old p new (Ok u) = Joins old new p
 Puts old p new (Err end.Stopped) = Stays old new × (list_any is_fault (seen_at new) ≡ true)
-Puts old p new (Err (end.Fault line v)) = Stays old new × (line ≡ p.title.line) × (v ≡ verdict.Memory)
+Puts old p new (Err (end.Fault place v)) = Stays old new × (place ≡ in_file p.title.place.line) × (v ≡ verdict.Memory)
 Puts old p new (Err end.Whole) = ⊥
-Puts old p new (Err end.Unread) = ⊥
+Puts old p new (Err (end.Unread place)) = ⊥
+Puts old p new (Err (end.Unopened name)) = ⊥
 
 -- the command's job was put
 pub record Takes (old new : Desk) (c : WrittenCommand) : Type 0 where
   pub prepared : Prepared
   pub prepares : Prepares old.budget (theory_of old.theory) c prepared (theory_of new.theory)
   pub joins : Joins old new prepared
+  pub unentered : IsUnentered new.theory
 
 -- the verdict on the command, which isn't Accepted
 abbrev pub IsVerdictAt : Desk → WrittenCommand → Verdict → Type 0
@@ -85,9 +90,10 @@ IsVerdictAt old c v = (v ≢ verdict.Accepted)
 abbrev pub Enters : Desk → WrittenCommand → Desk → Result Unit End → Type 0
 Enters old c new (Ok u) = Takes old new c
 Enters old c new (Err end.Stopped) = Stays old new × (list_any is_fault (seen_at new) ≡ true)
-Enters old c new (Err (end.Fault line v)) = Stays old new × (line ≡ c.line) × IsVerdictAt old c v
+Enters old c new (Err (end.Fault place v)) = Stays old new × (place ≡ in_file c.line) × IsVerdictAt old c v
 Enters old c new (Err end.Whole) = ⊥
-Enters old c new (Err end.Unread) = ⊥
+Enters old c new (Err (end.Unread place)) = ⊥
+Enters old c new (Err (end.Unopened name)) = ⊥
 
 -- ---- the desk behind the commands of a file
 
@@ -95,6 +101,7 @@ Enters old c new (Err end.Unread) = ⊥
 pub record IsFresh (desk : Desk) : Type 0 where
   pub limit : desk.limits.commands < 4294967294
   pub theory : theory_of desk.theory ≡ no_theory
+  pub unentered : IsUnentered desk.theory
   pub titles : desk.titles ≡ []
   pub jobs : known_at desk ≡ []
 
@@ -118,18 +125,19 @@ pub record StandsBehind (limits : Limits) (budget : ℕ) (desk : Desk) (done : L
 -- how the board is sealed where reading ended so
 abbrev pub end_at : ReadEnd → End
 end_at read_end.Whole = end.Whole
-end_at read_end.Unread = end.Unread
-end_at (read_end.Refused line code) = end.Fault line (verdict.Refused code)
-end_at (read_end.NoMemory line) = end.Fault line verdict.Memory
+end_at read_end.Unread = end.Unread nowhere
+end_at (read_end.Refused line code) = end.Fault (in_file line) (verdict.Refused code)
+end_at (read_end.NoMemory line) = end.Fault (in_file line) verdict.Memory
 
--- the count of failed reads rose where a read failed, and stands where none did
+-- the count of failed reads rose where a read failed, and stands where none did; no file of a module is opened
 abbrev pub RoseByEnd : ℕ → ℕ → End → Type 0
-RoseByEnd before now end.Unread = Rose before now
+RoseByEnd before now (end.Unread place) = Rose before now
+RoseByEnd before now (end.Unopened name) = ⊥
 RoseByEnd before now e = now ≡ before
 
 -- a count for each name may rise where a read failed, and stands where none did
 abbrev pub MayRiseByEnd : (List ℕ → ℕ) → (List ℕ → ℕ) → End → Type 0
-MayRiseByEnd before now end.Unread = (name : List ℕ) → before name ≤ now name
+MayRiseByEnd before now (end.Unread place) = (name : List ℕ) → before name ≤ now name
 MayRiseByEnd before now e = (name : List ℕ) → now name ≡ before name
 
 -- these jobs are the first commands of the bytes, and their reader ends so behind them
@@ -139,7 +147,9 @@ pub record EndsBehind (limits : Limits) (budget : ℕ) (bytes : List ℕ) (endin
 
 -- the book with these bytes ends so; where a read failed, those that were given before
 abbrev pub EndsBook : Limits → ℕ → List ℕ → Option (List ℕ) → List (Job × Bool) → End → Type 0
-EndsBook limits budget bytes left jobs end.Unread = (given : List ℕ) × (rest : List ℕ) × (bytes ≡ given ++ rest) × (left ≡ Some rest) × EndsBehind limits budget given broken jobs end.Unread
+EndsBook limits budget bytes left jobs (end.Unread place) =
+    (given : List ℕ) × (rest : List ℕ) × (bytes ≡ given ++ rest) × (left ≡ Some rest)
+    × EndsBehind limits budget given broken jobs (end.Unread place)
 EndsBook limits budget bytes left jobs e = EndsBehind limits budget bytes whole jobs e
 
 -- a book was read, which left these jobs, and the board was sealed

@@ -5,7 +5,7 @@ ghost use Rattle.file_check.specs.Desks.{EndsBook, IsFresh, IsSound, MayRiseByEn
 
 use crate::checker::JobChecker;
 use crate::desk::Desk;
-use board_core::End;
+use board_core::{End, Place};
 use dk_io::Shelf;
 use dk_model::Verdict;
 use file_reader::{ReadEnd, Reader};
@@ -93,24 +93,27 @@ fn enter_book<R: Wait, H: Shelf>(
 {
     let mut reader = Reader::new(alloc, desk.limits);
     'commands: loop {
-        let raw = match reader.next(alloc, shelf) {
-            Ok(raw) => raw,
-            Err(end) => return end_at(end),
+        let next = match reader.next(alloc, shelf) {
+            Ok(next) => next,
+            Err(end) => return end_at(alloc, end),
         };
-        if let Err(end) = desk.enter(rt, alloc, board, raw) {
+        // A directive is refused where it is scoped.
+        if let Err(end) = desk.enter(rt, alloc, board, next.into_raw()) {
             return end;
         }
     }
 }
 
 // How the board is sealed where reading ended so.
-fn end_at(read_end: ReadEnd) -> End
+fn end_at(alloc: Global, read_end: ReadEnd) -> End
     ensures { result ≡ end_at read_end }
 {
     match read_end {
         ReadEnd::Whole => End::Whole,
-        ReadEnd::Unread => End::Unread,
-        ReadEnd::Refused(line, code) => End::Fault(line, Verdict::Refused(code)),
-        ReadEnd::NoMemory(line) => End::Fault(line, Verdict::Memory),
+        ReadEnd::Unread => End::Unread(Place::in_file(alloc, 0)),
+        ReadEnd::Refused(line, code) => {
+            End::Fault(Place::in_file(alloc, line), Verdict::Refused(code))
+        }
+        ReadEnd::NoMemory(line) => End::Fault(Place::in_file(alloc, line), Verdict::Memory),
     }
 }

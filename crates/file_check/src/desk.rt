@@ -11,7 +11,7 @@ ghost use Rattle.file_check.specs.Desks.{Enters, IsReady, IsSound, Puts, known_a
 use crate::checker::JobChecker;
 use crate::job::Worker;
 use crate::theory::{Prepared, Theory};
-use board_core::{End, PutRefused};
+use board_core::{End, Place, PutRefused};
 use dk_model::{Code, Limits, Verdict};
 use dk_parser::Raw;
 use std::alloc::Global;
@@ -52,14 +52,15 @@ impl Desk {
     {
         let line = raw.line;
         if self.titles.len() >= self.limits.commands as usize {
-            return Err(End::Fault(line, Verdict::Refused(Code::E08)));
+            let place = Place::in_file(alloc, line);
+            return Err(End::Fault(place, Verdict::Refused(Code::E08)));
         }
         match self
             .theory
             .prepare(alloc, &mut self.worker, self.budget, raw)
         {
             Ok(prepared) => self.put(rt, alloc, board, prepared),
-            Err(verdict) => Err(End::Fault(line, verdict)),
+            Err(verdict) => Err(End::Fault(Place::in_file(alloc, line), verdict)),
         }
     }
 
@@ -88,7 +89,8 @@ impl Desk {
             settled,
             title,
         } = prepared;
-        let memory = End::Fault(title.line, Verdict::Memory);
+        let place = Place::in_file(alloc, title.place.line);
+        let memory = End::Fault(place, Verdict::Memory);
         let Ok(job) = Arc::new(alloc, job) else {
             return Err(memory);
         };

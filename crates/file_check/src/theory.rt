@@ -1,18 +1,21 @@
 //! What the commands so far declare, and the job of the next one.
-ghost use Rattle.std.specs.Prelude.{◌≡◌, ◌<◌, ◌++◌, ◌∷◌, [], true, IfOk, IfErr, map};
+ghost use Rattle.std.specs.Prelude.{◌≡◌, ◌<◌, ◌++◌, ◌∷◌, [], true, IfOk, IfErr, OnOk, map};
 ghost use Rattle.dk_model.specs.Scoping.{plain_command};
 ghost use Rattle.dk_model.specs.Signatures.{maybe_by};
 ghost use Rattle.dk_model.specs.Answering.{is_untyped};
 ghost use Rattle.dk_model.specs.Verdicts.{entry_of, inferred_type, verdict_of};
 ghost use Rattle.dk_parser.specs.Written.{written_rules};
 ghost use Rattle.dk_parser.specs.RawViews.{written_command, written_form, written_pattern, written_rule};
+ghost use Rattle.scope_terms.specs.Answers.{IsFaultOf};
+ghost use Rattle.scope_terms.specs.Names.{reading};
+ghost use Rattle.scope_terms.specs.Scopes.{names_after, scope_of, scoped};
 ghost use Rattle.shared_term.specs.Storage.{stored_term};
 ghost use Rattle.signature_log.specs.Versions.{entries_of, stored_entry};
 ghost use Rattle.file_report.specs.Outcomes.{head_name, no_theory, shown_name, verdict_after};
-ghost use Rattle.file_check.specs.Jobs.{IsOtherVerdict, Prepares, theory_of};
+ghost use Rattle.file_check.specs.Jobs.{IsOtherVerdict, IsUnentered, Prepares, theory_of};
 
 use crate::job::{Job, Worker};
-use board_core::Past;
+use board_core::{Past, Place};
 use command_check::{entry_of, is_untyped, store_command};
 use dk_model::{Entry, Fault, Listed, NoMemory, Scoped, TypeFault, Verdict};
 use dk_parser::{Raw, RawForm, RawPat, RawRule};
@@ -47,6 +50,7 @@ fn shown_name(alloc: Global, form: RawForm) -> Result<Listed<u8>, NoMemory>
     match form {
         RawForm::Declare { name, .. } => Ok(name),
         RawForm::Rules(rules) => first_head(alloc, rules.as_slice()),
+        _ => Ok(Listed::new(alloc)),
     }
 }
 
@@ -126,9 +130,25 @@ fn entry_after(
     }
 }
 
+// The command, which stands in the module without a name, with its names as numbers; its name is added there.
+fn scope_in_file(alloc: Global, names: &mut Names, raw: &Raw) -> Result<Scoped, Fault>
+    requires few { (reading names.old).symbols.count < 4294967295 }
+    requires unentered { (reading names.old).entered ≡ [] }
+    ensures ok { IfOk result (λ c. scope_of (reading names.old).symbols None (written_form raw.now.form)
+        ≡ scoped (plain_command c)) }
+    ensures added { OnOk result ((reading names.new).symbols
+        ≡ names_after (reading names.old).symbols None (written_form raw.now.form)) }
+    ensures unentered { OnOk result ((reading names.new).entered ≡ []) }
+    ensures refused { IfErr result (IsFaultOf
+        (scope_of (reading names.old).symbols None (written_form raw.now.form))) }
+{
+    names.scope(alloc, raw)
+}
+
 impl Theory {
     pub fn new(alloc: Global) -> Result<Theory, NoMemory>
-        ensures { IfOk result (λ t. theory_of t ≡ no_theory) }
+        ensures theory { IfOk result (λ t. theory_of t ≡ no_theory) }
+        ensures unentered { IfOk result IsUnentered }
     {
         let names = Names::new(alloc)?;
         Ok(Theory {
@@ -146,13 +166,15 @@ impl Theory {
         budget: u64,
         raw: Raw,
     ) -> Result<Prepared, Verdict>
-        requires { (theory_of self.old).names.count < 4294967295 }
+        requires few { (theory_of self.old).names.count < 4294967295 }
+        requires unentered { IsUnentered self.old }
         ensures ok { IfOk result (λ p. Prepares budget (theory_of self.old) (written_command raw) p
             (theory_of self.new)) }
+        ensures unentered { OnOk result (IsUnentered self.new) }
         ensures err { IfErr result (IsOtherVerdict
             (verdict_after (theory_of self.old) budget (written_form raw.form))) }
     {
-        let command = match self.names.scope(alloc, &raw) {
+        let command = match scope_in_file(alloc, &mut self.names, &raw) {
             Ok(command) => command,
             Err(Fault::Refused(code)) => return Err(Verdict::Refused(code)),
             Err(Fault::NoMemory) => return Err(Verdict::Memory),
@@ -169,7 +191,8 @@ impl Theory {
         let Ok(name) = shown_name(alloc, form) else {
             return Err(Verdict::Memory);
         };
-        let title = Title { name, line };
+        let place = Place::in_file(alloc, line);
+        let title = Title { name, place };
         let job = Job {
             version: before,
             command,

@@ -1,7 +1,8 @@
 -- What asking for a command comes to, turn by turn.
-use Rattle.std.proofs.Common.{◌≡◌, ◌≤◌, ◌+◌, ℕ, List, [], ◌++◌, length, refl, sym, ap, subst, ◌∙◌, arith, length-append}
+use Rattle.std.proofs.Common.{◌≡◌, ◌≤◌, ◌<◌, ◌+◌, ◌-◌, ◌*◌, Vec, Global, ℕ, List, [], ◌++◌, length, refl, sym, ap, subst, ◌∙◌, arith, length-append}
 use Rattle.std.proofs.lemmas.List.{append_assoc}
-use Rattle.std.specs.Prelude.{Option, Err}
+use Rattle.std.specs.Prelude.{Option, Err, vec_len}
+use Rattle.dk_lexer.specs.declared.token.Token.{Token}
 use Rattle.dk_model.specs.declared.limits.Limits.{Limits}
 use Rattle.dk_lexer.specs.Tokens.{Ending, Lexed, broken, tokens, whole}
 use Rattle.dk_parser.specs.FileReading.{read, tail_by_bytes, tail_by_tokens}
@@ -16,6 +17,7 @@ use Rattle.file_reader.specs.declared.reader.ReadEnd.{ReadEnd}
 use Rattle.file_reader.specs.declared.reader.ReadEnd.TheVariants as end
 use Rattle.file_reader.specs.declared.reader.Reader.{Reader}
 use Rattle.file_reader.specs.Held.{EndsIn, Holds, IsDry, IsEmpty, Settles, StandsThen, TakesBytes, TakesPiece}
+use Rattle.file_reader.specs.Rooms.{room_behind, room_of}
 use Rattle.file_reader.specs.Progress.{Answers, HasBegun, IsBehind, IsUnread, reading}
 use Rattle.file_reader.proofs.Fronts.{may_follow}
 use Rattle.file_reader.proofs.Turns.{dry}
@@ -28,8 +30,12 @@ pub record HasTurned (turns : ℕ) (r : Reader) : Type 0 where
   pub few : turns ≤ 4294967295
 
 -- a reader behind some commands has begun
-abbrev pub begun_behind : (limits : Limits) (given : List ℕ) (ending : Ending) (done : List WrittenCommand) (r : Reader) → Holds limits given ending done r → HasBegun r
-begun_behind limits given ending done r h = record { limits = limits; given = given; ending = ending; done = done; holds = h }
+abbrev pub begun_behind : (limits : Limits) (given : List ℕ) (ending : Ending) (done : List WrittenCommand) (r : Reader) → Holds limits given ending done r → r.given ≤ length given → HasBegun r
+begun_behind limits given ending done r h counted = record { limits = limits; given = given; ending = ending; done = done; holds = h; counted = counted }
+
+-- a list of so few bytes more
+counted_more : (count now : ℕ) (given piece : List ℕ) → count ≤ length given → now ≤ count + length piece → now ≤ length (given ++ piece)
+counted_more count now given piece within is = let all = length-append given piece in omega (arith, within, is, all)
 
 pub turned_none : (r : Reader) → HasBegun r → HasTurned 0 r
 turned_none r begun = record { begun = begun; within = λ is. omega arith; few = omega arith }
@@ -47,12 +53,13 @@ module _ {limits : Limits} {given : List ℕ} {ending : Ending} {done : List Wri
 
 -- one piece more
 pub turned_more : (turns : ℕ) (r middle new : Reader) (left after : Option (List ℕ)) (t : HasTurned turns r) (h : Holds t.begun.limits t.begun.given t.begun.ending t.begun.done middle) → middle.waiting.items ≡ [] → middle.behind ≡ behind.Piece
-    → TakesPiece t.begun.limits t.begun.given t.begun.done left after new → HasTurned (turns + 1) new
-turned_more turns r middle new left after t h none at piece =
+    → middle.given ≡ r.given → TakesPiece t.begun.limits t.begun.given t.begun.done middle.given left after new → HasTurned (turns + 1) new
+turned_more turns r middle new left after t h none at same piece =
     let room = in_room t.begun.limits t.begun.given (is_dry h none at).none in
     let within = t.within (is_broken h none at) in
     record {
-      begun = begun_behind t.begun.limits (t.begun.given ++ piece.piece) piece.ending t.begun.done new piece.holds;
+      begun = begun_behind t.begun.limits (t.begun.given ++ piece.piece) piece.ending t.begun.done new piece.holds
+          (counted_more middle.given new.given t.begun.given piece.piece (subst (λ n. n ≤ length t.begun.given) (sym same) t.begun.counted) piece.counted);
       within = λ is. let some = piece.some is in let all = length-append t.begun.given piece.piece in omega (arith, within, some, all);
       few = omega (arith, within, room);
     }
@@ -82,8 +89,8 @@ module _ {limits : Limits} {bytes : List ℕ} {done : List WrittenCommand} {left
   ends end.Unread new is = absurd is
 
   -- one piece more
-  pub loads : (after : Option (List ℕ)) (new : Reader) → TakesPiece limits b.given done left after new → IsBehind limits bytes done after new
-  loads after new piece =
+  pub loads : (count : ℕ) (after : Option (List ℕ)) (new : Reader) → TakesPiece limits b.given done count left after new → IsBehind limits bytes done after new
+  loads count after new piece =
       let took = subst (λ (o : Option (List ℕ)). TakesBytes o after piece.piece) b.left_is piece.took in
       record {
         given = b.given ++ piece.piece;
@@ -112,6 +119,40 @@ module _ {limits : Limits} {bytes : List ℕ} {done : List WrittenCommand} {left
 
       now : TokenReading
       now = read_tokens limits lexed.tokens
+
+-- ---- the room
+
+vec_small : (v : Vec Token Global) → vec_len v < 9223372036854775808
+vec_small v = let ok = v.ok in let small = v.small in omega (arith, ok, small)
+
+-- a piece takes more room than its tokens need
+pub room_loaded : (r middle new : Reader) (given : List ℕ) (limits : Limits) (done : List WrittenCommand) (left after : Option (List ℕ)) → middle.given ≡ r.given → middle.behind ≡ r.behind → vec_len middle.waiting ≤ vec_len r.waiting
+    → middle.behind ≡ behind.Piece → IsDry limits given done middle → middle.given ≤ length given → TakesPiece limits given done middle.given left after new → room_of new ≤ room_of r
+room_loaded r middle new given limits done left after same same_behind fewer at dry within piece =
+    let room = in_room limits given dry.none in
+    let small = vec_small new.waiting in
+    subst (λ n. room_of new ≤ n) (sym room_before) (by_behind new.behind refl room small)
+  where
+    room_before : room_of r ≡ (8589934592 - middle.given) * 18446744073709551616 + vec_len r.waiting
+    room_before =
+        ap (λ (b : Behind). room_behind b r.given + vec_len r.waiting) (sym same_behind ∙ at)
+        ∙ ap (λ n. (8589934592 - n) * 18446744073709551616 + vec_len r.waiting) (sym same)
+
+    by_behind : (b : Behind) → new.behind ≡ b → length given ≤ 4294967294 → vec_len new.waiting < 9223372036854775808 → room_of new ≤ (8589934592 - middle.given) * 18446744073709551616 + vec_len r.waiting
+    by_behind behind.Piece is room small =
+        let ending = (subst (λ (b : Behind). StandsThen limits piece.holds.lexed piece.ending piece.holds.lost piece.holds.missing new.lexer b) is piece.holds.then_stands).0 in
+        let some = piece.some ending in
+        let counted = piece.grown ending in
+        let grown : middle.given < new.given = omega (arith, some, counted, within, room) in
+        subst (λ (b : Behind). room_behind b new.given + vec_len new.waiting ≤ (8589934592 - middle.given) * 18446744073709551616 + vec_len r.waiting) (sym is)
+        (omega (arith, grown, within, room, small))
+    by_behind b is room small = subst (λ (b : Behind). room_behind b new.given + vec_len new.waiting ≤ (8589934592 - middle.given) * 18446744073709551616 + vec_len r.waiting) (sym is) (omega (arith, within, room, small))
+
+-- a command or directive takes some of it
+pub room_taken : (r new : Reader) → new.given ≡ r.given → new.behind ≡ r.behind → vec_len new.waiting < vec_len r.waiting → room_of new < room_of r
+room_taken r new same same_behind fewer =
+    let before : room_behind new.behind new.given ≡ room_behind r.behind r.given = ap (λ (b : Behind). room_behind b new.given) same_behind ∙ ap (room_behind r.behind) same in
+    omega (arith, before, fewer)
 
 -- ---- the counts
 

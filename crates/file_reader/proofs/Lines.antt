@@ -5,13 +5,13 @@ use Rattle.dk_model.specs.declared.code.Code.{Code}
 use Rattle.dk_model.specs.declared.limits.Limits.{Limits}
 use Rattle.dk_lexer.specs.declared.token.Token.{Token}
 use Rattle.dk_terms.specs.declared.terminal.Terminal.{Terminal}
+use Rattle.dk_parser.specs.FileReading.{next_line}
 use Rattle.dk_parser.specs.Groups.{load}
 use Rattle.dk_parser.specs.Levels.{standing_behind}
 use Rattle.dk_parser.specs.Parsing.{Answer, Advance, Parsing, answered, begun_by, begun_line, command, commands_from, ends, goes, more, parsing_after, parsing_from, advanced, refusal, refused, refuses, started, turn, turn_by_fault, turn_by_step, turn_by_terminal}
 use Rattle.dk_parser.specs.Steps.{read_tokens}
 use Rattle.dk_terms.specs.Terminals.{terminal_of}
 use Rattle.dk_parser.proofs.Turns.{commands_append, parsing_append}
-use Rattle.file_report.specs.Memory.{next_line}
 
 -- behind an answer, the command at this line goes on, or it has ended
 abbrev pub GoesOnAt : ℕ → Answer → Parsing → Type 0

@@ -1,7 +1,7 @@
 -- What a piece of the book, or its end, comes to.
-use Rattle.std.proofs.Common.{◌≡◌, ◌<◌, ◌≤◌, ℕ, List, [], ◌∷◌, ◌++◌, length, take, drop, refl, sym, ap, subst, ◌∙◌}
+use Rattle.std.proofs.Common.{◌≡◌, ◌<◌, ◌≤◌, ◌+◌, arith, ℕ, List, [], ◌∷◌, ◌++◌, length, take, drop, refl, sym, ap, subst, ◌∙◌}
 use Rattle.std.proofs.lemmas.List.{append_assoc, append-nil, length-take-le, reverse-reverse, take-append-drop}
-use Rattle.std.specs.Prelude.{Option, Some, None, Result, Ok, Err, reverse}
+use Rattle.std.specs.Prelude.{Option, Some, None, Result, Ok, Err, min, reverse}
 use Rattle.dk_io.specs.Bytes.{TakesFront}
 use Rattle.dk_model.specs.declared.code.Code.{Code}
 use Rattle.dk_model.specs.declared.limits.Limits.{Limits}
@@ -120,40 +120,48 @@ empty_none None is = tt
 empty_none (Some rest) is = absurd (let bad : Some rest ≡ None = is in cc)
 
 module _ {limits : Limits} {given : List ℕ} {done : List WrittenCommand} {r : Reader} where
-  pub loads_end : (left after : Option (List ℕ)) (buf : List ℕ) → TakesFront left after 0 buf → Holds limits given whole done r → TakesPiece limits given done left after r
-  loads_end None after buf takes holds = record {
+  pub loads_end : (count : ℕ) (left after : Option (List ℕ)) (buf : List ℕ) → r.given ≡ count → TakesFront left after 0 buf → Holds limits given whole done r → TakesPiece limits given done count left after r
+  loads_end count None after buf same takes holds = record {
     piece = [];
     ending = whole;
     took = takes;
     some = λ is. absurd (let bad : whole ≡ broken = is in cc);
     last = λ is. empty_none after takes;
     holds = subst (λ bs. Holds limits bs whole done r) (sym (append-nil given)) holds;
+    counted = omega (arith, same);
+    grown = λ is. absurd (let bad : whole ≡ broken = is in cc);
   }
-  loads_end (Some bytes) after buf takes holds = record {
+  loads_end count (Some bytes) after buf same takes holds = record {
     piece = [];
     ending = whole;
     took = (bytes, refl, takes.2);
     some = λ is. absurd (let bad : whole ≡ broken = is in cc);
     last = λ is. subst IsEmpty (sym takes.2) (takes.3 refl);
     holds = subst (λ bs. Holds limits bs whole done r) (sym (append-nil given)) holds;
+    counted = omega (arith, same);
+    grown = λ is. absurd (let bad : whole ≡ broken = is in cc);
   }
 
-  pub loads_piece : (left after : Option (List ℕ)) (n : ℕ) (buf : List ℕ) → 0 < n → n ≤ length buf → TakesFront left after n buf → Holds limits (given ++ take n buf) broken done r → TakesPiece limits given done left after r
-  loads_piece None after n buf some within takes holds = record {
+  pub loads_piece : (count : ℕ) (left after : Option (List ℕ)) (n : ℕ) (buf : List ℕ) → 0 < n → n ≤ length buf → TakesFront left after n buf → r.given ≡ min (count + length (take n buf)) 18446744073709551615 → Holds limits (given ++ take n buf) broken done r → TakesPiece limits given done count left after r
+  loads_piece count None after n buf some within takes counted holds = record {
     piece = take n buf;
     ending = broken;
     took = takes;
     some = λ is. subst (λ k. 0 < k) (sym (length-take-le n buf within)) some;
     last = λ is. absurd (let bad : broken ≡ whole = is in cc);
     holds = holds;
+    counted = omega (arith, counted);
+    grown = λ is. counted;
   }
-  loads_piece (Some bytes) after n buf some within takes holds = record {
+  loads_piece count (Some bytes) after n buf some within takes counted holds = record {
     piece = take n buf;
     ending = broken;
     took = (drop n bytes, sym (take-append-drop n bytes) ∙ ap (λ bs. bs ++ drop n bytes) (sym takes.1), takes.2);
     some = λ is. subst (λ k. 0 < k) (sym (length-take-le n buf within)) some;
     last = λ is. absurd (let bad : broken ≡ whole = is in cc);
     holds = holds;
+    counted = omega (arith, counted);
+    grown = λ is. counted;
   }
 
 -- ---- the first byte

@@ -1,5 +1,5 @@
 -- What taking a token, or the end of the tokens, comes to.
-use Rattle.std.proofs.Common.{◌≡◌, ℕ, List, [], ◌∷◌, ◌++◌, refl, sym, ap, subst, ◌∙◌}
+use Rattle.std.proofs.Common.{◌≡◌, ℕ, Bool, List, [], ◌∷◌, ◌++◌, refl, sym, ap, subst, ◌∙◌}
 use Rattle.std.proofs.lemmas.List.{append_assoc, append-nil, reverse-append}
 use Rattle.std.specs.Prelude.{Option, Some, None, Ok, Err, IsSome, reverse, unwrap_or}
 use Rattle.dk_model.specs.declared.code.Code.{Code}
@@ -10,13 +10,15 @@ use Rattle.dk_lexer.specs.Given.{begun_line, first_line}
 use Rattle.dk_lexer.specs.Steps.{lexer_after}
 use Rattle.dk_parser.specs.Parsing.{commands_from, parsing_after}
 use Rattle.dk_parser.specs.Reading.{TokenReading}
-use Rattle.dk_parser.specs.FileReading.{Reading, read, reading_of, tail_by_bytes, tail_by_ending, tail_by_tokens}
+use Rattle.dk_parser.specs.FileReading.{Reading, next_line, read, reading_of, tail_by_bytes, tail_by_ending, tail_by_tokens}
 use Rattle.dk_parser.specs.FileReading as tail
-use Rattle.dk_parser.specs.Steps.{AddsFault, finished, finished_by, read_tokens}
+use Rattle.dk_parser.specs.RawViews.{written_command, written_form}
+use Rattle.dk_parser.specs.declared.raw.Raw.{Raw}
+use Rattle.dk_parser.specs.Steps.{AddsCommand, AddsFault, finished, finished_by, read_tokens}
 use Rattle.dk_parser.specs.Views.{HasRead}
+use Rattle.dk_parser.specs.Modules.{is_directive}
 use Rattle.dk_parser.specs.Written.{WrittenCommand}
 use Rattle.dk_parser.proofs.Exact.{read_extends}
-use Rattle.file_report.specs.Memory.{next_line}
 use Rattle.file_reader.specs.declared.reader.Behind.TheVariants as behind
 use Rattle.file_reader.specs.declared.reader.ReadEnd.TheVariants as end
 use Rattle.file_reader.specs.declared.reader.Reader.{Reader}
@@ -107,6 +109,17 @@ module _ {limits : Limits} {given : List ℕ} {ending : Ending} {done : List Wri
       tokens_are = all ∙ sym (append_assoc h.taken (t ∷ []) (reverse front ++ h.missing)) ∙ ap (λ ts. (h.taken ++ t ∷ []) ++ (reverse ts ++ h.missing)) (sym rest);
       then_stands = stands;
     }
+
+    -- it ends a command or a directive
+    pub found : (raw inner : Raw) (directive : Bool) (new : Reader) → inner ≡ raw → new.waiting.items ≡ front → HasRead limits (h.taken ++ t ∷ []) new.parser
+        → AddsCommand now (read_tokens limits (h.taken ++ t ∷ [])) (written_command raw) directive → StandsThen limits h.lexed ending h.lost h.missing new.lexer new.behind
+        → Holds limits given ending (done ++ written_command inner ∷ []) new × (is_directive (written_form inner.form) ≡ directive)
+    found raw inner directive new same rest parser adds stands = (
+      took (done ++ written_command inner ∷ []) new rest parser adds.after
+          (adds.commands ∙ ap (λ cs. cs ++ written_command raw ∷ []) h.done_are ∙ ap (λ (r : Raw). done ++ written_command r ∷ []) (sym same))
+          stands,
+      ap (λ (r : Raw). is_directive (written_form r.form)) same ∙ adds.which,
+    )
 
     pub token_refused : (code : Code) (place line : ℕ) → AddsFault now (read_tokens limits (h.taken ++ t ∷ [])) code → line ≡ unwrap_or (read_tokens limits (h.taken ++ t ∷ [])).begun place
         → EndsIn limits given ending done (end.Refused line code)

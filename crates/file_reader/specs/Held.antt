@@ -1,5 +1,5 @@
 -- For proofs: what a reader holds of the bytes that were given to it.
-use Rattle.std.specs.Prelude.{◌≡◌, ◌<◌, ℕ, List, [], ◌∷◌, ◌++◌, length, reverse, Option, Some, None, Result, Ok, Err}
+use Rattle.std.specs.Prelude.{◌≡◌, ◌<◌, ◌≤◌, ◌+◌, min, ℕ, List, [], ◌∷◌, ◌++◌, length, reverse, Option, Some, None, Result, Ok, Err}
 use Rattle.dk_io.specs.declared.shelf.Failed.{Failed}
 use Rattle.dk_model.specs.declared.limits.Limits.{Limits}
 use Rattle.dk_lexer.specs.declared.lexer.Lexer.{Lexer}
@@ -7,19 +7,19 @@ use Rattle.dk_lexer.specs.declared.token.Token.{Token}
 use Rattle.dk_lexer.specs.Tokens.{Ending, broken, tokens, whole}
 use Rattle.dk_lexer.specs.Given.{begun_line, first_line}
 use Rattle.dk_lexer.specs.Steps.{lexer_after}
-use Rattle.dk_parser.specs.FileReading.{Reading, read}
+use Rattle.dk_parser.specs.FileReading.{Reading, next_line, read}
 use Rattle.dk_parser.specs.FileReading as tail
 use Rattle.dk_parser.specs.RawViews.{written_command}
 use Rattle.dk_parser.specs.Steps.{read_tokens}
 use Rattle.dk_parser.specs.Views.{HasRead}
 use Rattle.dk_parser.specs.Written.{WrittenCommand}
-use Rattle.dk_parser.specs.declared.raw.Raw.{Raw}
+use Rattle.file_reader.specs.declared.reader.Next.{Next}
+use Rattle.file_reader.specs.Nexts.{IsWhich, raw_of}
 use Rattle.file_reader.specs.declared.reader.Behind.{Behind}
 use Rattle.file_reader.specs.declared.reader.Behind.TheVariants as behind
 use Rattle.file_reader.specs.declared.reader.ReadEnd.{ReadEnd}
 use Rattle.file_reader.specs.declared.reader.ReadEnd.TheVariants as end
 use Rattle.file_reader.specs.declared.reader.Reader.{Reader}
-use Rattle.file_report.specs.Memory.{next_line}
 
 -- what stands behind the tokens of the bytes that the lexer had; where memory ended, bytes behind them are lost and tokens are missing
 abbrev pub StandsThen : Limits → List ℕ → Ending → List ℕ → List Token → Lexer → Behind → Type 0
@@ -78,9 +78,9 @@ EndsIn limits given ending done (end.Refused line code) = Settles limits given e
 EndsIn limits given ending done (end.NoMemory line) = MemoryIn limits given ending done line
 EndsIn limits given ending done end.Unread = ⊥
 
--- the next command of the tokens that wait; or none of them waits any more; or how reading ends
-abbrev pub Finds : Limits → List ℕ → Ending → List WrittenCommand → Reader → Result (Option Raw) ReadEnd → Type 0
-Finds limits given ending done r (Ok (Some raw)) = Holds limits given ending (done ++ written_command raw ∷ []) r
+-- the next command or directive of the tokens that wait; or none of them waits any more; or how reading ends
+abbrev pub Finds : Limits → List ℕ → Ending → List WrittenCommand → Reader → Result (Option Next) ReadEnd → Type 0
+Finds limits given ending done r (Ok (Some next)) = Holds limits given ending (done ++ written_command (raw_of next) ∷ []) r × IsWhich next
 Finds limits given ending done r (Ok None) = Holds limits given ending done r × (r.waiting.items ≡ [])
 Finds limits given ending done r (Err e) = EndsIn limits given ending done e
 
@@ -104,15 +104,17 @@ abbrev pub IsEmpty : Option (List ℕ) → Type 0
 IsEmpty None = Unit {0}
 IsEmpty (Some rest) = rest ≡ []
 
--- a piece was taken, of one byte at least, or else the end
-pub record TakesPiece (limits : Limits) (given : List ℕ) (done : List WrittenCommand) (before after : Option (List ℕ)) (r : Reader) : Type 0 where
+-- a piece was taken, of one byte at least, or else the end, where so many bytes were counted before
+pub record TakesPiece (limits : Limits) (given : List ℕ) (done : List WrittenCommand) (count : ℕ) (before after : Option (List ℕ)) (r : Reader) : Type 0 where
   pub piece : List ℕ
   pub ending : Ending
   pub took : TakesBytes before after piece
   pub some : ending ≡ broken → 0 < length piece
   pub last : ending ≡ whole → IsEmpty after
   pub holds : Holds limits (given ++ piece) ending done r
+  pub counted : r.given ≤ count + length piece
+  pub grown : ending ≡ broken → r.given ≡ min (count + length piece) 18446744073709551615
 
-abbrev pub Loads : Limits → List ℕ → List WrittenCommand → Option (List ℕ) → Option (List ℕ) → Reader → Result Unit Failed → Type 0
-Loads limits given done before after r (Ok u) = TakesPiece limits given done before after r
-Loads limits given done before after r (Err e) = after ≡ before
+abbrev pub Loads : Limits → List ℕ → List WrittenCommand → ℕ → Option (List ℕ) → Option (List ℕ) → Reader → Result Unit Failed → Type 0
+Loads limits given done count before after r (Ok u) = TakesPiece limits given done count before after r
+Loads limits given done count before after r (Err e) = after ≡ before

@@ -1,12 +1,13 @@
 -- For callers: how far the reading of a book has come, and how it ends.
-use Rattle.std.specs.Prelude.{◌≡◌, ℕ, List, [], ◌∷◌, ◌++◌, Option, Some, Result, Ok, Err}
+use Rattle.std.specs.Prelude.{◌≡◌, ◌≤◌, length, ℕ, List, [], ◌∷◌, ◌++◌, Option, Some, Result, Ok, Err}
 use Rattle.dk_model.specs.declared.limits.Limits.{Limits}
 use Rattle.dk_lexer.specs.Tokens.{Ending, broken, whole}
 use Rattle.dk_parser.specs.FileReading.{Reading, read}
 use Rattle.dk_parser.specs.FileReading as tail
 use Rattle.dk_parser.specs.RawViews.{written_command}
 use Rattle.dk_parser.specs.Written.{WrittenCommand}
-use Rattle.dk_parser.specs.declared.raw.Raw.{Raw}
+use Rattle.file_reader.specs.declared.reader.Next.{Next}
+use Rattle.file_reader.specs.Nexts.{IsWhich, raw_of}
 use Rattle.file_reader.specs.declared.reader.ReadEnd.{ReadEnd}
 use Rattle.file_reader.specs.declared.reader.ReadEnd.TheVariants as end
 use Rattle.file_reader.specs.declared.reader.Reader.{Reader}
@@ -19,6 +20,7 @@ pub record HasBegun (r : Reader) : Type 0 where
   pub ending : Ending
   pub done : List WrittenCommand
   pub holds : Holds limits given ending done r
+  pub counted : r.given ≤ length given
 
 -- The reader of the book with these bytes has given these commands, its first ones, and this is left of it on the shelf.
 pub record IsBehind (limits : Limits) (bytes : List ℕ) (done : List WrittenCommand) (left : Option (List ℕ)) (r : Reader) : Type 0 where
@@ -42,9 +44,9 @@ abbrev pub IsUnread : Limits → List ℕ → List WrittenCommand → Option (Li
 IsUnread limits bytes done left =
     (given : List ℕ) × (rest : List ℕ) × (bytes ≡ given ++ rest) × (left ≡ Some rest) × (read limits given broken ≡ reading done tail.unread)
 
--- The answer behind these commands of the book with these bytes: the next one, or how the book is read.
-abbrev pub Answers : Limits → List ℕ → List WrittenCommand → Option (List ℕ) → Reader → Result Raw ReadEnd → Type 0
-Answers limits bytes done left r (Ok raw) = IsBehind limits bytes (done ++ written_command raw ∷ []) left r
+-- The answer behind these commands and directives of the book with these bytes: the next one, or how the book is read.
+abbrev pub Answers : Limits → List ℕ → List WrittenCommand → Option (List ℕ) → Reader → Result Next ReadEnd → Type 0
+Answers limits bytes done left r (Ok next) = IsBehind limits bytes (done ++ written_command (raw_of next) ∷ []) left r × IsWhich next
 Answers limits bytes done left r (Err end.Whole) = read limits bytes whole ≡ reading done tail.whole
 Answers limits bytes done left r (Err (end.Refused line code)) = read limits bytes whole ≡ reading done (tail.fault line code)
 Answers limits bytes done left r (Err (end.NoMemory line)) = MemoryIn limits bytes whole done line

@@ -1,5 +1,5 @@
-//! Reads the commands of a book from a shelf, piece by piece.
-ghost use Rattle.std.specs.Prelude.{◌≡◌, ◌++◌, [], ℕ, List, Some, OnOk, unwrap_or};
+//! Reads the commands and directives of a book from a shelf, piece by piece.
+ghost use Rattle.std.specs.Prelude.{◌≡◌, ◌<◌, ◌≤◌, ◌+◌, ◌-◌, ◌^◌, ◌++◌, [], ℕ, List, Some, IfOk, OnOk, length, min, unwrap_or, vec_len};
 ghost use Rattle.dk_io.specs.Causes.{HasCause, MayRiseAll};
 ghost use Rattle.dk_lexer.specs.declared.token.Token.{Token};
 ghost use Rattle.dk_lexer.specs.Given.{given, with_token};
@@ -9,7 +9,9 @@ ghost use Rattle.dk_parser.specs.Steps.{read_tokens};
 ghost use Rattle.dk_parser.specs.Views.{HasRead};
 ghost use Rattle.dk_parser.specs.Written.{WrittenCommand};
 ghost use Rattle.file_reader.specs.Counts.{MayRiseByAnswer, RoseByAnswer};
+ghost use Rattle.file_reader.specs.Nexts.{raw_of};
 ghost use Rattle.file_reader.specs.Held.{AreKept, Finds, Holds, EndsBehind, IsDry, Loads};
+ghost use Rattle.file_reader.specs.Rooms.{HasFewer, room_of};
 ghost use Rattle.file_reader.specs.Progress.{Answers, HasBegun, IsBehind};
 
 use dk_io::{Failed, Shelf};
@@ -18,16 +20,36 @@ use dk_model::{Code, Fault, Limits};
 use dk_parser::{Parser, Raw, Step};
 use std::alloc::Global;
 
-/// Why no other command of a book comes.
+/// What comes next in a book.
+#[derive(Drop)]
+pub enum Next {
+    Command(Raw),
+    Directive(Raw),
+}
+
+impl Next {
+    /// The command or directive.
+    pub fn into_raw(self) -> Raw
+        ensures { result ≡ raw_of self }
+    {
+        match self {
+            Next::Command(raw) => raw,
+            Next::Directive(raw) => raw,
+        }
+    }
+}
+
+/// Why no other command and no other directive of a book comes.
 #[derive(Clone, Copy, Debug, PartialEq, Eq)]
 pub enum ReadEnd {
     /// It was read to its end.
     Whole,
     /// A read failed.
     Unread,
-    /// The bytes or tokens behind the last command are at fault: the line of the command that is due, and the code.
+    /// The bytes or tokens behind the last command or directive are at fault: the line of the one that is due, and the
+    /// code.
     Refused(u32, Code),
-    /// Memory ended while the command at this line was due.
+    /// Memory ended while the command or directive at this line was due.
     NoMemory(u32),
 }
 
@@ -52,6 +74,8 @@ pub struct Reader {
     // The tokens of the piece at hand that the parser has not had, the next one last.
     waiting: Vec<Token>,
     behind: Behind,
+    // How many bytes of the book were given to it.
+    given: u64,
 }
 
 // Puts a token behind those that wait; or tells its line, where there is no memory for it.
@@ -83,30 +107,35 @@ impl Reader {
     pub fn new(alloc: Global, limits: Limits) -> Reader
         ensures begun { HasBegun result }
         ensures behind { (bytes : List ℕ) → IsBehind limits bytes [] (Some bytes) result }
+        ensures room { room_of result ≤ 2 ^ 97 }
     {
         Reader {
             lexer: Lexer::new(limits),
             parser: Parser::new(alloc, limits),
             waiting: Vec::new(alloc),
             behind: Behind::Piece,
+            given: 0,
         }
     }
 
-    /// The next command of the shelf's current book, which is the one that the reader began; or why none comes. The
-    /// book is read in pieces of 4,096 bytes, as they are needed.
-    pub fn next<H: Shelf>(&mut self, alloc: Global, shelf: &mut H) -> Result<Raw, ReadEnd>
+    /// The next command or directive of the shelf's current book, which is the one that the reader began; or why none
+    /// comes. The book is read in pieces of 4,096 bytes, as they are needed.
+    pub fn next<H: Shelf>(&mut self, alloc: Global, shelf: &mut H) -> Result<Next, ReadEnd>
         requires begun { HasBegun self.old }
         ensures begun { OnOk result (HasBegun self.new) }
         ensures answers { (limits : Limits) (bytes : List ℕ) (done : List WrittenCommand) →
             IsBehind limits bytes done (H.left shelf.old) self.old →
             Answers limits bytes done (H.left shelf.new) self.new result }
+        ensures room { OnOk result (room_of self.new < room_of self.old) }
         ensures books { H.books shelf.new ≡ H.books shelf.old }
+        ensures is_open { H.is_open shelf.new ≡ H.is_open shelf.old }
+        ensures aside { H.aside shelf.new ≡ H.aside shelf.old }
         ensures faults { RoseByAnswer (H.faults shelf.old) (H.faults shelf.new) result }
         ensures missed { MayRiseByAnswer (H.missed shelf.old) (H.missed shelf.new) result }
     {
         'pieces: for _turn in 0..u64::MAX {
-            match self.command(alloc) {
-                Ok(Some(raw)) => return Ok(raw),
+            match self.waiting_next(alloc) {
+                Ok(Some(next)) => return Ok(next),
                 Err(end) => return Err(end),
                 Ok(None) => {}
             }
@@ -121,17 +150,22 @@ impl Reader {
         unreachable!()
     }
 
-    // Goes through the tokens that wait, to the end of the next command.
-    fn command(&mut self, alloc: Global) -> Result<Option<Raw>, ReadEnd>
-        ensures { (limits : Limits) (given : List ℕ) (ending : Ending) (done : List WrittenCommand) →
-            Holds limits given ending done self.old →
+    // Goes through the tokens that wait, to the end of the next command or directive.
+    fn waiting_next(&mut self, alloc: Global) -> Result<Option<Next>, ReadEnd>
+        ensures finds { (limits : Limits) (given : List ℕ) (ending : Ending)
+            (done : List WrittenCommand) → Holds limits given ending done self.old →
             Finds limits given ending done self.new result }
+        ensures given { self.new.given ≡ self.old.given }
+        ensures behind { self.new.behind ≡ self.old.behind }
+        ensures fewer { IfOk result (λ next.
+            HasFewer next (vec_len self.old.waiting) (vec_len self.new.waiting)) }
     {
         while let Some(token) = self.waiting.pop() {
             let line = self.due_line(token.line);
             match self.parser.feed(alloc, token) {
                 Ok(Step::More) => {}
-                Ok(Step::Command(raw)) => return Ok(Some(Box::into_inner(raw))),
+                Ok(Step::Command(raw)) => return Ok(Some(Next::Command(Box::into_inner(raw)))),
+                Ok(Step::Directive(raw)) => return Ok(Some(Next::Directive(Box::into_inner(raw)))),
                 Err(Fault::Refused(code)) => return Err(ReadEnd::Refused(
                     self.due_line(line),
                     code,
@@ -142,7 +176,7 @@ impl Reader {
         Ok(None)
     }
 
-    // The line of the command that is due: of its first token, else this one.
+    // The line of the command or directive that is due: of its first token, else this one.
     fn due_line(&self, place: u32) -> u32
         ensures { (limits : Limits) (ts : List Token) → HasRead limits ts self.now.parser →
             result ≡ unwrap_or (read_tokens limits ts).begun place }
@@ -171,8 +205,11 @@ impl Reader {
     fn load<H: Shelf>(&mut self, alloc: Global, shelf: &mut H) -> Result<(), Failed>
         ensures loads { (limits : Limits) (given : List ℕ) (done : List WrittenCommand) →
             IsDry limits given done self.old →
-            Loads limits given done (H.left shelf.old) (H.left shelf.new) self.new result }
+            Loads limits given done self.old.given (H.left shelf.old) (H.left shelf.new) self.new
+            result }
         ensures books { H.books shelf.new ≡ H.books shelf.old }
+        ensures is_open { H.is_open shelf.new ≡ H.is_open shelf.old }
+        ensures aside { H.aside shelf.new ≡ H.aside shelf.old }
         ensures faults { HasCause (H.faults shelf.old) (H.faults shelf.new) result }
         ensures missed { MayRiseAll (H.missed shelf.old) (H.missed shelf.new) result }
     {
@@ -192,10 +229,12 @@ impl Reader {
 
     // Takes the next bytes of the book.
     fn take(&mut self, alloc: Global, bytes: &[u8])
-        ensures { (limits : Limits) (given : List ℕ) (done : List WrittenCommand) →
+        ensures holds { (limits : Limits) (given : List ℕ) (done : List WrittenCommand) →
             IsDry limits given done self.old →
             Holds limits (given ++ bytes.now) broken done self.new }
+        ensures given { self.new.given ≡ min (self.old.given + length bytes.now) (2 ^ 64 - 1) }
     {
+        self.given = self.given.saturating_add(bytes.len() as u64);
         self.waiting.clear();
         let taken = self.lexer.take(alloc, bytes, &mut self.waiting);
         self.waiting.reverse();
@@ -210,8 +249,9 @@ impl Reader {
 
     // Takes the end of the book.
     fn finish(&mut self, alloc: Global)
-        ensures { (limits : Limits) (given : List ℕ) (done : List WrittenCommand) →
+        ensures holds { (limits : Limits) (given : List ℕ) (done : List WrittenCommand) →
             IsDry limits given done self.old → Holds limits given whole done self.new }
+        ensures given { self.new.given ≡ self.old.given }
     {
         self.waiting.clear();
         let fed = self.lexer.finish(alloc);

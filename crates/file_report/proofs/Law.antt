@@ -13,14 +13,16 @@ use Rattle.dk_parser.specs.Written.{WrittenCommand}
 use Rattle.board_core.specs.declared.event.End.{End}
 use Rattle.board_core.specs.declared.event.End.TheVariants as end
 use Rattle.board_core.specs.declared.event.Event.{Event}
+use Rattle.board_core.specs.declared.event.Place.{Place}
 use Rattle.board_core.specs.Events.{end_of, faults, is_accepted, is_fault, IsFirstFault, puts}
+use Rattle.board_core.specs.Places.{in_file}
 use Rattle.board_core.specs.Machine.{IsDueTo}
 use Rattle.board_core.proofs.Histories.{fault_any}
-use Rattle.verdict_book.specs.Report.{FileReport}
-use Rattle.verdict_book.specs.Books.{IsFirst, IsReportOf, end_outcome, line_at, names_of, report_with}
+use Rattle.verdict_book.specs.Report.{FileReport, nowhere}
+use Rattle.verdict_book.specs.Books.{IsFirst, IsReportOf, end_outcome, fault_outcome, place_at, names_of, report_with}
 use Rattle.verdict_book.specs.declared.title.Title.{Title}
 use Rattle.verdict_book.specs.declared.outcome.Outcome.{Outcome}
-use Rattle.verdict_book.specs.declared.outcome.Outcome.TheVariants.{Stopped}
+use Rattle.verdict_book.specs.declared.outcome.Outcome.TheVariants.{Stopped, Unread}
 use Rattle.file_report.specs.Outcomes.{by_verdict, no_theory, report_from, report_of_bytes, tail_outcome, theory_after, with_names}
 use Rattle.file_report.specs.Jobs.{Job, IsJobOf, AreJobsFrom, due_of, is_early, theory_over, titles_of}
 use Rattle.file_report.specs.Memory.{IsCutByMemory, IsNextLine, next_line, reading_at}
@@ -34,15 +36,16 @@ use Rattle.verdict_book.proofs.Answered.{has_end, stopped_fault}
 -- ---- lists
 
 -- the element of that index, with those behind it
-at_index : {X : Type 0} (xs : List X) (k : ℕ) → k < length xs → (x : X) × (more : List X) × (slice_get xs k ≡ Some x) × (drop k xs ≡ x ∷ more)
+pub at_index : {X : Type 0} (xs : List X) (k : ℕ) → k < length xs → (x : X) × (more : List X) × (slice_get xs k ≡ Some x) × (drop k xs ≡ x ∷ more)
 at_index [] k lt = absurd (let l : k < 0 = lt in omega arith)
 at_index (x ∷ xs) zero lt = (x, xs, refl, refl)
 at_index (x ∷ xs) (suc k) lt = at_index xs k (omega arith)
 
-line_of_title : {J : Type 0} (job_of : J → Job) (jobs : List (J × Bool)) (k : ℕ) (j : J × Bool) → slice_get jobs k ≡ Some j → slice_index_or (map (λ (t : Title). t.line) (titles_of job_of jobs)) k 0 ≡ (job_of j.0).line
-line_of_title job_of [] k j e = cc
-line_of_title job_of (y ∷ xs) zero j e = let same : y ≡ j = (let s : Some y ≡ Some j = e in cc) in ap (λ x. (job_of x.0).line) same
-line_of_title job_of (y ∷ xs) (suc k) j e = line_of_title job_of xs k j e
+place_of_title : {J : Type 0} (job_of : J → Job) (jobs : List (J × Bool)) (k : ℕ) (j : J × Bool) → slice_get jobs k ≡ Some j
+    → slice_index_or (map (λ (t : Title). t.place) (titles_of job_of jobs)) k nowhere ≡ in_file (job_of j.0).line
+place_of_title job_of [] k j e = cc
+place_of_title job_of (y ∷ xs) zero j e = let same : y ≡ j = (let s : Some y ≡ Some j = e in cc) in ap (λ x. in_file (job_of x.0).line) same
+place_of_title job_of (y ∷ xs) (suc k) j e = place_of_title job_of xs k j e
 
 pub front_taken : {X : Type 0} (xs ys : List X) → take (length xs) (xs ++ ys) ≡ xs
 front_taken [] ys = refl
@@ -52,7 +55,7 @@ pub front_dropped : {X : Type 0} (xs ys : List X) → drop (length xs) (xs ++ ys
 front_dropped [] ys = refl
 front_dropped (x ∷ xs) ys = front_dropped xs ys
 
-all_taken : {X : Type 0} (xs : List X) → take (length xs) xs ≡ xs
+pub all_taken : {X : Type 0} (xs : List X) → take (length xs) xs ≡ xs
 all_taken [] = refl
 all_taken (x ∷ xs) = ap (λ l. x ∷ l) (all_taken xs)
 
@@ -67,10 +70,10 @@ no_elements f (x ∷ xs) e = absurd (let l : suc (length xs) ≡ 0 = e in omega 
 
 -- ---- reports
 
-with_no_more : (xs : List (List ℕ)) (o : Outcome) → with_names xs (record { names = []; outcome = o }) ≡ (let r : FileReport = record { names = xs; outcome = o } in r)
+pub with_no_more : (xs : List (List ℕ)) (o : Outcome) → with_names xs (record { names = []; outcome = o }) ≡ (let r : FileReport = record { names = xs; outcome = o } in r)
 with_no_more xs o = ap (λ ns. let f : FileReport = record { names = ns; outcome = o } in f) (append-nil xs)
 
-pub other_ends : (v : Verdict) (n : ℕ) (c : WrittenCommand) (rest : FileReport) → is_accepted v ≡ false → by_verdict v n c rest ≡ (let r : FileReport = record { names = []; outcome = Stopped (n + 1) c.line v } in r)
+pub other_ends : (v : Verdict) (n : ℕ) (c : WrittenCommand) (rest : FileReport) → is_accepted v ≡ false → by_verdict v n c rest ≡ (let r : FileReport = record { names = []; outcome = Stopped (n + 1) (in_file c.line) v } in r)
 other_ends verdict.Accepted n c rest other = cc
 other_ends (verdict.Refused code) n c rest other = refl
 other_ends verdict.Ended n c rest other = refl
@@ -80,9 +83,9 @@ other_ends verdict.Memory n c rest other = refl
 abbrev named : {J : Type 0} → (J → Job) → List (J × Bool) → List (List ℕ)
 named job_of jobs = map (λ j. (job_of j.0).name) jobs
 
--- the line of the job of this number
-abbrev lined : {J : Type 0} → (J → Job) → List (J × Bool) → ℕ → ℕ
-lined job_of jobs n = line_at (titles_of job_of jobs) n
+-- the place of the job of this number
+abbrev placed : {J : Type 0} → (J → Job) → List (J × Bool) → ℕ → Place
+placed job_of jobs n = place_at (titles_of job_of jobs) n
 
 names_taken : {J : Type 0} (job_of : J → Job) (jobs : List (J × Bool)) (k : ℕ) → names_of (take k (titles_of job_of jobs)) ≡ named job_of (take k jobs)
 names_taken job_of jobs zero = refl
@@ -173,7 +176,7 @@ module _ {J : Type 0} (job_of : J → Job) (limits : Limits) (budget : ℕ) (byt
     next = next_of s.rest (subst (λ (l : List (J × Bool)). AreJobsFrom budget (theory_over no_theory budget s.done) s.rest (map (λ (x : J × Bool). job_of x.0) l)) later s.behind)
 
     stops : (v : Verdict) → is_accepted v ≡ false → v ≡ due_of (job_of j.0)
-        → report_of_bytes limits budget bytes ending ≡ record { names = named job_of (take k jobs); outcome = Stopped (k + 1) (job_of j.0).line v }
+        → report_of_bytes limits budget bytes ending ≡ record { names = named job_of (take k jobs); outcome = Stopped (k + 1) (in_file (job_of j.0).line) v }
     stops v other is =
         let T = theory_over no_theory budget s.done in
         let ns = named job_of (take k jobs) in
@@ -185,8 +188,8 @@ module _ {J : Type 0} (job_of : J → Job) (limits : Limits) (budget : ℕ) (byt
         ∙ ap (λ u. with_names ns (by_verdict u k c (report_from limits budget (theory_after T budget c.form) (k + 1) n.1 tail)))
         (verdict_is limits budget T k c (job_of j.0) (omega arith) n.3 ∙ sym is)
         ∙ ap (with_names ns) (other_ends v k c (report_from limits budget (theory_after T budget c.form) (k + 1) n.1 tail) other)
-        ∙ with_no_more ns (Stopped (k + 1) c.line v)
-        ∙ ap (λ l. let r : FileReport = record { names = ns; outcome = Stopped (k + 1) l v } in r) (sym n.3.line)
+        ∙ with_no_more ns (Stopped (k + 1) (in_file c.line) v)
+        ∙ ap (λ l. let r : FileReport = record { names = ns; outcome = Stopped (k + 1) (in_file l) v } in r) (sym n.3.line)
 
     -- seen from the whole file, the line is the job's
     job_line : IsNextLine limits bytes ending k (job_of j.0).line
@@ -204,7 +207,7 @@ module _ {J : Type 0} (job_of : J → Job) (limits : Limits) (budget : ℕ) (byt
 
   -- the report where a job is at fault
   fault_report : ChecksJobsOf job_of limits budget bytes ending jobs es → (n : ℕ) (v : Verdict) → IsFirstFault es n v
-      → Reports limits budget bytes ending (named job_of (take (n - 1) jobs)) (Stopped n (lined job_of jobs n) v)
+      → Reports limits budget bytes ending (named job_of (take (n - 1) jobs)) (Stopped n (placed job_of jobs n) v)
   fault_report checks n v first = by_cause v first.1 due
     where
       due_all : (0 < n) × (n ≤ puts es) × IsDueTo (λ x. due_of (job_of x)) jobs n v
@@ -228,29 +231,28 @@ module _ {J : Type 0} (job_of : J → Job) (limits : Limits) (budget : ℕ) (byt
       s : Splits job_of limits budget no_theory 0 (read limits bytes ending).commands jobs (n - 1)
       s = splits checks (n - 1) (omega (arith, within)) (λ m bad. let le : n ≤ m = first.2 m bad in omega (arith, some))
 
-      line_is : (job_of here.0.0).line ≡ lined job_of jobs n
-      line_is = sym (line_of_title job_of jobs (n - 1) here.0 here.2)
+      place_is : in_file (job_of here.0.0).line ≡ placed job_of jobs n
+      place_is = sym (place_of_title job_of jobs (n - 1) here.0 here.2)
 
       stopped : (u : Verdict) → is_accepted u ≡ false → u ≡ due_of (job_of here.0.0)
-          → report_of_bytes limits budget bytes ending ≡ record { names = named job_of (take (n - 1) jobs); outcome = Stopped n (lined job_of jobs n) u }
+          → report_of_bytes limits budget bytes ending ≡ record { names = named job_of (take (n - 1) jobs); outcome = Stopped n (placed job_of jobs n) u }
       stopped u other is =
           stops (n - 1) within s here.0 here.1 here.2 here.3 checks.few u other is
-          ∙ ap (λ m. let r : FileReport = record { names = named job_of (take (n - 1) jobs); outcome = Stopped m (job_of here.0.0).line u } in r) number
-          ∙ ap (λ l. let r : FileReport = record { names = named job_of (take (n - 1) jobs); outcome = Stopped n l u } in r) line_is
+          ∙ ap (λ m. let r : FileReport = record { names = named job_of (take (n - 1) jobs); outcome = Stopped m (in_file (job_of here.0.0).line) u } in r) number
+          ∙ ap (λ p. let r : FileReport = record { names = named job_of (take (n - 1) jobs); outcome = Stopped n p u } in r) place_is
 
-      ended : IsCutByMemory limits budget bytes ending (named job_of (take (n - 1) jobs)) n (lined job_of jobs n)
+      ended : IsCutByMemory limits budget bytes ending (named job_of (take (n - 1) jobs)) n (job_of here.0.0).line
       ended =
-          subst (λ m. IsCutByMemory limits budget bytes ending (named job_of (take (n - 1) jobs)) m (lined job_of jobs n)) number
-          (subst (λ l. IsCutByMemory limits budget bytes ending (named job_of (take (n - 1) jobs)) (n - 1 + 1) l) line_is
-          (cut (n - 1) (omega (arith, within)) s (job_of here.0.0).line (job_line (n - 1) within s here.0 here.1 here.2 here.3 checks.few)))
+          subst (λ m. IsCutByMemory limits budget bytes ending (named job_of (take (n - 1) jobs)) m (job_of here.0.0).line) number
+          (cut (n - 1) (omega (arith, within)) s (job_of here.0.0).line (job_line (n - 1) within s here.0 here.1 here.2 here.3 checks.few))
 
       due_is : (u : Verdict) → (j : J × Bool) × (slice_get jobs (n - 1) ≡ Some j) × (u ≡ due_of (job_of j.0)) → u ≡ due_of (job_of here.0.0)
       due_is u r = let same : r.0 ≡ here.0 = (let t : Some r.0 ≡ Some here.0 = sym r.1 ∙ here.2 in cc) in r.2 ∙ ap (λ (x : J × Bool). due_of (job_of x.0)) same
 
       by_cause : (u : Verdict) → is_accepted u ≡ false → IsDueTo (λ x. due_of (job_of x)) jobs n u
-          → Reports limits budget bytes ending (named job_of (take (n - 1) jobs)) (Stopped n (lined job_of jobs n) u)
+          → Reports limits budget bytes ending (named job_of (take (n - 1) jobs)) (Stopped n (placed job_of jobs n) u)
       by_cause verdict.Accepted other d = cc
-      by_cause verdict.Memory other d = inr ended
+      by_cause verdict.Memory other d = inr ((job_of here.0.0).line, sym place_is, ended)
       by_cause (verdict.Refused code) other (inl e) = cc
       by_cause (verdict.Refused code) other (inr r) = stopped (verdict.Refused code) refl (due_is (verdict.Refused code) r)
       by_cause verdict.Ended other (inl e) = cc
@@ -285,23 +287,30 @@ module _ {J : Type 0} (job_of : J → Job) (limits : Limits) (budget : ℕ) (byt
     next_ends o is = goes_on ∙ ap (with_names (named job_of jobs)) is ∙ with_no_more (named job_of jobs) o
 
     memory_ends : (line : ℕ) → MemoryEnds limits bytes ending (length jobs) line → (b : Bool) → eqb line 0 ≡ b
-        → Reports limits budget bytes ending (named job_of jobs) (if b then Stopped 0 0 verdict.Memory else Stopped (length jobs + 1) line verdict.Memory)
+        → Reports limits budget bytes ending (named job_of jobs) (if b then Stopped 0 nowhere verdict.Memory else Stopped (length jobs + 1) (in_file line) verdict.Memory)
     memory_ends line (inl none) true e = inl (no_elements (λ (j : J × Bool). (job_of j.0).name) jobs none.0, refl, refl)
     memory_ends line (inl none) false e = absurd (let z : line ≡ 0 = none.1 in let f : eqb 0 0 ≡ false = sym (ap (λ l. eqb l 0) z) ∙ e in cc)
     memory_ends line (inr due) true e = absurd (let z : line ≡ 0 = eqb-true line 0 e in let lt : 0 < line = next_line_positive limits bytes ending (length jobs) line due in omega (arith, z, lt))
     memory_ends line (inr due) false e =
-        inr (subst (λ (l : List (J × Bool)). IsCutByMemory limits budget bytes ending (named job_of l) (length jobs + 1) line) (all_taken jobs)
-        (cut (length jobs) (omega arith) s line due))
+        inr (
+          line,
+          refl,
+          subst (λ (l : List (J × Bool)). IsCutByMemory limits budget bytes ending (named job_of l) (length jobs + 1) line) (all_taken jobs)
+              (cut (length jobs) (omega arith) s line due),
+        )
 
     ends_by : (x : End) → (x ≡ end.Stopped → ⊥) → IsReadersEnd limits budget bytes ending (length jobs) x
         → Reports limits budget bytes ending (named job_of jobs) (end_outcome (length jobs) (Some x))
     ends_by end.Whole open_end is = tail_ends reading.whole is.0 is.1
-    ends_by end.Unread open_end is = tail_ends reading.unread is.0 is.1
+    ends_by (end.Unread place) open_end is =
+        subst (λ p. Reports limits budget bytes ending (named job_of jobs) (Unread (length jobs + 1) p)) (sym is.2) (tail_ends reading.unread is.0 is.1)
+    ends_by (end.Unopened name) open_end is = absurd is
     ends_by end.Stopped open_end is = absurd (open_end refl)
-    ends_by (end.Fault line verdict.Memory) open_end is = memory_ends line is (eqb line 0) refl
-    ends_by (end.Fault line verdict.Accepted) open_end is = next_ends (Stopped (length jobs + 1) line verdict.Accepted) is
-    ends_by (end.Fault line (verdict.Refused code)) open_end is = next_ends (Stopped (length jobs + 1) line (verdict.Refused code)) is
-    ends_by (end.Fault line verdict.Ended) open_end is = next_ends (Stopped (length jobs + 1) line verdict.Ended) is
+    ends_by (end.Fault place verdict.Memory) open_end is =
+        subst (λ p. Reports limits budget bytes ending (named job_of jobs) (fault_outcome (length jobs) p verdict.Memory)) (sym is.1) (memory_ends is.0 is.2 (eqb is.0 0) refl)
+    ends_by (end.Fault place verdict.Accepted) open_end is = next_ends (Stopped (length jobs + 1) place verdict.Accepted) is
+    ends_by (end.Fault place (verdict.Refused code)) open_end is = next_ends (Stopped (length jobs + 1) place (verdict.Refused code)) is
+    ends_by (end.Fault place verdict.Ended) open_end is = next_ends (Stopped (length jobs + 1) place verdict.Ended) is
 
   -- the report where no job is at fault
   end_report : ChecksFile job_of limits budget bytes ending jobs es → list_any is_fault es ≡ false
@@ -325,7 +334,7 @@ module _ {J : Type 0} (job_of : J → Job) (limits : Limits) (budget : ℕ) (byt
       (subst (λ n. Reports limits budget bytes ending (named job_of jobs) (end_outcome n (end_of es))) (sym (all_titles job_of jobs)) (clean f)))
   report_by_fault checks clean (Some f) first report is =
       subst (λ (r : FileReport). Reports limits budget bytes ending r.names r.outcome) (sym is)
-      (subst (λ ns. Reports limits budget bytes ending ns (Stopped f.0 (lined job_of jobs f.0) f.1)) (sym (names_taken job_of jobs (f.0 - 1)))
+      (subst (λ ns. Reports limits budget bytes ending ns (Stopped f.0 (placed job_of jobs f.0) f.1)) (sym (names_taken job_of jobs (f.0 - 1)))
       (fault_report checks f.0 f.1 first))
 
 -- the law

@@ -7,6 +7,7 @@ use Rattle.dk_model.specs.declared.code.Verdict.TheVariants.{Refused}
 use Rattle.dk_parser.specs.FileReading.{Reading, fault}
 use Rattle.dk_parser.specs.Written.{WrittenCommand}
 use Rattle.board_core.specs.Events.{is_accepted}
+use Rattle.board_core.specs.Places.{in_file}
 use Rattle.verdict_book.specs.declared.outcome.Outcome.TheVariants.{Stopped}
 use Rattle.file_report.specs.Outcomes.{Theory, by_verdict, no_theory, report_from, theory_after, verdict_at}
 use Rattle.file_report.specs.Ends.{report_behind}
@@ -39,7 +40,7 @@ behind limits budget r done rest is =
 
 pub next_refused : (limits : Limits) (budget : ℕ) (r : Reading) (done later : List WrittenCommand) (c : WrittenCommand) (v : Verdict) → r.commands ≡ done ++ c ∷ later
     → verdict_at limits budget (theory_over no_theory budget done) (length done) c.form ≡ v → is_accepted v ≡ false
-    → report_behind limits budget r (length done) ≡ record { names = []; outcome = Stopped (length done + 1) c.line v }
+    → report_behind limits budget r (length done) ≡ record { names = []; outcome = Stopped (length done + 1) (in_file c.line) v }
 next_refused limits budget r done later c v is verdict other =
     let rest = report_from limits budget (theory_after (theory_over no_theory budget done) budget c.form) (length done + 1) later r.tail in
     behind limits budget r done (c ∷ later) is
@@ -47,7 +48,7 @@ next_refused limits budget r done later c v is verdict other =
     ∙ other_ends v (length done) c rest other
 
 pub tail_refused : (limits : Limits) (budget : ℕ) (r : Reading) (line : ℕ) (code : Code) → r.tail ≡ fault line code
-    → report_behind limits budget r (length r.commands) ≡ record { names = []; outcome = Stopped (length r.commands + 1) line (Refused code) }
+    → report_behind limits budget r (length r.commands) ≡ record { names = []; outcome = Stopped (length r.commands + 1) (in_file line) (Refused code) }
 tail_refused limits budget r line code is =
     behind limits budget r r.commands [] (sym (append-nil r.commands))
     ∙ ap (λ t. report_from limits budget (theory_over no_theory budget r.commands) (length r.commands) [] t) is

@@ -12,7 +12,7 @@ use Rattle.board_core.proofs.Histories.{not_true}
 use Rattle.file_report.specs.Outcomes.{Theory, by_verdict, report_from, scoped_verdict, shown_name, theory_after, verdict_after, verdict_at, with_names}
 use Rattle.file_report.specs.Jobs.{Job, IsJobOf, AreJobsFrom, due_of, theory_over}
 
-within_limit : (limits : Limits) (count : ℕ) → count < limits.commands → nat_le limits.commands count ≡ false
+pub within_limit : (limits : Limits) (count : ℕ) → count < limits.commands → nat_le limits.commands count ≡ false
 within_limit limits count lt = not_true (nat_le limits.commands count) (λ t. let le = leb-true limits.commands count t in omega arith)
 
 -- within the limit a job's due is the verdict that the file gives its command

@@ -7,7 +7,8 @@ use Rattle.dk_parser.specs.FileReading.{Reading, read}
 use Rattle.dk_parser.specs.FileReading as reading
 use Rattle.board_core.specs.declared.event.End.{End}
 use Rattle.board_core.specs.declared.event.End.TheVariants as end
-use Rattle.verdict_book.specs.Report.{FileReport}
+use Rattle.board_core.specs.Places.{in_file}
+use Rattle.verdict_book.specs.Report.{FileReport, nowhere}
 use Rattle.verdict_book.specs.declared.outcome.Outcome.TheVariants.{Stopped}
 use Rattle.file_report.specs.Outcomes.{no_theory, report_from}
 use Rattle.file_report.specs.Memory.{IsNextLine}
@@ -27,9 +28,12 @@ MemoryEnds limits bytes ending count line = ((count ≡ 0) × (line ≡ 0)) ⊎ 
 abbrev pub IsReadersEnd : Limits → ℕ → List ℕ → Ending → ℕ → End → Type 0
 IsReadersEnd limits budget bytes ending count end.Whole =
     (drop count (read limits bytes ending).commands ≡ []) × ((read limits bytes ending).tail ≡ reading.whole)
-IsReadersEnd limits budget bytes ending count end.Unread =
+IsReadersEnd limits budget bytes ending count (end.Unread place) =
     (drop count (read limits bytes ending).commands ≡ []) × ((read limits bytes ending).tail ≡ reading.unread)
-IsReadersEnd limits budget bytes ending count (end.Fault line verdict.Memory) = MemoryEnds limits bytes ending count line
-IsReadersEnd limits budget bytes ending count (end.Fault line v) =
-    report_behind limits budget (read limits bytes ending) count ≡ record { names = []; outcome = Stopped (count + 1) line v }
+    × (place ≡ nowhere)
+IsReadersEnd limits budget bytes ending count (end.Unopened name) = ⊥
+IsReadersEnd limits budget bytes ending count (end.Fault place verdict.Memory) =
+    (line : ℕ) × (place ≡ in_file line) × MemoryEnds limits bytes ending count line
+IsReadersEnd limits budget bytes ending count (end.Fault place v) =
+    report_behind limits budget (read limits bytes ending) count ≡ record { names = []; outcome = Stopped (count + 1) place v }
 IsReadersEnd limits budget bytes ending count end.Stopped = Unit {0}

@@ -1,5 +1,5 @@
 -- For callers: the jobs of a file: its commands, each over the commands before it (docs/board.md).
-use Rattle.std.specs.Prelude.{◌≡◌, ℕ, Bool, List, [], ◌∷◌, map}
+use Rattle.std.specs.Prelude.{◌≡◌, ℕ, Bool, List, [], ◌∷◌, map, None}
 use Rattle.dk_model.specs.Signatures.{PlainSignature}
 use Rattle.dk_model.specs.Scoping.{PlainCommand}
 use Rattle.dk_model.specs.Answering.{is_untyped}
@@ -7,6 +7,7 @@ use Rattle.dk_model.specs.Verdicts.{verdict_of}
 use Rattle.dk_model.specs.declared.code.Verdict.{Verdict}
 use Rattle.dk_parser.specs.Written.{WrittenCommand}
 use Rattle.scope_terms.specs.Scopes.{scoped, scope_of}
+use Rattle.board_core.specs.Places.{in_file}
 use Rattle.verdict_book.specs.declared.title.Title.{Title}
 use Rattle.file_report.specs.Outcomes.{Theory, shown_name, theory_after}
 
@@ -20,7 +21,7 @@ pub record Job : Type 0 where
 
 -- what a report names of it
 abbrev pub title_of : Job → Title
-title_of j = record { name = j.name; line = j.line }
+title_of j = record { name = j.name; place = in_file j.line }
 
 -- the titles of these jobs
 abbrev pub titles_of : {J : Type 0} → (J → Job) → List (J × Bool) → List Title
@@ -42,7 +43,7 @@ theory_over T budget (c ∷ cs) = theory_over (theory_after T budget c.form) bud
 -- the job is this command, over this theory
 pub record IsJobOf (budget : ℕ) (T : Theory) (c : WrittenCommand) (j : Job) : Type 0 where
   pub signature : j.signature ≡ T.signature
-  pub command : scope_of T.names c.form ≡ scoped j.command
+  pub command : scope_of T.names None c.form ≡ scoped j.command
   pub budget_is : j.budget ≡ budget
   pub name : j.name ≡ shown_name c.form
   pub line : j.line ≡ c.line

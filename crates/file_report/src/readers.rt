@@ -8,6 +8,7 @@ ghost use Rattle.dk_model.specs.declared.code.Verdict.TheVariants.{Refused};
 ghost use Rattle.dk_parser.specs.FileReading.{Reading, fault};
 ghost use Rattle.dk_parser.specs.Written.{WrittenCommand};
 ghost use Rattle.board_core.specs.Events.{is_accepted};
+ghost use Rattle.board_core.specs.Places.{in_file};
 ghost use Rattle.verdict_book.specs.declared.outcome.Outcome.TheVariants.{Stopped};
 ghost use Rattle.file_report.specs.Outcomes.{Theory, no_theory, theory_after, verdict_at};
 ghost use Rattle.file_report.specs.Ends.{report_behind};
@@ -44,7 +45,7 @@ pub fn next_is_refused()
         verdict_at limits budget (theory_over no_theory budget done) (length done) c.form ≡ v →
         is_accepted v ≡ false →
         report_behind limits budget reading (length done)
-        ≡ record { names = []; outcome = Stopped (length done + 1) c.line v } }
+        ≡ record { names = []; outcome = Stopped (length done + 1) (in_file c.line) v } }
 {}
 
 /// The bytes behind the last command are at fault.
@@ -52,5 +53,8 @@ pub fn tail_is_refused()
     ensures { (limits : Limits) (budget : ℕ) (reading : Reading) (line : ℕ) (code : Code) →
         reading.tail ≡ fault line code →
         report_behind limits budget reading (length reading.commands)
-        ≡ record { names = []; outcome = Stopped (length reading.commands + 1) line (Refused code) } }
+        ≡ record {
+          names = [];
+          outcome = Stopped (length reading.commands + 1) (in_file line) (Refused code);
+        } }
 {}

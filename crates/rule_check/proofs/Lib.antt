@@ -6,3 +6,6 @@ pub mod Sizes
 pub mod Walking
 pub mod Terms
 pub mod Continuing
+pub mod Solving
+pub mod Bound
+pub mod Noting

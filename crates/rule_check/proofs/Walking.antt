@@ -1,26 +1,29 @@
 -- A walk from one call of a reducer to the next, and along a spine.
-use Rattle.std.proofs.Common.{List, [], ◌∷◌, ◌++◌, ◌≡◌, ◌∙◌, ℕ, Option, None, map, ap, refl, sym as flip, subst}
+use Rattle.std.proofs.Common.{List, [], ◌∷◌, ◌++◌, ◌≡◌, ◌∙◌, ℕ, Option, Some, None, map, ap, refl, sym as flip, subst}
 use Rattle.std.specs.Prelude.{Result, replicate, zero, suc}
 use Rattle.dk_model.specs.Trees.{Tree, apply}
 use Rattle.dk_model.specs.Substitution.{substitute}
 use Rattle.dk_model.specs.Signatures.{Pattern, Patterns, more_patterns, pattern, maybe_by, PlainSignature}
+use Rattle.dk_model.specs.Captures.{capture_at}
+use Rattle.dk_model.specs.Bindings.{Bindings as PlainBindings, under}
 use Rattle.dk_model.specs.Typing.{Judged, answer, refused, ended, next, as_product}
-use Rattle.dk_model.specs.RuleTyping.{Found as PlainFound, Walked, as_expected, walked, spine_walked, all_types, type_or_kind, nothing_found}
+use Rattle.dk_model.specs.RuleTyping.{Found as PlainFound, Walked, as_expected, walked, spine_walked, types_under, type_or_kind, nothing_found}
 use Rattle.dk_model.specs.declared.code.Code.TheVariants.{E34}
 use Rattle.dk_model.specs.declared.signature.Pat.{Pat}
 use Rattle.dk_model.specs.declared.term.Term.{Term}
 use Rattle.dk_model.specs.declared.stop.TypeFault.{TypeFault}
-use Rattle.signature_log.specs.Reducers.{Keeps, AreOwned}
+use Rattle.signature_log.specs.Reducers.{Keeps, AreOwned, OwnsSome, OwnsSomes}
 use Rattle.infer_check.specs.Given.{Fails}
 use Rattle.infer_check.proofs.Contexts.{types_kept as values_kept}
 use Rattle.infer_check.proofs.Judging.{fails_next, fails_is, next_next}
 use Rattle.infer_check.proofs.Spines.{map_pushed}
 use Rattle.rule_check.specs.declared.found.Found.{Found}
-use Rattle.rule_check.specs.Founds.{types_of, guards_of, found_of, OwnsSome, OwnsTypes, OwnsGuards, OwnsFound}
+use Rattle.rule_check.specs.declared.found.Bindings.{Bindings}
+use Rattle.rule_check.specs.Founds.{types_of, terms_of, guards_of, found_of, OwnsGuards, OwnsBindings, OwnsFound}
 use Rattle.rule_check.specs.Steps.{argument_walked}
 use Rattle.rule_check.specs.Given.{GivesTerm}
-use Rattle.rule_check.proofs.Founds.{maybe_kept}
-use Rattle.rule_check.proofs.Moving.{moved_over, same_found}
+use Rattle.rule_check.proofs.Founds.{same_found, maybe_kept, terms_kept}
+use Rattle.rule_check.proofs.Moving.{moved_over}
 use Rattle.rule_check.proofs.Sizes.{plain_patterns}
 
 module _ (S : PlainSignature) where
@@ -55,7 +58,7 @@ module _ (S : PlainSignature) where
 
     spine_step : (t F : Tree) (p : Pattern) (ps : Patterns) (w : PlainFound) (n : ℕ)
         → spine_walked S G t F (more_patterns p ps) w n ≡ next (argument_walked S G t F p w n) (λ a m. spine_walked S G a.term a.typ ps a.found m)
-    spine_step t F p ps w n = walked_along (as_product S E34 F n) (λ q m. walked S G p q.0 w m) (λ q a. (let x : Walked = record { term = apply t a.term; typ = substitute 0 a.term q.1; found = a.found } in x))
+    spine_step t F p ps w n = walked_along (as_product S E34 (under w.bindings F) n) (λ q m. walked S G p q.0 w m) (λ q a. (let x : Walked = record { term = apply t a.term; typ = substitute 0 a.term q.1; found = a.found } in x))
         (λ a m. spine_walked S G a.term a.typ ps a.found m)
 
     pub spine_fails : (f : TypeFault) (spare : ℕ) (t F : Tree) (p : Pat Term) (rest others : List (Pat Term)) (w : PlainFound) (n : ℕ) → rest ≡ p ∷ others → Fails f spare (argument_walked S G t F (pattern p) w n)
@@ -68,12 +71,12 @@ module _ (S : PlainSignature) where
     spine_given t F p rest others w a n m e h = let P : List (Pat Term) → Type 0 = λ l. spine_walked S G a.term a.typ (plain_patterns others) a.found m ≡ spine_walked S G t F (plain_patterns l) w n in
         subst P (flip e) (flip (spine_step t F (pattern p) (plain_patterns others) w n ∙ ap (λ y. next y (λ b i. spine_walked S G b.term b.typ (plain_patterns others) b.found i)) h))
 
-    pub argument_fails : (f : TypeFault) (spare : ℕ) (t F A B : Tree) (p : Pattern) (w : PlainFound) (n m : ℕ) → as_product S E34 F n ≡ answer (A, B) m → Fails f spare (walked S G p A w m) → Fails f spare (argument_walked S G t F p w n)
+    pub argument_fails : (f : TypeFault) (spare : ℕ) (t F A B : Tree) (p : Pattern) (w : PlainFound) (n m : ℕ) → as_product S E34 (under w.bindings F) n ≡ answer (A, B) m → Fails f spare (walked S G p A w m) → Fails f spare (argument_walked S G t F p w n)
     argument_fails f spare t F A B p w n m e h =
         fails_is f spare _ _ (ap (λ y. next y (λ q j. next (walked S G p q.0 w j) (λ a i. answer (record { term = apply t a.term; typ = substitute 0 a.term q.1; found = a.found }) i))) e)
         (fails_next f spare (walked S G p A w m) _ h)
 
-    pub argument_given : (t F A B : Tree) (p : Pattern) (w : PlainFound) (a : Walked) (n m i : ℕ) → as_product S E34 F n ≡ answer (A, B) m → walked S G p A w m ≡ answer a i
+    pub argument_given : (t F A B : Tree) (p : Pattern) (w : PlainFound) (a : Walked) (n m i : ℕ) → as_product S E34 (under w.bindings F) n ≡ answer (A, B) m → walked S G p A w m ≡ answer a i
         → argument_walked S G t F p w n ≡ answer (record { term = apply t a.term; typ = substitute 0 a.term B; found = a.found }) i
     argument_given t F A B p w a n m i e h =
         ap (λ y. next y (λ q j. next (walked S G p q.0 w j) (λ b l. answer (record { term = apply t b.term; typ = substitute 0 b.term q.1; found = b.found }) l))) e
@@ -85,19 +88,22 @@ headed_same {t} {u} {F} {E} {w} {v} e f g = ap (λ (x : Tree). (let a : Walked =
 
 -- all types
 
-pub all_more : {R T : Type 0} {owns : R → T → Type 0} {denotes : R → T → Tree} (old at new : R) (os : List (Option T)) (done pushed : List T) (rest others : List (Option T)) (x : Option T) (y : T)
-    → Keeps owns denotes old at → Keeps owns denotes at new → AreOwned owns at done → OwnsTypes owns old rest → map (denotes at) done ++ all_types (types_of denotes old rest) ≡ all_types (types_of denotes old os)
-    → rest ≡ x ∷ others → denotes new y ≡ type_or_kind (maybe_by (denotes at) x) → pushed ≡ done ++ y ∷ []
-    → map (denotes new) pushed ++ all_types (types_of denotes old others) ≡ all_types (types_of denotes old os)
-all_more {R} {T} {owns} {denotes} old at new os done pushed rest others x y k l b d e f h q =
-    let o : OwnsSome owns old x × OwnsTypes owns old others = subst (OwnsTypes owns old) f d in
-    let p : denotes new y ≡ type_or_kind (maybe_by (denotes old) x) = h ∙ ap type_or_kind (maybe_kept old at k x o.0) in
-    let tail : List Tree = all_types (types_of denotes old others) in
+pub all_more : {R T : Type 0} {owns : R → T → Type 0} {denotes : R → T → Tree} (old at new : R) (w : Found T) → OwnsFound owns denotes old w → (done pushed : List T) (rest others : List (Option T)) (x : Option T) (y : T)
+    → Keeps owns denotes old at → Keeps owns denotes at new → AreOwned owns at done → OwnsSomes owns old rest
+    → map (denotes at) done ++ types_under (terms_of denotes old w.bindings) (types_of denotes old rest) ≡ types_under (terms_of denotes old w.bindings) (types_of denotes old w.types.items)
+    → rest ≡ x ∷ others → denotes new y ≡ under (terms_of denotes at w.bindings) (type_or_kind (maybe_by (denotes at) x)) → pushed ≡ done ++ y ∷ []
+    → map (denotes new) pushed ++ types_under (terms_of denotes old w.bindings) (types_of denotes old others) ≡ types_under (terms_of denotes old w.bindings) (types_of denotes old w.types.items)
+all_more {R} {T} {owns} {denotes} old at new w v done pushed rest others x y k l b d e f h q =
+    let s : PlainBindings = terms_of denotes old w.bindings in
+    let o : OwnsSome owns old x × OwnsSomes owns old others = subst (OwnsSomes owns old) f d in
+    let p : denotes new y ≡ under s (type_or_kind (maybe_by (denotes old) x)) = h ∙ ap (λ z. under z (type_or_kind (maybe_by (denotes at) x))) (terms_kept old at k w.bindings v.bindings)
+    ∙ ap (λ z. under s (type_or_kind z)) (maybe_kept old at k x o.0) in
+    let tail : List Tree = types_under s (types_of denotes old others) in
     ap (λ (zs : List T). map (denotes new) zs ++ tail) q
     ∙ ap (λ (zs : List Tree). zs ++ tail) (map_pushed (denotes new) done y ∙ ap (λ (zs : List Tree). zs ++ denotes new y ∷ []) (values_kept at new done l b))
     ∙ moved_over (map (denotes at) done) (denotes new y) tail
     ∙ ap (λ (z : Tree). map (denotes at) done ++ z ∷ tail) p
-    ∙ ap (λ (zs : List (Option T)). map (denotes at) done ++ all_types (types_of denotes old zs)) (flip f) ∙ e
+    ∙ ap (λ (zs : List (Option T)). map (denotes at) done ++ types_under s (types_of denotes old zs)) (flip f) ∙ e
 
 -- nothing found yet
 
@@ -105,12 +111,18 @@ none_types : {R T : Type 0} (denotes : R → T → Tree) (r : R) (n : ℕ) → t
 none_types denotes r zero = refl
 none_types denotes r (suc n) = ap (λ (os : List (Option Tree)). None ∷ os) (none_types denotes r n)
 
-none_types_owned : {R T : Type 0} (owns : R → T → Type 0) (r : R) (n : ℕ) → OwnsTypes owns r (replicate n None)
+none_types_owned : {R T : Type 0} (owns : R → T → Type 0) (r : R) (n : ℕ) → OwnsSomes owns r (replicate n None)
 none_types_owned owns r zero = tt
 none_types_owned owns r (suc n) = (tt, none_types_owned owns r n)
 
-pub nothing_owned : {R T : Type 0} (owns : R → T → Type 0) (r : R) (w : Found T) (n : ℕ) → w.types.items ≡ replicate n None → w.guards.items ≡ [] → OwnsFound owns r w
-nothing_owned owns r w n e f = record { types = subst (OwnsTypes owns r) (flip e) (none_types_owned owns r n); guards = subst (OwnsGuards owns r) (flip f) tt }
+no_bindings : {R T : Type 0} (owns : R → T → Type 0) (denotes : R → T → Tree) (r : R) (b : Bindings T) → b.terms.items ≡ [] → OwnsBindings owns denotes r b
+no_bindings owns denotes r b e = record {
+  own = subst (OwnsSomes owns r) (flip e) tt;
+  closed = λ k u q. let h : capture_at [] k ≡ Some u = ap (λ bs. capture_at (types_of denotes r bs) k) (flip e) ∙ q in cc;
+}
 
-pub nothing_is : {R T : Type 0} (denotes : R → T → Tree) (r : R) (w : Found T) (n : ℕ) → w.types.items ≡ replicate n None → w.guards.items ≡ [] → found_of denotes r w ≡ nothing_found n
-nothing_is denotes r w n e f = same_found (ap (types_of denotes r) e ∙ none_types denotes r n) (ap (guards_of denotes r) f)
+pub nothing_owned : {R T : Type 0} (owns : R → T → Type 0) (denotes : R → T → Tree) (r : R) (w : Found T) (n : ℕ) → w.types.items ≡ replicate n None → w.guards.items ≡ [] → w.bindings.terms.items ≡ [] → OwnsFound owns denotes r w
+nothing_owned owns denotes r w n e f g = record { types = subst (OwnsSomes owns r) (flip e) (none_types_owned owns r n); guards = subst (OwnsGuards owns r) (flip f) tt; bindings = no_bindings owns denotes r w.bindings g }
+
+pub nothing_is : {R T : Type 0} (denotes : R → T → Tree) (r : R) (w : Found T) (n : ℕ) → w.types.items ≡ replicate n None → w.guards.items ≡ [] → w.bindings.terms.items ≡ [] → found_of denotes r w ≡ nothing_found n
+nothing_is denotes r w n e f g = same_found (ap (types_of denotes r) e ∙ none_types denotes r n) (ap (guards_of denotes r) f) (ap (types_of denotes r) g)

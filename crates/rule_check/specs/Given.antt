@@ -3,17 +3,19 @@ use Rattle.std.specs.Prelude.{ℕ, ◌≡◌, Option, Some, None, Result, Ok, Er
 use Rattle.dk_model.specs.Trees.{Tree, apply}
 use Rattle.dk_model.specs.Typing.{Judged, answer}
 use Rattle.dk_model.specs.Substitution.{shift, substitute}
-use Rattle.dk_model.specs.RuleTyping.{Found as PlainFound, Walked, found_type}
+use Rattle.dk_model.specs.Bindings.{Bindings as PlainBindings}
+use Rattle.dk_model.specs.RuleTyping.{Found as PlainFound, Walked, Posed, found_type}
 use Rattle.dk_model.specs.declared.stop.TypeFault.{TypeFault}
 use Rattle.infer_check.specs.declared.context.Context.{Context}
 use Rattle.signature_log.specs.Reducers.{AreOwned}
 use Rattle.infer_check.specs.Contexts.{innermost_first, bound_types}
 use Rattle.infer_check.specs.Given.{Fails}
 use Rattle.rule_check.specs.declared.found.Found.{Found}
+use Rattle.rule_check.specs.declared.found.Bindings.{Bindings}
 use Rattle.rule_check.specs.declared.found.Guard.{Guard}
 use Rattle.rule_check.specs.declared.found.Headed.{Headed}
 use Rattle.rule_check.specs.declared.found.Left.{Left}
-use Rattle.rule_check.specs.Founds.{types_of, found_of, OwnsGuard, OwnsFound}
+use Rattle.rule_check.specs.Founds.{types_of, terms_of, found_of, OwnsGuard, OwnsBindings, OwnsFound}
 
 -- a head whose term and type are the reducer's
 pub record OwnsHeaded {R T : Type 0} (owns : R → T → Type 0) (r : R) (h : Headed T) : Type 0 where
@@ -23,24 +25,34 @@ pub record OwnsHeaded {R T : Type 0} (owns : R → T → Type 0) (r : R) (h : He
 module _ {R T : Type 0} (owns : R → T → Type 0) (denotes : R → T → Tree) where
   -- the term of a pattern against the type A, with what is found then and the units left
   abbrev pub GivesTerm : Tree → Judged Walked → R → Found T → Result T TypeFault → ℕ → Type 0
-  GivesTerm A due r w (Ok t) left = (due ≡ answer (record { term = denotes r t; typ = A; found = found_of denotes r w }) left) × owns r t × OwnsFound owns r w
+  GivesTerm A due r w (Ok t) left = (due ≡ answer (record { term = denotes r t; typ = A; found = found_of denotes r w }) left) × owns r t × OwnsFound owns denotes r w
   GivesTerm A due r w (Err fault) left = Fails fault left due
 
   -- a term and its type, with what is found then and the units left
   abbrev pub GivesHeaded : Judged Walked → R → Found T → Result (Headed T) TypeFault → ℕ → Type 0
   GivesHeaded due r w (Ok h) left =
-      (due ≡ answer (record { term = denotes r h.term; typ = denotes r h.typ; found = found_of denotes r w }) left) × owns r h.term × owns r h.typ × OwnsFound owns r w
+      (due ≡ answer (record { term = denotes r h.term; typ = denotes r h.typ; found = found_of denotes r w }) left) × owns r h.term × owns r h.typ × OwnsFound owns denotes r w
   GivesHeaded due r w (Err fault) left = Fails fault left due
 
   -- what is found then, with the units left
   abbrev pub GivesFound : Judged PlainFound → R → Found T → Result Unit TypeFault → ℕ → Type 0
-  GivesFound due r w (Ok u) left = (due ≡ answer (found_of denotes r w) left) × OwnsFound owns r w
+  GivesFound due r w (Ok u) left = (due ≡ answer (found_of denotes r w) left) × OwnsFound owns denotes r w
   GivesFound due r w (Err fault) left = Fails fault left due
+
+  -- what rule variables are bound to then, with the units left
+  abbrev pub GivesBindings : Judged PlainBindings → R → Bindings T → Result Unit TypeFault → ℕ → Type 0
+  GivesBindings due r b (Ok u) left = (due ≡ answer (terms_of denotes r b) left) × OwnsBindings owns denotes r b
+  GivesBindings due r b (Err fault) left = Fails fault left due
+
+  -- a type, and what rule variables are bound to then, with the units left
+  abbrev pub GivesPosed : Judged Posed → R → Bindings T → Result T TypeFault → ℕ → Type 0
+  GivesPosed due r b (Ok t) left = (due ≡ answer (record { typ = denotes r t; bindings = terms_of denotes r b }) left) × owns r t × OwnsBindings owns denotes r b
+  GivesPosed due r b (Err fault) left = Fails fault left due
 
   -- a left side, with the units left
   abbrev pub GivesLeft : Judged Walked → R → Result (Left T) TypeFault → ℕ → Type 0
   GivesLeft due r (Ok l) left =
-      (t : Tree) × (due ≡ answer (record { term = t; typ = denotes r l.typ; found = found_of denotes r l.found }) left) × owns r l.typ × OwnsFound owns r l.found
+      (t : Tree) × (due ≡ answer (record { term = t; typ = denotes r l.typ; found = found_of denotes r l.found }) left) × owns r l.typ × OwnsFound owns denotes r l.found
   GivesLeft due r (Err fault) left = Fails fault left due
 
   -- a head and its type

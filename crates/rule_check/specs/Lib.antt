@@ -1,4 +1,6 @@
 pub mod Founds
+pub mod Bindings
+pub mod Equations
 pub mod Steps
 pub mod Given
 pub mod Clauses

@@ -25,6 +25,13 @@ pub struct Guard<T> {
 pub struct Found<T> {
     pub types: Vec<Option<T>>,
     pub guards: Vec<Guard<T>>,
+    pub bindings: Bindings<T>,
+}
+
+/// What rule variables are bound to by the equations so far, each at the place of its number.
+#[derive(Drop)]
+pub struct Bindings<T> {
+    pub terms: Vec<Option<T>>,
 }
 
 /// What the walk of a left side changes: the variables that are bound at its place, the units, and what it finds.
@@ -53,6 +60,7 @@ impl<T: Drop> Found<T> {
     pub fn new(alloc: Global, vars: u32) -> Result<Found<T>, NoMemory>
         ensures types { IfOk result (λ w. w.types.items ≡ replicate vars None) }
         ensures guards { IfOk result (λ w. w.guards.items ≡ []) }
+        ensures bindings { IfOk result (λ w. w.bindings.terms.items ≡ []) }
     {
         let mut types = Vec::new(alloc);
         for _ in 0..vars {
@@ -61,6 +69,9 @@ impl<T: Drop> Found<T> {
         Ok(Found {
             types,
             guards: Vec::new(alloc),
+            bindings: Bindings {
+                terms: Vec::new(alloc),
+            },
         })
     }
 
@@ -78,6 +89,7 @@ impl<T: Drop> Found<T> {
     pub fn set(&mut self, variable: u32, typ: T)
         ensures types { self.new.types.items ≡ slice_set self.old.types.items variable (Some typ) }
         ensures guards { self.new.guards.items ≡ self.old.guards.items }
+        ensures bindings { self.new.bindings ≡ self.old.bindings }
     {
         let at = variable as usize;
         if at < self.types.len() {
@@ -90,6 +102,7 @@ impl<T: Drop> Found<T> {
         ensures number { IfOk result (λ k. k ≡ length self.old.types.items) }
         ensures types { OnOk result (self.new.types.items ≡ self.old.types.items ++ Some typ ∷ []) }
         ensures guards { OnOk result (self.new.guards.items ≡ self.old.guards.items) }
+        ensures bindings { OnOk result (self.new.bindings ≡ self.old.bindings) }
     {
         match u32::try_from(self.types.len()) {
             Ok(number) => {
@@ -104,6 +117,7 @@ impl<T: Drop> Found<T> {
     pub fn push_guard(&mut self, guard: Guard<T>) -> Result<(), NoMemory>
         ensures types { OnOk result (self.new.types.items ≡ self.old.types.items) }
         ensures guards { OnOk result (self.new.guards.items ≡ self.old.guards.items ++ guard ∷ []) }
+        ensures bindings { OnOk result (self.new.bindings ≡ self.old.bindings) }
     {
         self.guards.push(guard)?;
         Ok(())

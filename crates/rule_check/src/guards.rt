@@ -8,11 +8,12 @@ ghost use Rattle.signature_log.specs.Versions.{entries_of};
 ghost use Rattle.signature_log.specs.Reducers.{Keeps, Makes, AreOwned};
 ghost use Rattle.infer_check.specs.Contexts.{OwnsContext};
 ghost use Rattle.infer_check.specs.Walks.{Follows};
-ghost use Rattle.rule_check.specs.Founds.{OwnsGuard, OwnsGuards};
+ghost use Rattle.rule_check.specs.Founds.{OwnsBindings, OwnsGuard, OwnsFound, AreTypesUnder, IsGuardUnder};
 ghost use Rattle.rule_check.specs.Given.{IsCopied, IsGuardAt, GivesTypes};
 ghost use Rattle.rule_check.specs.Clauses.{guard_due, guards_due};
 
-use crate::found::Guard;
+use crate::bindings::copy_under;
+use crate::found::{Bindings, Found, Guard};
 use dk_model::{Listed, NoMemory, Term, TypeFault};
 use infer_check::{Context, Walk, check};
 use signature_log::{Reducer, Version};
@@ -48,6 +49,49 @@ fn copies<R: Reducer>(r: &mut R, types: &[R::T]) -> Result<Listed<R::T>, NoMemor
     Ok(copies)
 }
 
+/// These types under the bindings.
+#[tactic(auto, using(signature_log::proofs::Keeping::keeps_none))]
+fn types_under<R: Reducer>(
+    r: &mut R,
+    bindings: &Bindings<R::T>,
+    types: &[R::T],
+) -> Result<Listed<R::T>, NoMemory>
+    requires types { AreOwned R.owns r.old types.now }
+    requires bindings { OwnsBindings R.owns R.denotes r.old bindings.now }
+    ensures under { IfOk result
+        (AreTypesUnder R.owns R.denotes r.old bindings.now types.now r.new) }
+    ensures keeps { Keeps R.owns R.denotes r.old r.new }
+    ensures serves { (S : PlainSignature) → R.serves S r.old → R.serves S r.new }
+{
+    let mut all = Listed::new(r.alloc());
+    let mut rest = types;
+    while let Some((first, others)) = rest.split_first() {
+        let typ = copy_under(r, bindings, first)?;
+        all.push(typ)?;
+        rest = others;
+    }
+    Ok(all)
+}
+
+/// A guard under the bindings.
+fn guard_under<R: Reducer>(
+    r: &mut R,
+    bindings: &Bindings<R::T>,
+    guard: &Guard<R::T>,
+) -> Result<Guard<R::T>, NoMemory>
+    requires guard { OwnsGuard R.owns r.old guard.now }
+    requires bindings { OwnsBindings R.owns R.denotes r.old bindings.now }
+    ensures under { IfOk result
+        (IsGuardUnder R.owns R.denotes r.old bindings.now guard.now r.new) }
+    ensures keeps { Keeps R.owns R.denotes r.old r.new }
+    ensures serves { (S : PlainSignature) → R.serves S r.old → R.serves S r.new }
+{
+    let bound = types_under(r, bindings, guard.bound.as_slice())?;
+    let term = copy_under(r, bindings, &guard.term)?;
+    let typ = copy_under(r, bindings, &guard.typ)?;
+    Ok(Guard { bound, term, typ })
+}
+
 /// The guard of this term at a place.
 pub(crate) fn guard_at<R: Reducer>(
     r: &mut R,
@@ -75,19 +119,19 @@ fn check_guard<R: Reducer>(
     r: &mut R,
     version: &Version,
     types: Listed<R::T>,
-    guard: &Guard<R::T>,
+    guard: Guard<R::T>,
     left: &mut u64,
 ) -> Result<Listed<R::T>, TypeFault>
     requires types { AreOwned R.owns r.old types }
-    requires guard { OwnsGuard R.owns r.old guard.now }
+    requires guard { OwnsGuard R.owns r.old guard }
     requires serves { R.serves (entries_of version.now) r.old }
     ensures gives { GivesTypes types
-        (guard_due R.denotes (entries_of version.now) r.old types guard.now left.old)
+        (guard_due R.denotes (entries_of version.now) r.old types guard left.old)
         result left.new }
     ensures follows { Follows R.owns R.denotes R.serves (entries_of version.now) r.old r.new }
     ensures spent { left.new ≤ left.old }
 {
-    let bound = copies(r, guard.bound.as_slice())?;
+    let Guard { bound, term, typ } = guard;
     let context = Context {
         rule_vars: types,
         bound,
@@ -96,33 +140,34 @@ fn check_guard<R: Reducer>(
         context,
         left: *left,
     };
-    let fits = check(r, version, &mut walk, &guard.term, &guard.typ);
+    let fits = check(r, version, &mut walk, &term, &typ);
     *left = walk.left;
     fits?;
     Ok(walk.context.rule_vars)
 }
 
-/// The same for each guard, from left to right.
+/// The same for each guard under the bindings, from left to right, where the rule variables have these types.
 #[tactic(auto, using(signature_log::proofs::Keeping::keeps_none, signature_log::proofs::Keeping::keeps_further, infer_check::proofs::Walks::follows))]
 pub(crate) fn check_guards<R: Reducer>(
     r: &mut R,
     version: &Version,
     types: Listed<R::T>,
-    guards: &[Guard<R::T>],
+    found: &Found<R::T>,
     left: &mut u64,
 ) -> Result<Listed<R::T>, TypeFault>
     requires types { AreOwned R.owns r.old types }
-    requires guards { OwnsGuards R.owns r.old guards.now }
+    requires found { OwnsFound R.owns R.denotes r.old found.now }
     requires serves { R.serves (entries_of version.now) r.old }
     ensures gives { GivesTypes types
-        (guards_due R.denotes (entries_of version.now) r.old types guards.now left.old)
+        (guards_due R.denotes (entries_of version.now) r.old types found.now left.old)
         result left.new }
     ensures follows { Follows R.owns R.denotes R.serves (entries_of version.now) r.old r.new }
     ensures spent { left.new ≤ left.old }
 {
     let mut types = types;
-    let mut rest = guards;
+    let mut rest = found.guards.as_slice();
     while let Some((guard, others)) = rest.split_first() {
+        let guard = guard_under(r, &found.bindings, guard)?;
         types = check_guard(r, version, types, guard, left)?;
         rest = others;
     }

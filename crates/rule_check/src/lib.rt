@@ -3,7 +3,9 @@
 //! The meaning is `rule_checked` of dk_model (docs/typing.md). Begin at `check_rule`.
 #![tactic(auto)]
 
+mod bindings;
 mod compare;
+mod equation;
 mod found;
 mod guards;
 mod occurrence;
@@ -11,4 +13,5 @@ mod sides;
 mod variables;
 mod walk;
 
+pub use equation::is_definable;
 pub use sides::check_rule;

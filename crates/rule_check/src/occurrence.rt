@@ -1,29 +1,38 @@
 //! A rule variable applied to variables: its type by its first occurrence, and the type of a later one.
-ghost use Rattle.std.specs.Prelude.{◌≡◌, IfOk, map, []};
+ghost use Rattle.std.specs.Prelude.{◌≡◌, IfOk, map};
 ghost use Rattle.dk_model.specs.Trees.{variable};
 ghost use Rattle.dk_model.specs.Substitution.{substitute};
 ghost use Rattle.dk_model.specs.Spines.{applied};
 ghost use Rattle.dk_model.specs.Signatures.{PlainSignature};
-ghost use Rattle.dk_model.specs.Typing.{variable_type};
-ghost use Rattle.dk_model.specs.RuleTyping.{as_convertible, occurrence, outermost_first};
+ghost use Rattle.dk_model.specs.RuleTyping.{occurrence, outermost_first};
 ghost use Rattle.signature_log.specs.Versions.{entries_of};
 ghost use Rattle.signature_log.specs.Reducers.{Keeps, Makes};
-ghost use Rattle.infer_check.specs.Contexts.{bound_types};
-ghost use Rattle.infer_check.specs.Given.{GivesFit};
 ghost use Rattle.infer_check.specs.Walks.{IsReady, Continues};
-ghost use Rattle.rule_check.specs.Clauses.{Binds, GivesFirst, GivesStep, GivesLater};
+ghost use Rattle.rule_check.specs.Founds.{OwnsBindings, IsRebound};
+ghost use Rattle.rule_check.specs.Clauses.{BindsArgument, GivesProductOf, GivesFirst, FitsVariable, GivesStep, GivesLater};
 
-use crate::compare::{as_convertible, bound_type};
-use dk_model::{Code, Listed, NoMemory, NodeOf, TypeFault};
-use infer_check::{Walk, into_product, variable_type};
+use crate::bindings::{copy_under, into_product_under, under};
+use crate::compare::bound_type;
+use crate::equation::expect;
+use crate::found::{Bindings, LeftWalk};
+use dk_model::{Listed, NoMemory, NodeOf, TypeFault};
+use infer_check::{Walk, variable_type};
 use signature_log::{Reducer, Version};
 use std::alloc::Global;
 
-/// The arguments of a rule variable: those whose types stand in front already, and the others.
+/// The arguments of a rule variable that stands first, and the bindings under which all types are taken.
 #[derive(Drop)]
-struct Arguments<'a> {
+pub(crate) struct First<'a, T> {
+    pub(crate) arguments: &'a [u32],
+    pub(crate) bindings: &'a Bindings<T>,
+}
+
+/// The same: the arguments whose types stand in front already, and the others.
+#[derive(Drop)]
+struct Arguments<'a, T> {
     before: Listed<u32>,
     rest: &'a [u32],
+    bindings: &'a Bindings<T>,
 }
 
 /// The type of a rule variable that stands first with these arguments, where a type is expected.
@@ -33,26 +42,32 @@ struct Arguments<'a> {
 /// ----------------------------------------------------------------------------------------------------------
 /// k x1 .. xn stands first against A: k : x1 : A1 -> .. -> xn : An -> A
 /// ```
-#[tactic(auto, using(crate::proofs::Moving::first_moved, infer_check::proofs::Contexts::context_kept, signature_log::proofs::Keeping::keeps_further, infer_check::proofs::Walks::continues, infer_check::proofs::Walks::ready))]
+#[tactic(auto, using(infer_check::proofs::Contexts::context_kept, signature_log::proofs::Keeping::keeps_further, infer_check::proofs::Walks::continues, infer_check::proofs::Walks::ready))]
 pub(crate) fn first_type<R: Reducer>(
     r: &mut R,
     version: &Version,
     walk: &mut Walk<R::T>,
-    arguments: &[u32],
+    first: First<R::T>,
     expected: &R::T,
 ) -> Result<R::T, TypeFault>
     requires expected { R.owns r.old expected.now }
+    requires bindings { OwnsBindings R.owns R.denotes r.old first.bindings.now }
     requires ready { IsReady R.owns R.serves (entries_of version.now) r.old walk.old }
-    ensures gives { GivesFirst R.owns R.denotes (entries_of version.now) r.old walk.old.context []
-        arguments.now
+    ensures gives { GivesFirst R.owns R.denotes (entries_of version.now) r.old walk.old.context
+        first.entry.bindings.now first.entry.arguments.now
         (R.denotes r.old expected.now) walk.old.left r.new result walk.new.left }
     ensures continues { Continues R.owns R.denotes R.serves (entries_of version.now)
         r.old walk.old r.new walk.new }
 {
-    let expected = r.copy(expected)?;
+    let First {
+        arguments,
+        bindings,
+    } = first;
+    let expected = copy_under(r, bindings, expected)?;
     let arguments = Arguments {
         before: Listed::new(r.alloc()),
         rest: arguments,
+        bindings,
     };
     product_of(r, version, walk, arguments, expected)
 }
@@ -63,32 +78,51 @@ fn product_of<R: Reducer>(
     r: &mut R,
     version: &Version,
     walk: &mut Walk<R::T>,
-    arguments: Arguments,
+    arguments: Arguments<R::T>,
     expected: R::T,
 ) -> Result<R::T, TypeFault>
     requires expected { R.owns r.old expected }
+    requires bindings { OwnsBindings R.owns R.denotes r.old arguments.bindings.now }
     requires ready { IsReady R.owns R.serves (entries_of version.now) r.old walk.old }
-    ensures gives { GivesFirst R.owns R.denotes (entries_of version.now) r.old walk.old.context
-        arguments.entry.before arguments.entry.rest.now
+    ensures gives { GivesProductOf R.owns R.denotes (entries_of version.now) r.old walk.old.context
+        arguments.entry.bindings.now arguments.entry.before arguments.entry.rest.now
         (R.denotes r.old expected) walk.old.left r.new result walk.new.left }
     ensures continues { Continues R.owns R.denotes R.serves (entries_of version.now)
         r.old walk.old r.new walk.new }
 {
-    let Arguments { before, rest } = arguments;
+    let Arguments {
+        before,
+        rest,
+        bindings,
+    } = arguments;
     match rest.split_first() {
         None => bound_type(r, version, walk, before.as_slice(), expected),
         Some((first, others)) => {
-            let domain = argument_type(r, version, walk, before.as_slice(), *first)?;
+            let argument = Argument {
+                before: before.as_slice(),
+                number: *first,
+                bindings,
+            };
+            let domain = argument_type(r, version, walk, argument)?;
             let mut before = before;
             before.push(*first)?;
             let arguments = Arguments {
                 before,
                 rest: others,
+                bindings,
             };
             let codomain = product_of(r, version, walk, arguments, expected)?;
             Ok(r.build(NodeOf::Prod(domain, codomain))?)
         }
     }
+}
+
+/// An argument behind those before it, and the bindings.
+#[derive(Drop)]
+struct Argument<'a, T> {
+    before: &'a [u32],
+    number: u32,
+    bindings: &'a Bindings<T>,
 }
 
 /// The type of an argument over the arguments before it.
@@ -97,19 +131,19 @@ fn argument_type<R: Reducer>(
     r: &mut R,
     version: &Version,
     walk: &mut Walk<R::T>,
-    before: &[u32],
-    argument: u32,
+    argument: Argument<R::T>,
 ) -> Result<R::T, TypeFault>
+    requires bindings { OwnsBindings R.owns R.denotes r.old argument.bindings.now }
     requires ready { IsReady R.owns R.serves (entries_of version.now) r.old walk.old }
-    ensures gives { Binds R.owns R.denotes (entries_of version.now) r.old walk.old.context
-        before.now
-        (variable_type (bound_types R.denotes r.old walk.old.context) argument)
+    ensures gives { BindsArgument R.owns R.denotes (entries_of version.now) r.old walk.old.context
+        argument.entry.bindings.now argument.entry.before.now argument.entry.number
         walk.old.left r.new result walk.new.left }
     ensures continues { Continues R.owns R.denotes R.serves (entries_of version.now)
         r.old walk.old r.new walk.new }
 {
-    let typ = variable_type(r, &walk.context, u64::from(argument))?;
-    bound_type(r, version, walk, before, typ)
+    let typ = variable_type(r, &walk.context, u64::from(argument.number))?;
+    let typ = under(r, argument.bindings, typ)?;
+    bound_type(r, version, walk, argument.before, typ)
 }
 
 /// The type of a term of this type applied to these variables.
@@ -117,22 +151,25 @@ fn argument_type<R: Reducer>(
 pub(crate) fn later_type<R: Reducer>(
     r: &mut R,
     version: &Version,
-    walk: &mut Walk<R::T>,
+    side: &mut LeftWalk<R::T>,
     arguments: &[u32],
     typ: R::T,
 ) -> Result<R::T, TypeFault>
     requires typ { R.owns r.old typ }
-    requires ready { IsReady R.owns R.serves (entries_of version.now) r.old walk.old }
-    ensures gives { GivesLater R.owns R.denotes (entries_of version.now) r.old walk.old.context
-        arguments.now
-        (R.denotes r.old typ) walk.old.left r.new result walk.new.left }
+    requires bindings { OwnsBindings R.owns R.denotes r.old side.old.found.bindings }
+    requires ready { IsReady R.owns R.serves (entries_of version.now) r.old side.old.walk }
+    ensures gives { GivesLater R.owns R.denotes (entries_of version.now) r.old
+        side.old.walk.context side.old.found.bindings arguments.now
+        (R.denotes r.old typ) side.old.walk.left r.new side.new.found.bindings result
+        side.new.walk.left }
+    ensures rebound { IsRebound side.old.found side.new.found }
     ensures continues { Continues R.owns R.denotes R.serves (entries_of version.now)
-        r.old walk.old r.new walk.new }
+        r.old side.old.walk r.new side.new.walk }
 {
     let mut typ = typ;
     let mut rest = arguments;
     while let Some((first, others)) = rest.split_first() {
-        typ = applied_type(r, version, walk, *first, typ)?;
+        typ = applied_type(r, version, side, *first, typ)?;
         rest = others;
     }
     Ok(typ)
@@ -141,50 +178,56 @@ pub(crate) fn later_type<R: Reducer>(
 /// The type of a term of this type applied to a variable.
 ///
 /// ```text
-/// F has the weak head form x : A -> B    the type of y is convertible with A
-/// --------------------------------------------------------------------------
+/// F has the weak head form x : A -> B    the equation of the type of y and A is solved
+/// ------------------------------------------------------------------------------------
 /// t y : B with y in the place of x, where t : F
 /// ```
 #[tactic(auto, using(infer_check::proofs::Contexts::context_kept, signature_log::proofs::Keeping::keeps_further, infer_check::proofs::Walks::continues, infer_check::proofs::Walks::ready))]
 fn applied_type<R: Reducer>(
     r: &mut R,
     version: &Version,
-    walk: &mut Walk<R::T>,
+    side: &mut LeftWalk<R::T>,
     variable: u32,
     typ: R::T,
 ) -> Result<R::T, TypeFault>
     requires typ { R.owns r.old typ }
-    requires ready { IsReady R.owns R.serves (entries_of version.now) r.old walk.old }
-    ensures gives { GivesStep R.owns R.denotes (entries_of version.now) r.old walk.old.context
-        variable
-        (R.denotes r.old typ) walk.old.left r.new result walk.new.left }
+    requires bindings { OwnsBindings R.owns R.denotes r.old side.old.found.bindings }
+    requires ready { IsReady R.owns R.serves (entries_of version.now) r.old side.old.walk }
+    ensures gives { GivesStep R.owns R.denotes (entries_of version.now) r.old
+        side.old.walk.context side.old.found.bindings variable
+        (R.denotes r.old typ) side.old.walk.left r.new side.new.found.bindings result
+        side.new.walk.left }
+    ensures rebound { IsRebound side.old.found side.new.found }
     ensures continues { Continues R.owns R.denotes R.serves (entries_of version.now)
-        r.old walk.old r.new walk.new }
+        r.old side.old.walk r.new side.new.walk }
 {
-    let function = into_product(r, version, Code::E34, typ, &mut walk.left)?;
-    fit_variable(r, version, walk, variable, &function.domain)?;
+    let function = into_product_under(r, version, &side.found.bindings, typ, &mut side.walk.left)?;
+    fit_variable(r, version, side, variable, &function.domain)?;
     Ok(put_variable(r, &function.codomain, variable)?)
 }
 
-/// That the type of a variable is convertible with a domain.
+/// Solves the equation of the type of a variable and a domain.
 #[tactic(auto, using(infer_check::proofs::Contexts::bound_types_kept, signature_log::proofs::Keeping::keeps_further, infer_check::proofs::Walks::continues, infer_check::proofs::Walks::ready))]
 fn fit_variable<R: Reducer>(
     r: &mut R,
     version: &Version,
-    walk: &mut Walk<R::T>,
+    side: &mut LeftWalk<R::T>,
     variable: u32,
     domain: &R::T,
 ) -> Result<(), TypeFault>
     requires domain { R.owns r.old domain.now }
-    requires ready { IsReady R.owns R.serves (entries_of version.now) r.old walk.old }
-    ensures gives { GivesFit (as_convertible (entries_of version.now)
-        (variable_type (bound_types R.denotes r.old walk.old.context) variable)
-        (R.denotes r.old domain.now) walk.old.left) result walk.new.left }
+    requires bindings { OwnsBindings R.owns R.denotes r.old side.old.found.bindings }
+    requires ready { IsReady R.owns R.serves (entries_of version.now) r.old side.old.walk }
+    ensures gives { FitsVariable R.owns R.denotes (entries_of version.now) r.old
+        side.old.walk.context side.old.found.bindings variable
+        (R.denotes r.old domain.now) side.old.walk.left r.new side.new.found.bindings result
+        side.new.walk.left }
+    ensures rebound { IsRebound side.old.found side.new.found }
     ensures continues { Continues R.owns R.denotes R.serves (entries_of version.now)
-        r.old walk.old r.new walk.new }
+        r.old side.old.walk r.new side.new.walk }
 {
-    let typ = variable_type(r, &walk.context, u64::from(variable))?;
-    as_convertible(r, version, &typ, domain, &mut walk.left)
+    let typ = variable_type(r, &side.walk.context, u64::from(variable))?;
+    expect(r, version, side, typ, domain)
 }
 
 /// Puts a variable in the place of variable 0.

@@ -3,17 +3,15 @@ ghost use Rattle.std.specs.Prelude.{◌≡◌, IfOk, length};
 ghost use Rattle.dk_model.specs.Signatures.{PlainSignature};
 ghost use Rattle.signature_log.specs.Versions.{entries_of};
 ghost use Rattle.signature_log.specs.Reducers.{Keeps};
-ghost use Rattle.infer_check.specs.Given.{GivesFit};
 ghost use Rattle.infer_check.specs.Walks.{IsReady, Continues};
-ghost use Rattle.rule_check.specs.Founds.{OwnsFound};
-ghost use Rattle.rule_check.specs.Given.{IsKnown};
+ghost use Rattle.rule_check.specs.Founds.{OwnsBindings, OwnsFound, IsRebound};
+ghost use Rattle.rule_check.specs.Given.{IsKnown, GivesBindings};
 ghost use Rattle.rule_check.specs.Clauses.{later_due, Meets, MeetsFirst, WalksVariable, WalksWildcard};
 
-use crate::compare::as_convertible;
+use crate::equation::expect;
 use crate::found::LeftWalk;
-use crate::occurrence::{first_type, later_type, occurrence, outermost_first};
+use crate::occurrence::{First, first_type, later_type, occurrence, outermost_first};
 use dk_model::{NoMemory, TypeFault};
-use infer_check::Walk;
 use signature_log::{Reducer, Version};
 
 /// A rule variable applied to variables.
@@ -40,7 +38,7 @@ pub(crate) fn walk_variable<R: Reducer>(
     expected: &R::T,
 ) -> Result<R::T, TypeFault>
     requires expected { R.owns r.old expected.now }
-    requires found { OwnsFound R.owns r.old side.old.found }
+    requires found { OwnsFound R.owns R.denotes r.old side.old.found }
     requires ready { IsReady R.owns R.serves (entries_of version.now) r.old side.old.walk }
     ensures gives { WalksVariable R.owns R.denotes (entries_of version.now) r.old
         side.old.walk.context
@@ -63,7 +61,7 @@ fn meet_variable<R: Reducer>(
     expected: &R::T,
 ) -> Result<(), TypeFault>
     requires expected { R.owns r.old expected.now }
-    requires found { OwnsFound R.owns r.old side.old.found }
+    requires found { OwnsFound R.owns R.denotes r.old side.old.found }
     requires ready { IsReady R.owns R.serves (entries_of version.now) r.old side.old.walk }
     ensures gives { Meets R.owns R.denotes (entries_of version.now) r.old side.old.walk.context
         side.old.found variable.now.number variable.now.arguments.now (R.denotes r.old expected.now)
@@ -78,7 +76,7 @@ fn meet_variable<R: Reducer>(
                 typ,
                 arguments: variable.arguments,
             };
-            fit_later(r, version, &mut side.walk, met, expected)
+            fit_later(r, version, side, met, expected)
         }
     }
 }
@@ -89,7 +87,7 @@ fn known_type<R: Reducer>(
     side: &LeftWalk<R::T>,
     number: u32,
 ) -> Result<Option<R::T>, NoMemory>
-    requires { OwnsFound R.owns r.old side.now.found }
+    requires { OwnsFound R.owns R.denotes r.old side.now.found }
     ensures known { IfOk result
         (IsKnown R.owns R.denotes r.old side.now.found number
         (length side.now.walk.context.bound) r.new) }
@@ -112,7 +110,7 @@ fn meet_first<R: Reducer>(
     expected: &R::T,
 ) -> Result<(), TypeFault>
     requires expected { R.owns r.old expected.now }
-    requires found { OwnsFound R.owns r.old side.old.found }
+    requires found { OwnsFound R.owns R.denotes r.old side.old.found }
     requires ready { IsReady R.owns R.serves (entries_of version.now) r.old side.old.walk }
     ensures gives { MeetsFirst R.owns R.denotes (entries_of version.now) r.old side.old.walk.context
         side.old.found variable.now.number variable.now.arguments.now (R.denotes r.old expected.now)
@@ -120,32 +118,41 @@ fn meet_first<R: Reducer>(
     ensures continues { Continues R.owns R.denotes R.serves (entries_of version.now)
         r.old side.old.walk r.new side.new.walk }
 {
-    let typ = first_type(r, version, &mut side.walk, variable.arguments, expected)?;
+    let first = First {
+        arguments: variable.arguments,
+        bindings: &side.found.bindings,
+    };
+    let typ = first_type(r, version, &mut side.walk, first, expected)?;
     side.found.set(variable.number, typ);
     Ok(())
 }
 
-/// That a later occurrence of a rule variable, whose type stands as at this place, has the expected type.
+/// Solves the equation of the type of a later occurrence of a rule variable, whose type stands as at this place, and the
+/// expected type.
 #[tactic(auto, using(infer_check::proofs::Contexts::context_kept, signature_log::proofs::Keeping::keeps_further, infer_check::proofs::Walks::continues, infer_check::proofs::Walks::ready))]
 fn fit_later<R: Reducer>(
     r: &mut R,
     version: &Version,
-    walk: &mut Walk<R::T>,
+    side: &mut LeftWalk<R::T>,
     met: Met<R::T>,
     expected: &R::T,
 ) -> Result<(), TypeFault>
     requires typ { R.owns r.old met.typ }
     requires expected { R.owns r.old expected.now }
-    requires ready { IsReady R.owns R.serves (entries_of version.now) r.old walk.old }
-    ensures gives { GivesFit (later_due R.denotes (entries_of version.now) r.old
-        walk.old.context met.entry.arguments.now (R.denotes r.old met.entry.typ)
-        (R.denotes r.old expected.now) walk.old.left) result walk.new.left }
+    requires bindings { OwnsBindings R.owns R.denotes r.old side.old.found.bindings }
+    requires ready { IsReady R.owns R.serves (entries_of version.now) r.old side.old.walk }
+    ensures gives { GivesBindings R.owns R.denotes (later_due R.denotes (entries_of version.now)
+        r.old side.old.walk.context side.old.found.bindings met.entry.arguments.now
+        (R.denotes r.old met.entry.typ)
+        (R.denotes r.old expected.now) side.old.walk.left) r.new side.new.found.bindings
+        result side.new.walk.left }
+    ensures rebound { IsRebound side.old.found side.new.found }
     ensures continues { Continues R.owns R.denotes R.serves (entries_of version.now)
-        r.old walk.old r.new walk.new }
+        r.old side.old.walk r.new side.new.walk }
 {
     let Met { typ, arguments } = met;
-    let typ = later_type(r, version, walk, arguments, typ)?;
-    as_convertible(r, version, &typ, expected, &mut walk.left)
+    let typ = later_type(r, version, side, arguments, typ)?;
+    expect(r, version, side, typ, expected)
 }
 
 /// A wildcard against a type: a rule variable of its own, applied to all variables that are bound there. Takes no unit.
@@ -157,7 +164,7 @@ pub(crate) fn walk_wildcard<R: Reducer>(
     expected: &R::T,
 ) -> Result<R::T, TypeFault>
     requires expected { R.owns r.old expected.now }
-    requires found { OwnsFound R.owns r.old side.old.found }
+    requires found { OwnsFound R.owns R.denotes r.old side.old.found }
     requires ready { IsReady R.owns R.serves (entries_of version.now) r.old side.old.walk }
     ensures gives { WalksWildcard R.owns R.denotes (entries_of version.now) r.old
         side.old.walk.context side.old.found
@@ -167,7 +174,11 @@ pub(crate) fn walk_wildcard<R: Reducer>(
         r.old side.old.walk r.new side.new.walk }
 {
     let variables = outermost_first(r.alloc(), side.walk.context.bound.len())?;
-    let typ = first_type(r, version, &mut side.walk, variables.as_slice(), expected)?;
+    let first = First {
+        arguments: variables.as_slice(),
+        bindings: &side.found.bindings,
+    };
+    let typ = first_type(r, version, &mut side.walk, first, expected)?;
     let number = side.found.push_type(typ)?;
     Ok(occurrence(r, number, variables.as_slice())?)
 }

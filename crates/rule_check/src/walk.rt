@@ -13,12 +13,13 @@ ghost use Rattle.rule_check.specs.Founds.{OwnsFound};
 ghost use Rattle.rule_check.specs.Given.{IsHeaded, IsApplied, OwnsHeaded};
 ghost use Rattle.rule_check.specs.Clauses.{Walks, WalksHeaded, WalksArgument, WalksSpine};
 
-use crate::compare::as_convertible;
+use crate::bindings::{as_product_under, into_product_under};
+use crate::equation::expect;
 use crate::found::{Headed, LeftWalk};
 use crate::guards::{guard_at, guard_term};
 use crate::variables::{RuleVariable, walk_variable, walk_wildcard};
-use dk_model::{Code, NoMemory, NodeOf, Pat, Term, TypeFault};
-use infer_check::{Context, as_product, into_product, symbol_type, variable_type};
+use dk_model::{NoMemory, NodeOf, Pat, Term, TypeFault};
+use infer_check::{Context, symbol_type, variable_type};
 use signature_log::{Reducer, Version};
 
 /// A head and the patterns that it is applied to.
@@ -75,7 +76,7 @@ fn walk<R: Reducer>(
     expected: &R::T,
 ) -> Result<R::T, TypeFault>
     requires expected { R.owns r.old expected.now }
-    requires found { OwnsFound R.owns r.old side.old.found }
+    requires found { OwnsFound R.owns R.denotes r.old side.old.found }
     requires ready { IsReady R.owns R.serves (entries_of version.now) r.old side.old.walk }
     ensures gives { Walks R.owns R.denotes (entries_of version.now) r.old side.old.walk.context
         side.old.found
@@ -118,7 +119,7 @@ fn walk_guard<R: Reducer>(
     expected: &R::T,
 ) -> Result<R::T, TypeFault>
     requires expected { R.owns r.old expected.now }
-    requires found { OwnsFound R.owns r.old side.old.found }
+    requires found { OwnsFound R.owns R.denotes r.old side.old.found }
     requires ready { IsReady R.owns R.serves (entries_of version.now) r.old side.old.walk }
     ensures gives { Walks R.owns R.denotes (entries_of version.now) r.old side.old.walk.context
         side.old.found
@@ -134,11 +135,11 @@ fn walk_guard<R: Reducer>(
     Ok(term)
 }
 
-/// A head applied to patterns, whose type must be convertible with the expected one.
+/// A head applied to patterns, where the equation of its type and the expected one is solved.
 ///
 /// ```text
-/// G |- h p1 .. pn : B    B is convertible with A
-/// ----------------------------------------------
+/// G |- h p1 .. pn : B    the equation of B and A is solved
+/// --------------------------------------------------------
 /// G |- h p1 .. pn against A
 /// ```
 #[cycle(walking)]
@@ -152,7 +153,7 @@ fn walk_headed<R: Reducer>(
 ) -> Result<R::T, TypeFault>
     requires head { OwnsHeaded R.owns r.old application.head }
     requires expected { R.owns r.old expected.now }
-    requires found { OwnsFound R.owns r.old side.old.found }
+    requires found { OwnsFound R.owns R.denotes r.old side.old.found }
     requires ready { IsReady R.owns R.serves (entries_of version.now) r.old side.old.walk }
     ensures gives { WalksHeaded R.owns R.denotes (entries_of version.now) r.old
         side.old.walk.context side.old.found
@@ -162,9 +163,9 @@ fn walk_headed<R: Reducer>(
     ensures continues { Continues R.owns R.denotes R.serves (entries_of version.now)
         r.old side.old.walk r.new side.new.walk }
 {
-    let walked = walk_spine(r, version, side, application)?;
-    as_convertible(r, version, &walked.typ, expected, &mut side.walk.left)?;
-    Ok(walked.term)
+    let Headed { term, typ } = walk_spine(r, version, side, application)?;
+    expect(r, version, side, typ, expected)?;
+    Ok(term)
 }
 
 /// An abstraction against a type, which must be a product.
@@ -184,7 +185,7 @@ fn walk_abstraction<R: Reducer>(
     expected: &R::T,
 ) -> Result<R::T, TypeFault>
     requires expected { R.owns r.old expected.now }
-    requires found { OwnsFound R.owns r.old side.old.found }
+    requires found { OwnsFound R.owns R.denotes r.old side.old.found }
     requires ready { IsReady R.owns R.serves (entries_of version.now) r.old side.old.walk }
     ensures gives { Walks R.owns R.denotes (entries_of version.now) r.old side.old.walk.context
         side.old.found
@@ -193,7 +194,13 @@ fn walk_abstraction<R: Reducer>(
     ensures continues { Continues R.owns R.denotes R.serves (entries_of version.now)
         r.old side.old.walk r.new side.new.walk }
 {
-    let function = as_product(r, version, Code::E34, expected, &mut side.walk.left)?;
+    let function = as_product_under(
+        r,
+        version,
+        &side.found.bindings,
+        expected,
+        &mut side.walk.left,
+    )?;
     side.walk.context.bind(function.domain)?;
     let body = walk(r, version, side, body, &function.codomain);
     let _domain = side.walk.context.leave();
@@ -210,7 +217,7 @@ pub(crate) fn walk_spine<R: Reducer>(
     application: Application<R::T>,
 ) -> Result<Headed<R::T>, TypeFault>
     requires head { OwnsHeaded R.owns r.old application.head }
-    requires found { OwnsFound R.owns r.old side.old.found }
+    requires found { OwnsFound R.owns R.denotes r.old side.old.found }
     requires ready { IsReady R.owns R.serves (entries_of version.now) r.old side.old.walk }
     ensures gives { WalksSpine R.owns R.denotes (entries_of version.now) r.old
         side.old.walk.context side.old.found
@@ -247,7 +254,7 @@ fn walk_argument<R: Reducer>(
     argument: &Pat,
 ) -> Result<Headed<R::T>, TypeFault>
     requires head { OwnsHeaded R.owns r.old head }
-    requires found { OwnsFound R.owns r.old side.old.found }
+    requires found { OwnsFound R.owns R.denotes r.old side.old.found }
     requires ready { IsReady R.owns R.serves (entries_of version.now) r.old side.old.walk }
     ensures gives { WalksArgument R.owns R.denotes (entries_of version.now) r.old
         side.old.walk.context side.old.found
@@ -257,7 +264,7 @@ fn walk_argument<R: Reducer>(
         r.old side.old.walk r.new side.new.walk }
 {
     let Headed { term, typ } = head;
-    let function = into_product(r, version, Code::E34, typ, &mut side.walk.left)?;
+    let function = into_product_under(r, version, &side.found.bindings, typ, &mut side.walk.left)?;
     let argument = walk(r, version, side, argument, &function.domain)?;
     Ok(apply(r, term, argument, &function.codomain)?)
 }

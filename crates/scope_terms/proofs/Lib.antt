@@ -1,4 +1,7 @@
 pub mod Entries
+pub mod Known
+pub mod Readings
+pub mod Plain
 pub mod Numbers
 pub mod Stages
 pub mod Contexts

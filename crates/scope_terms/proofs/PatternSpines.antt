@@ -10,7 +10,7 @@ use Rattle.scope_terms.specs.Binding.{binders}
 use Rattle.dk_model.specs.declared.code.Fault.{Fault}
 use Rattle.scope_terms.specs.Scopes.{Scoping, scoped, both}
 use Rattle.scope_terms.specs.Answers.{IsFaultOf}
-use Rattle.scope_terms.specs.Meanings.{rule_variables, symbols_of, left_sense}
+use Rattle.scope_terms.specs.Meanings.{rule_variables, names_of, symbols_of, left_sense}
 use Rattle.scope_terms.specs.Spines.{applied_pattern, pattern_references, pattern_size, total_pattern_size, left_spine_sense}
 use Rattle.scope_terms.specs.declared.binders.Binders.{Binders}
 use Rattle.scope_terms.specs.declared.meaning.Scope.{Scope}
@@ -37,18 +37,18 @@ module _ (scope : Scope) (bound : Binders) where
   spine_fault s (x ∷ rs) e is = both_first left_apply (spine s rs) (left_sense scope bound x.now) e (spine_fault s rs e is)
 
   -- the scoping of what is written, argument by argument
-  spine_written : (w : WrittenPattern) (rs : List (Bor RawPat)) → left_of (symbols_of scope) (rule_variables scope) (binders bound) (applied_pattern w (pattern_references rs)) ≡ spine (left_of (symbols_of scope) (rule_variables scope) (binders bound) w) rs
+  spine_written : (w : WrittenPattern) (rs : List (Bor RawPat)) → left_of (symbols_of scope) (names_of scope) (rule_variables scope) (binders bound) (applied_pattern w (pattern_references rs)) ≡ spine (left_of (symbols_of scope) (names_of scope) (rule_variables scope) (binders bound) w) rs
   spine_written w [] = refl
   spine_written w (x ∷ rs) = ap (λ (u : Scoping PlainLeft). both left_apply u (left_sense scope bound x.now)) (spine_written w rs)
 
   -- the head is scoped
   pub spine_begun : (raw head : RawPat) (rs : List (Bor RawPat)) (t : PlainLeft) → applied_pattern (written_pattern head) (pattern_references rs) ≡ written_pattern raw → left_sense scope bound head ≡ scoped t → spine (scoped t) rs ≡ left_sense scope bound raw
   spine_begun raw head rs t whole is =
-      ap (λ (s : Scoping PlainLeft). spine s rs) (sym is) ∙ sym (spine_written (written_pattern head) rs) ∙ ap (left_of (symbols_of scope) (rule_variables scope) (binders bound)) whole
+      ap (λ (s : Scoping PlainLeft). spine s rs) (sym is) ∙ sym (spine_written (written_pattern head) rs) ∙ ap (left_of (symbols_of scope) (names_of scope) (rule_variables scope) (binders bound)) whole
 
   pub spine_head_fault : (raw head : RawPat) (rs : List (Bor RawPat)) (e : Fault) → applied_pattern (written_pattern head) (pattern_references rs) ≡ written_pattern raw → IsFaultOf (left_sense scope bound head) e → IsFaultOf (left_sense scope bound raw) e
   spine_head_fault raw head rs e whole is =
-      subst (λ (s : Scoping PlainLeft). IsFaultOf s e) (sym (spine_written (written_pattern head) rs) ∙ ap (left_of (symbols_of scope) (rule_variables scope) (binders bound)) whole) (spine_fault (left_sense scope bound head) rs e is)
+      subst (λ (s : Scoping PlainLeft). IsFaultOf s e) (sym (spine_written (written_pattern head) rs) ∙ ap (left_of (symbols_of scope) (names_of scope) (rule_variables scope) (binders bound)) whole) (spine_fault (left_sense scope bound head) rs e is)
 
   -- an argument more is scoped
   pub spine_further : (all : Scoping PlainLeft) (t a u : PlainLeft) (rs : List (Bor RawPat)) (r : Bor RawPat) → spine (scoped t) (rs ++ r ∷ []) ≡ all → left_sense scope bound r.now ≡ scoped a → u ≡ left_apply t a → spine (scoped u) rs ≡ all

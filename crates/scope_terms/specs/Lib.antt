@@ -1,4 +1,8 @@
 pub mod Scopes
+pub mod Reading
+pub mod Modules
+pub mod Names
+pub mod Plain
 pub mod Answers
 pub mod Meanings
 pub mod Spines

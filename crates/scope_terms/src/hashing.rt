@@ -9,7 +9,7 @@ use std::hash::{BuildHasher, FoldHasher, Hasher};
 
 /// A hasher of names, as it begins and on its way.
 #[derive(Clone, Copy)]
-pub(crate) struct NameHasher {
+pub struct NameHasher {
     so_far: FoldHasher,
 }
 

@@ -6,11 +6,11 @@ ghost use Rattle.dk_parser.specs.Written.{pattern_apply};
 ghost use Rattle.scope_terms.specs.Scopes.{scoped};
 ghost use Rattle.scope_terms.specs.Answers.{IsFaultOf};
 ghost use Rattle.scope_terms.specs.Binding.{IsTold};
-ghost use Rattle.scope_terms.specs.Meanings.{named_left, left_sense};
+ghost use Rattle.scope_terms.specs.Meanings.{named_left, qualified_left, left_sense};
 ghost use Rattle.scope_terms.specs.Spines.{applied_pattern, pattern_references, pattern_size, total_pattern_size};
 
 use crate::binders::{Binders, under};
-use crate::meaning::{Named, Scope, look_up};
+use crate::meaning::{Named, Scope, look_up, qualified};
 use crate::term::term_at;
 use dk_model::{Code, Fault, Left, Listed, NoMemory};
 use dk_parser::RawPat;
@@ -51,6 +51,17 @@ fn name_at<'a>(scope: &Scope, name: &Listed<u8>, bound: &'a Binders<'a>) -> Resu
         Named::RuleVariable(number) => Ok(Left::Rvar(number)),
         Named::Symbol(number) => Ok(Left::Sym(number)),
         Named::Unknown => Err(Fault::Refused(Code::E10)),
+    }
+}
+
+fn qualified_at(scope: &Scope, module_name: &Listed<u8>, name: &Listed<u8>) -> Result<Left, Fault>
+    ensures ok { IfOk result
+        (λ l. qualified_left scope.now module_name.now name.now ≡ scoped (plain_left l)) }
+    ensures refused { IfErr result (IsFaultOf (qualified_left scope.now module_name.now name.now)) }
+{
+    match qualified(scope, module_name.as_slice(), name.as_slice()) {
+        Some(number) => Ok(Left::Sym(number)),
+        None => Err(Fault::Refused(Code::E10)),
     }
 }
 
@@ -98,7 +109,7 @@ pub(crate) fn left_at<'a>(
 {
     match raw {
         RawPat::Name(name) => name_at(scope, name, bound),
-        RawPat::Qualified(_, _) => Err(Fault::Refused(Code::E10)),
+        RawPat::Qualified(module_name, name) => { qualified_at(scope, module_name, name) },
         RawPat::Wild => Ok(Left::Any),
         RawPat::Guard(guard) => {
             let guard = term_at(alloc, scope, guard, &Binders::Outermost)?;

@@ -10,8 +10,19 @@ mod hashing;
 pub mod laws;
 mod left;
 mod meaning;
+mod modules;
 mod names;
 mod rule;
+mod table;
 mod term;
+mod variables;
 
+pub use modules::Entered;
+// A crate can name what `Names` has in a clause only if the types of its fields are exported.
+#[doc(hidden)]
+pub use hashing::NameHasher;
+#[doc(hidden)]
+pub use modules::{Declared, Modules, Place};
 pub use names::{Names, ScopeFault};
+#[doc(hidden)]
+pub use table::Table;

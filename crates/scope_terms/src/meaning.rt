@@ -1,19 +1,23 @@
 //! What a name means at a place of a command.
-ghost use Rattle.std.specs.Prelude.{◌≡◌, IfOk};
+ghost use Rattle.std.specs.Prelude.{◌≡◌, IfOk, Some};
+ghost use Rattle.std.specs.Map.{lookup};
+ghost use Rattle.scope_terms.specs.Scopes.{numbers_in, same_spelling};
 ghost use Rattle.scope_terms.specs.Binding.{IsTold};
-ghost use Rattle.scope_terms.specs.Meanings.{meaning, sense, free_sense, symbol_sense};
+ghost use Rattle.scope_terms.specs.Names.{reading};
+ghost use Rattle.scope_terms.specs.Meanings.{meaning, sense, free_sense, symbol_sense, symbols_of};
 
 use crate::Names;
 use crate::binders::{Binders, variable};
+use crate::variables::Variables;
 use dk_model::NoMemory;
 
 /// What names may mean beside binders: the symbols, and in a rule its variables.
 #[derive(Clone, Copy)]
 pub(crate) enum Scope<'a> {
-    Symbols(&'a Names),
+    Command(&'a Names),
     Rule {
         symbols: &'a Names,
-        variables: &'a Names,
+        variables: &'a Variables,
     },
 }
 
@@ -46,7 +50,7 @@ fn free(scope: &Scope, name: &[u8]) -> Named
     ensures { meaning result ≡ free_sense scope.now name.now }
 {
     match scope {
-        Scope::Symbols(symbols) => symbol(*symbols, name),
+        Scope::Command(symbols) => symbol(*symbols, name),
         Scope::Rule { symbols, variables } => match variables.number(name) {
             Some(number) => Named::RuleVariable(number),
             None => symbol(*symbols, name),
@@ -56,10 +60,21 @@ fn free(scope: &Scope, name: &[u8]) -> Named
 
 /// What a name means that no rule variable has either.
 fn symbol(symbols: &Names, name: &[u8]) -> Named
-    ensures { meaning result ≡ symbol_sense symbols.now name.now }
+    ensures { meaning result ≡ symbol_sense (reading symbols.now) name.now }
 {
-    match symbols.number(name) {
+    match symbols.own_number(name) {
         Some(number) => Named::Symbol(number),
         None => Named::Unknown,
+    }
+}
+
+/// The number of the symbol that a qualified name means.
+pub(crate) fn qualified(scope: &Scope, module_name: &[u8], name: &[u8]) -> Option<u32>
+    ensures { result ≡ lookup (same_spelling name.now)
+        (numbers_in (symbols_of scope.now) (Some module_name.now)) }
+{
+    match scope {
+        Scope::Command(symbols) => symbols.number_in(module_name, name),
+        Scope::Rule { symbols, .. } => symbols.number_in(module_name, name),
     }
 }

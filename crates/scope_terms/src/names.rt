@@ -1,79 +1,128 @@
-//! The names that the commands so far declare.
-ghost use Rattle.std.specs.Prelude.{◌≡◌, ◌<◌, is_some, not, if◌then◌else◌, IfOk, IfErr, OnOk, OnErr};
-ghost use Rattle.dk_model.specs.Scoping.{plain_command};
-ghost use Rattle.dk_model.specs.declared.code.Fault.TheVariants.{Refused};
-ghost use Rattle.dk_parser.specs.RawViews.{written_form};
-ghost use Rattle.scope_terms.specs.Scopes.{no_names, number_of, with_name, names_after, scoped};
-ghost use Rattle.scope_terms.specs.Answers.{IsFaultOf};
-ghost use Rattle.scope_terms.specs.Meanings.{scoping_of};
+//! The names that the commands so far declare, module by module.
+ghost use Rattle.std.specs.Prelude.{◌≤◌, All, length};
+ghost use Rattle.scope_terms.specs.Modules.{past};
 
 use crate::binders::Binders;
 use crate::declaration::{TypeAndBody, declaration_at};
-use crate::hashing::NameHasher;
 use crate::meaning::Scope;
+use crate::modules::{Entered, Modules, Place, last_place};
 use crate::rule::rules_at;
 use dk_model::{Code, Fault, Listed, NoMemory, Scoped};
 use dk_parser::{Raw, RawForm};
-use indexmap::IndexMap;
-use indexmap::map::Entry;
 use std::alloc::Global;
-use std::marker::Model;
 
 /// Why a command wasn't scoped: its first code from left to right, or want of memory.
 pub type ScopeFault = Fault;
 
-/// The names that the accepted commands declare, each with the number of its command.
+/// The names that the accepted commands declare, module by module, each with the number of its command, and the modules
+/// that are being read.
 #[derive(Drop)]
 pub struct Names {
-    numbers: IndexMap<Vec<u8>, u32, NameHasher>,
+    modules: Modules,
+    // Where those are kept that are entered and not left; the one being read comes last.
+    entered: Vec<Place>,
     count: u32,
-}
-
-impl Model for Names {
-    ghost use Rattle.scope_terms.specs.Scopes.{Numbered};
-
-    ghost Value = { Numbered };
-
-    ghost use Rattle.std.specs.Prelude.{map};
-
-    ghost view = { λ n. record { numbers = map (λ e. (e.0.items, e.1)) n.numbers.entries; count = n.count } };
+    // Each has its place.
+    ghost within: { All (λ p. past p ≤ length modules.named.entries) entered.items },
 }
 
 impl Names {
-    /// No names.
+    ghost use Rattle.std.specs.Prelude.{◌≡◌, ◌<◌, Some, is_some, not, if◌then◌else◌, IfOk, IfErr, OnOk, OnErr};
+    ghost use Rattle.std.specs.Map.{lookup};
+    ghost use Rattle.dk_model.specs.Scoping.{plain_command};
+    ghost use Rattle.dk_model.specs.declared.code.Fault.TheVariants.{Refused};
+    ghost use Rattle.dk_parser.specs.RawViews.{written_form};
+    ghost use Rattle.scope_terms.specs.Scopes.{number_of, numbers_in, same_spelling, scoped};
+    ghost use Rattle.scope_terms.specs.Reading.{after_command, after_entering, after_leaving, module_of, no_reading, own_names, with_own_name};
+    ghost use Rattle.scope_terms.specs.Names.{reading};
+    ghost use Rattle.scope_terms.specs.Answers.{IsFaultOf};
+    ghost use Rattle.scope_terms.specs.Meanings.{scoping_of};
+
+    /// No names, and no module is entered.
     pub fn new(alloc: Global) -> Result<Names, NoMemory>
-        ensures { IfOk result (λ names. names ≡ no_names) }
+        ensures { IfOk result (λ names. reading names ≡ no_reading) }
     {
         Ok(Names {
-            numbers: IndexMap::with_hasher(alloc, NameHasher::new()),
+            modules: Modules::new(alloc),
+            entered: Vec::new(alloc),
             count: 0,
         })
     }
 
-    /// The number of the accepted command that declared this name; None exactly where none did.
-    pub fn number(&self, name: &[u8]) -> Option<u32>
-        ensures { result ≡ number_of self.now name.now }
+    /// Enters a module that is new: it is the one being read from then on. Nothing changes where it is known or open. The
+    /// answer says how it stood; None is the module without a name.
+    pub fn enter(&mut self, alloc: Global, module_name: Option<&str>) -> Result<Entered, NoMemory>
+        ensures ok { IfOk result (λ stood. stood ≡ (reading self.old).standing (module_of module_name.entry)) }
+        ensures entered { OnOk result
+            (reading self.new ≡ after_entering (reading self.old) (module_of module_name.entry)) }
+        ensures err { OnErr result (reading self.new ≡ reading self.old) }
     {
-        self.numbers.get(name).copied()
+        let stood = self.modules.standing(module_name);
+        if let Entered::New = stood {
+            self.entered.reserve(1)?;
+            let place = self.modules.place(alloc, module_name)?;
+            self.modules.set_standing(place, Entered::Open);
+            self.entered.push_reserved(place);
+        }
+        Ok(stood)
     }
 
-    /// How many numbers were given: one for each accepted command.
+    /// Leaves the module being read, for good; the one that was entered before it is read again.
+    pub fn leave(&mut self)
+        requires { 0 < length (reading self.old).entered }
+        ensures { reading self.new ≡ after_leaving (reading self.old) }
+    {
+        if let Some(place) = self.entered.pop() {
+            self.modules.set_standing(place, Entered::Known);
+        }
+    }
+
+    /// The number of the accepted command of this module that declared this name; None exactly where none did. The module
+    /// None is the one without a name.
+    pub fn number(&self, module_name: Option<&str>, name: &[u8]) -> Option<u32>
+        ensures { result ≡ lookup (same_spelling name.now)
+            (numbers_in (reading self.now).symbols (module_of module_name.entry)) }
+    {
+        match module_name {
+            Some(module_name) => self.number_in(module_name.as_bytes(), name),
+            None => self.modules.number_at(Place::Nameless, name),
+        }
+    }
+
+    /// The number of a name of the module of this name.
+    pub(crate) fn number_in(&self, module_name: &[u8], name: &[u8]) -> Option<u32>
+        ensures { result ≡ lookup (same_spelling name.now)
+            (numbers_in (reading self.now).symbols (Some module_name.now)) }
+    {
+        self.modules.number_in(module_name, name)
+    }
+
+    /// The number of a name of the module being read.
+    pub(crate) fn own_number(&self, name: &[u8]) -> Option<u32>
+        ensures { result ≡ number_of (own_names (reading self.now)) name.now }
+    {
+        self.modules.number_at(last_place(&self.entered), name)
+    }
+
+    /// How many numbers were given: one for each accepted command, of whichever module.
     pub fn count(&self) -> u32
-        ensures { result ≡ self.now.count }
+        ensures { result ≡ (reading self.now).symbols.count }
     {
         self.count
     }
 
-    /// The command with its names as numbers, or its first code from left to right.
+    /// The command, which stands in the module being read, with its names as numbers, or its first code from left to right.
+    /// Before a module is entered it stands in the one without a name.
     ///
-    /// Accepted, the declared name is added with the next number; rules take a number without a
-    /// name. After a refusal, want of memory too, the names are as before (docs/scoping.md).
+    /// Accepted, the declared name is added to that module with the next number; rules take a number without a name. After a
+    /// refusal, want of memory too, the names are as before (docs/scoping.md).
     pub fn scope(&mut self, alloc: Global, raw: &Raw) -> Result<Scoped, ScopeFault>
-        requires { self.old.count < 4294967295 }
-        ensures ok { IfOk result (λ c. scoping_of self.old raw.now ≡ scoped (plain_command c)) }
-        ensures added { OnOk result (self.new ≡ names_after self.old (written_form raw.now.form)) }
-        ensures refused { IfErr result (IsFaultOf (scoping_of self.old raw.now)) }
-        ensures err { OnErr result (self.new ≡ self.old) }
+        requires { (reading self.old).symbols.count < 4294967295 }
+        ensures ok { IfOk result (λ c. scoping_of (reading self.old) raw.now ≡ scoped (plain_command c)) }
+        ensures added { OnOk result
+            (reading self.new ≡ after_command (reading self.old) (written_form raw.now.form)) }
+        ensures refused { IfErr result (IsFaultOf (scoping_of (reading self.old) raw.now)) }
+        ensures err { OnErr result (reading self.new ≡ reading self.old) }
     {
         match &raw.form {
             RawForm::Declare {
@@ -83,7 +132,7 @@ impl Names {
                 typ,
                 body,
             } => {
-                let scope = Scope::Symbols(self);
+                let scope = Scope::Command(self);
                 let params = params.as_slice();
                 let outermost = Binders::Outermost;
                 let TypeAndBody { typ, body } = match declaration_at(
@@ -106,44 +155,38 @@ impl Names {
                 self.count += 1;
                 Ok(Scoped::Rules(rules))
             }
+            RawForm::Module(_) | RawForm::Require(_) => Err(Fault::Refused(Code::E06)),
         }
     }
 
-    /// Whether the name has a number.
-    pub(crate) fn has(&self, name: &Listed<u8>) -> bool
-        ensures { result ≡ is_some (number_of self.now name.now) }
+    /// The first fault where this one is of what stands behind the name: the code, if the module being read declares the
+    /// name already.
+    fn first_fault(&self, name: &Listed<u8>, code: Code, fault: Fault) -> Fault
+        ensures { result
+            ≡ if is_some (number_of (own_names (reading self.now)) name.now) then Refused code else fault }
     {
-        self.number(name.as_slice()).is_some()
-    }
-
-    /// The first fault where this one is of what stands behind the name: the code, if the name
-    /// has a number.
-    pub(crate) fn first_fault(&self, name: &Listed<u8>, code: Code, fault: Fault) -> Fault
-        ensures { result ≡ if is_some (number_of self.now name.now) then Refused code else fault }
-    {
-        if self.has(name) {
+        if self.own_number(name.as_slice()).is_some() {
             Fault::Refused(code)
         } else {
             fault
         }
     }
 
-    /// Adds a name with the next number, unless it has one: whether it was added.
-    pub(crate) fn add(&mut self, alloc: Global, name: &Listed<u8>) -> Result<bool, NoMemory>
-        requires room { self.old.count < 4294967295 }
-        ensures is_new { IfOk result (λ added. added ≡ not (is_some (number_of self.old name.now))) }
-        ensures ok { IfOk result
-            (λ added. self.new ≡ if added then with_name self.old name.now else self.old) }
-        ensures err { OnErr result (self.new ≡ self.old) }
+    /// Adds a name of the module being read with the next number, unless it has one: whether it was added.
+    fn add(&mut self, alloc: Global, name: &Listed<u8>) -> Result<bool, NoMemory>
+        requires room { (reading self.old).symbols.count < 4294967295 }
+        ensures is_new { IfOk result
+            (λ added. added ≡ not (is_some (number_of (own_names (reading self.old)) name.now))) }
+        ensures ok { IfOk result (λ added.
+            reading self.new
+            ≡ if added then with_own_name (reading self.old) name.now else reading self.old) }
+        ensures err { OnErr result (reading self.new ≡ reading self.old) }
     {
-        let spelling = name.as_slice().to_vec(alloc)?;
-        match self.numbers.entry(spelling)? {
-            Entry::Occupied(_) => Ok(false),
-            Entry::Vacant(entry) => {
-                entry.insert(self.count);
-                self.count += 1;
-                Ok(true)
-            }
+        let place = last_place(&self.entered);
+        let added = self.modules.add_at(alloc, place, name, self.count)?;
+        if added {
+            self.count += 1;
         }
+        Ok(added)
     }
 }

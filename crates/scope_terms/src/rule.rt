@@ -3,6 +3,7 @@ ghost use Rattle.std.specs.Prelude.{◌≡◌, IfOk, IfErr};
 ghost use Rattle.dk_model.specs.Scoping.{plain_scoped_rule};
 ghost use Rattle.scope_terms.specs.Scopes.{scoped};
 ghost use Rattle.scope_terms.specs.Answers.{IsFaultOf};
+ghost use Rattle.scope_terms.specs.Names.{reading};
 ghost use Rattle.scope_terms.specs.Meanings.{noted, plain_rules, notes_sense, declared, rule_sense, rules_sense};
 
 use crate::Names;
@@ -10,6 +11,7 @@ use crate::binders::Binders;
 use crate::left::left_at;
 use crate::meaning::Scope;
 use crate::term::{maybe_term_at, term_at};
+use crate::variables::Variables;
 use dk_model::{Code, Fault, Listed, ScopedRule, Term};
 use dk_parser::{RawNote, RawRule};
 use std::alloc::Global;
@@ -17,17 +19,17 @@ use std::alloc::Global;
 /// A scoped context: its rule variables by number and their annotations.
 #[derive(Drop)]
 struct ScopedContext {
-    variables: Names,
+    variables: Variables,
     notes: Listed<Option<Term>>,
 }
 
 /// The context, or its first code.
 fn context_at(alloc: Global, context: &[RawNote], names: &Names) -> Result<ScopedContext, Fault>
-    ensures ok { IfOk result (λ c. notes_sense names.now context.now ≡ scoped (noted c)) }
+    ensures ok { IfOk result (λ c. notes_sense (reading names.now) context.now ≡ scoped (noted c)) }
     ensures variables { IfOk result (λ c. c.variables ≡ declared context.now) }
-    ensures refused { IfErr result (IsFaultOf (notes_sense names.now context.now)) }
+    ensures refused { IfErr result (IsFaultOf (notes_sense (reading names.now) context.now)) }
 {
-    let mut variables = Names::new(alloc)?;
+    let mut variables = Variables::new(alloc);
     let mut notes = Listed::new(alloc);
     for entry in context {
         let scope = Scope::Rule {
@@ -52,8 +54,8 @@ fn context_at(alloc: Global, context: &[RawNote], names: &Names) -> Result<Scope
 
 /// The rule, or its first code.
 fn rule_at(alloc: Global, rule: &RawRule, names: &Names) -> Result<ScopedRule, Fault>
-    ensures ok { IfOk result (λ r. rule_sense names.now rule.now ≡ scoped (plain_scoped_rule r)) }
-    ensures refused { IfErr result (IsFaultOf (rule_sense names.now rule.now)) }
+    ensures ok { IfOk result (λ r. rule_sense (reading names.now) rule.now ≡ scoped (plain_scoped_rule r)) }
+    ensures refused { IfErr result (IsFaultOf (rule_sense (reading names.now) rule.now)) }
 {
     let ScopedContext { variables, notes } = context_at(alloc, rule.context.as_slice(), names)?;
     let scope = Scope::Rule {
@@ -76,8 +78,8 @@ pub(crate) fn rules_at(
     rules: &[RawRule],
     names: &Names,
 ) -> Result<Listed<ScopedRule>, Fault>
-    ensures ok { IfOk result (λ rs. rules_sense names.now rules.now ≡ scoped (plain_rules rs)) }
-    ensures refused { IfErr result (IsFaultOf (rules_sense names.now rules.now)) }
+    ensures ok { IfOk result (λ rs. rules_sense (reading names.now) rules.now ≡ scoped (plain_rules rs)) }
+    ensures refused { IfErr result (IsFaultOf (rules_sense (reading names.now) rules.now)) }
 {
     let mut scoped = Listed::new(alloc);
     for rule in rules {

@@ -7,15 +7,15 @@ ghost use Rattle.dk_parser.specs.Written.{written_apply};
 ghost use Rattle.scope_terms.specs.Scopes.{scoped};
 ghost use Rattle.scope_terms.specs.Answers.{IsFaultOf};
 ghost use Rattle.scope_terms.specs.Binding.{IsTold};
-ghost use Rattle.scope_terms.specs.Meanings.{named_term, term_sense, maybe_sense, application_sense, product_sense, bare_sense, annotated_sense};
+ghost use Rattle.scope_terms.specs.Meanings.{named_term, qualified_term, term_sense, maybe_sense, application_sense, product_sense, bare_sense, annotated_sense};
 ghost use Rattle.scope_terms.specs.Spines.{applied, written_references, size, total_size};
 
 use crate::binders::{Binders, under};
-use crate::meaning::{Named, Scope, look_up};
+use crate::meaning::{Named, Scope, look_up, qualified};
 use dk_model::{
     Code, Fault, Listed, NoMemory, Term, make_annotated, make_app, make_bare, make_product,
 };
-use dk_parser::RawTerm;
+use dk_parser::{RawQualified, RawTerm};
 use std::alloc::Global;
 
 fn name_at<'a>(scope: &Scope, name: &Listed<u8>, bound: &'a Binders<'a>) -> Result<Term, Fault>
@@ -28,6 +28,18 @@ fn name_at<'a>(scope: &Scope, name: &Listed<u8>, bound: &'a Binders<'a>) -> Resu
         Named::RuleVariable(number) => Ok(Term::Rvar(number)),
         Named::Symbol(number) => Ok(Term::Sym(number)),
         Named::Unknown => Err(Fault::Refused(Code::E10)),
+    }
+}
+
+fn qualified_at(scope: &Scope, name: &RawQualified) -> Result<Term, Fault>
+    ensures ok { IfOk result (λ t.
+        qualified_term scope.now name.now.module_name name.now.name ≡ scoped (tree t)) }
+    ensures refused { IfErr result
+        (IsFaultOf (qualified_term scope.now name.now.module_name name.now.name)) }
+{
+    match qualified(scope, name.module_name.as_slice(), name.name.as_slice()) {
+        Some(number) => Ok(Term::Sym(number)),
+        None => Err(Fault::Refused(Code::E10)),
     }
 }
 
@@ -92,7 +104,7 @@ pub(crate) fn term_at<'a>(
 {
     match raw {
         RawTerm::Name(name) => name_at(scope, name, bound),
-        RawTerm::Qualified(_) => Err(Fault::Refused(Code::E10)),
+        RawTerm::Qualified(name) => qualified_at(scope, name),
         RawTerm::Star => Ok(Term::Star),
         RawTerm::Wild => Err(Fault::Refused(Code::E12)),
         RawTerm::App(pair) => {

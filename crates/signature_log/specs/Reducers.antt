@@ -1,5 +1,5 @@
 -- For callers: what a call of a reducer gives, and what it leaves as it was.
-use Rattle.std.specs.Prelude.{ℕ, ◌≡◌, List, [], ◌∷◌, Some, None, Bool, Result, Ok, Err}
+use Rattle.std.specs.Prelude.{ℕ, ◌≡◌, List, [], ◌∷◌, Option, Some, None, Bool, Result, Ok, Err}
 use Rattle.dk_model.specs.Trees.{Tree, star, kind, symbol, variable, rule_variable, apply, bare, annotated, product}
 use Rattle.dk_model.specs.Units.{Units}
 use Rattle.dk_model.specs.declared.node.NodeOf.{NodeOf}
@@ -56,6 +56,16 @@ OwnsParts owns r (Prod a b) = owns r a × owns r b
 abbrev pub AreOwned : {R T : Type 0} → (R → T → Type 0) → R → List T → Type 0
 AreOwned owns r [] = Unit {0}
 AreOwned owns r (t ∷ ts) = owns r t × AreOwned owns r ts
+
+-- that a value, where there is one, is the reducer's
+abbrev pub OwnsSome : {R T : Type 0} → (R → T → Type 0) → R → Option T → Type 0
+OwnsSome owns r None = Unit {0}
+OwnsSome owns r (Some t) = owns r t
+
+-- the same of each of a list
+abbrev pub OwnsSomes : {R T : Type 0} → (R → T → Type 0) → R → List (Option T) → Type 0
+OwnsSomes owns r [] = Unit {0}
+OwnsSomes owns r (o ∷ os) = OwnsSome owns r o × OwnsSomes owns r os
 
 -- the outermost node of this term
 abbrev pub Shows : {R T : Type 0} → (R → T → Type 0) → (R → T → Tree) → R → Tree → NodeOf T → Type 0

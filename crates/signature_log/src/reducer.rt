@@ -5,14 +5,15 @@ ghost use Rattle.std.specs.Prelude.{◌≡◌, ◌≤◌, ℕ, [], map, true, If
 ghost use Rattle.dk_model.specs.Trees.{Tree, tree};
 ghost use Rattle.dk_model.specs.Substitution.{shift, substitute};
 ghost use Rattle.dk_model.specs.Erasure.{erased};
-ghost use Rattle.dk_model.specs.Signatures.{PlainSignature};
-ghost use Rattle.dk_model.specs.Captures.{mentions_others, renamed};
+ghost use Rattle.dk_model.specs.Signatures.{PlainSignature, maybe_by};
+ghost use Rattle.dk_model.specs.Captures.{mentions_others, renamed, filled};
+ghost use Rattle.dk_model.specs.Bindings.{may_bind};
 ghost use Rattle.dk_model.specs.Bounds.{IsClosedAt};
 ghost use Rattle.shared_term.specs.Changes.{substitute_all};
 ghost use Rattle.dk_model.specs.Evaluation.{whnf_of, comparison_of, normal_of};
 ghost use Rattle.shared_term.specs.Storage.{stored_term};
 ghost use Rattle.signature_log.specs.Versions.{entries_of};
-ghost use Rattle.signature_log.specs.Reducers.{Keeps, Gives, GivesAnswer, Makes, Shows, OwnsParts, AreOwned, built};
+ghost use Rattle.signature_log.specs.Reducers.{Keeps, Gives, GivesAnswer, Makes, Shows, OwnsParts, AreOwned, OwnsSomes, built};
 
 use crate::Version;
 use dk_model::{NoMemory, NodeOf, Stop, Term};
@@ -166,6 +167,22 @@ pub trait Reducer {
         requires own { owns self.old t.now }
         ensures makes { IfOk result (Makes owns denotes self.new
             (renamed 0 depth variables.now (denotes self.old t.now))) }
+        ensures keeps { Keeps owns denotes self.old self.new }
+        ensures serves { (S : PlainSignature) → serves S self.old → serves S self.new };
+
+    /// The term with each of its rule variables for which there is a term in the place of that number replaced by it.
+    fn fill(&mut self, t: &Self::T, terms: &[Option<Self::T>]) -> Result<Self::T, NoMemory>
+        requires own { owns self.old t.now }
+        requires others { OwnsSomes owns self.old terms.now }
+        ensures makes { IfOk result (Makes owns denotes self.new
+            (filled (map (maybe_by (denotes self.old)) terms.now) 0 (denotes self.old t.now))) }
+        ensures keeps { Keeps owns denotes self.old self.new }
+        ensures serves { (S : PlainSignature) → serves S self.old → serves S self.new };
+
+    /// Whether the rule variable stands nowhere in the term, and no variable but those that are bound in it.
+    fn may_bind(&mut self, t: &Self::T, number: u32) -> Result<bool, NoMemory>
+        requires own { owns self.old t.now }
+        ensures tells { IfOk result (λ b. b ≡ may_bind number (denotes self.old t.now)) }
         ensures keeps { Keeps owns denotes self.old self.new }
         ensures serves { (S : PlainSignature) → serves S self.old → serves S self.new };
 

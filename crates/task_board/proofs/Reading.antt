@@ -5,7 +5,7 @@ use Rattle.std.specs.List.{list_any}
 use Rattle.std.proofs.lemmas.List.{map-append}
 use Rattle.dk_model.specs.declared.code.Verdict.{Verdict}
 use Rattle.board_core.specs.declared.event.End.{End}
-use Rattle.board_core.specs.declared.event.End.TheVariants.{Whole, Fault, Unread, Stopped}
+use Rattle.board_core.specs.declared.event.End.TheVariants.{Whole, Fault, Unread, Unopened, Stopped}
 use Rattle.board_core.specs.declared.event.Event.{Event}
 use Rattle.board_core.specs.declared.event.Event.TheVariants.{Put, Claim, Answer, Seal}
 use Rattle.board_core.specs.declared.task.PutRefused.{PutRefused}
@@ -39,8 +39,9 @@ events_from es seen s = sym (events_log es) ∙ (ap events_in s.1 ∙ map-append
 
 may_end : (es more : List Event) (end : End) → MayEnd es end → MayEnd (es ++ more) end
 may_end es more Whole h = h
-may_end es more (Fault l v) h = h
-may_end es more Unread h = h
+may_end es more (Fault place v) h = h
+may_end es more (Unread place) h = h
+may_end es more (Unopened name) h = h
 may_end es more Stopped h = any_kept is_fault es more h
 
 module _ {J : Type 0} where

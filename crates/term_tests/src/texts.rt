@@ -1,6 +1,6 @@
 //! The commands of a text, as lexer, parser and scoping make them.
 use dk_lexer::{Fed, Lexer, Token};
-use dk_model::{Fault, Limits, Scoped};
+use dk_model::{Code, Fault, Limits, Scoped};
 use dk_parser::{Parser, Step};
 use scope_terms::Names;
 use std::alloc::Global;
@@ -25,6 +25,8 @@ fn take(alloc: Global, reading: &mut Reading, token: Token) -> Result<(), Fault>
                 Err(_) => Err(Fault::NoMemory),
             }
         }
+        // No text here has one.
+        Step::Directive(_) => Err(Fault::Refused(Code::E06)),
     }
 }
 

@@ -1,2 +1,3 @@
 mod Idle
 mod Somewhere
+pub mod Asides

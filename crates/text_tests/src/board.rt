@@ -113,19 +113,22 @@ fn answer<R: Wait + Abort>(
 // Whether the book has two jobs, a fault at the first one, and this history.
 fn is_stopped_at_the_first(book: &Book<Verdict>) -> bool {
     let fault = Verdict::Refused(Code::E21);
-    let history = [
-        Event::Put(1),
-        Event::Put(2),
-        Event::Claim(1, 1),
-        Event::Claim(2, 2),
-        Event::Answer(2, 2, Verdict::Accepted),
-        Event::Answer(1, 1, fault),
-        Event::Seal(End::Stopped),
-    ];
+    let is_history = matches!(
+        book.history(),
+        [
+            Event::Put(1),
+            Event::Put(2),
+            Event::Claim(1, 1),
+            Event::Claim(2, 2),
+            Event::Answer(2, 2, Verdict::Accepted),
+            Event::Answer(1, 1, Verdict::Refused(Code::E21)),
+            Event::Seal(End::Stopped),
+        ]
+    );
     book.len() == 2
         && book.fault() == Some((1, fault))
-        && book.end() == Some(End::Stopped)
-        && book.history() == &history[..]
+        && matches!(book.end(), Some(End::Stopped))
+        && is_history
 }
 
 #[test]

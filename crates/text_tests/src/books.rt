@@ -1,4 +1,4 @@
-ghost use Rattle.std.specs.Prelude.{◌<◌};
+ghost use Rattle.std.specs.Prelude.{◌<◌, ◌≤◌, ◌+◌, Some, length, map};
 
 use dk_io::{Book, Buffer, Failed, MemShelf, MemSink, OsShelf, OsSink, Shelf, Sink, put};
 use std::alloc::{AllocError, Global};
@@ -15,21 +15,36 @@ fn one_book(alloc: Global, name: &str, bytes: &[u8]) -> Result<Vec<Book>, AllocE
     Ok(books)
 }
 
-// What the calls of a script answer, one letter each: a digit for so many bytes, `o` for an
-// opened book and `F` for a failure. In the script `a` and `b` open the book of that name, and
-// `r` reads into a buffer of four bytes.
-fn played(alloc: Global, shelf: &mut MemShelf, script: &str) -> Result<Vec<u8>, AllocError> {
-    let mut answers = Vec::new(alloc);
+// What a call answers, as one letter: a digit for so many bytes, `o` for an opened book and `F` for a
+// failure. `a` and `b` open the book of that name, and `r` reads into a buffer of four bytes.
+#[tactic(auto, using(crate::proofs::Asides::one_more, crate::proofs::Asides::as_many))]
+fn answer_of(shelf: &mut MemShelf, call: u8) -> u8
+    requires few { length (map Some shelf.old.aside) < 64 }
+    ensures { length (map Some shelf.new.aside) ≤ length (map Some shelf.old.aside) + 1 }
+{
     let mut buf = [0u8; 4];
+    match call {
+        b'a' => opened(shelf.open_book("a.dk")),
+        b'b' => opened(shelf.open_book("b.dk")),
+        _ => match shelf.read(&mut buf) {
+            Ok(count) => digit(count),
+            Err(Failed) => b'F',
+        },
+    }
+}
+
+// What the calls of a script answer, the first 60 of them.
+fn played(alloc: Global, shelf: &mut MemShelf, script: &str) -> Result<Vec<u8>, AllocError>
+    requires none { length (map Some shelf.old.aside) ≤ 0 }
+{
+    let mut answers = Vec::new(alloc);
+    let mut calls: u32 = 0;
     for call in script.as_bytes() {
-        let answer = match call {
-            b'a' => opened(shelf.open_book("a.dk")),
-            b'b' => opened(shelf.open_book("b.dk")),
-            _ => match shelf.read(&mut buf) {
-                Ok(count) => digit(count),
-                Err(Failed) => b'F',
-            },
-        };
+        if calls >= 60 {
+            break;
+        }
+        calls += 1;
+        let answer = answer_of(shelf, *call);
         answers.push(answer)?;
     }
     Ok(answers)
@@ -89,6 +104,24 @@ fn shelves_answer(alloc: Global) -> Result<bool, Fail> {
         }
     }
     Ok(true)
+}
+
+// Whether a book that was put aside goes on where it was left: `a.dk` of seven bytes, opened twice.
+fn books_go_on(alloc: Global) -> Result<bool, Fail> {
+    let books = one_book(alloc, "a.dk", b"seven b")?;
+    let mut shelf = MemShelf::new(alloc, books, 9, Vec::new(alloc))?;
+    let mut buf = [0u8; 4];
+    let Ok(()) = shelf.open_book("a.dk") else {
+        return Ok(false);
+    };
+    let before = shelf.read(&mut buf);
+    let Ok(()) = shelf.open_book("a.dk") else {
+        return Ok(false);
+    };
+    let inside = shelf.read(&mut buf);
+    shelf.back();
+    let after = shelf.read(&mut buf);
+    Ok(before == Ok(4) && inside == Ok(4) && after == Ok(3) && buf == *b"n be")
 }
 
 // Whether a sink takes just this of a line, and says whether that is all.
@@ -192,23 +225,37 @@ fn outputs_flush_and_take_at_least_a_byte() -> bool {
     true
 }
 
-// Whether the shelf of files opens what is there.
-fn files_open<R: Files>(rt: &R) -> bool {
-    let mut shelf = OsShelf::new(rt);
+// Whether the shelf of files opens what is there, and goes on with a file that was put aside.
+fn files_open<R: Files>(rt: &R, alloc: Global) -> Result<bool, Fail> {
+    let mut shelf = OsShelf::new(rt, alloc)?;
     let mut buf = [0u8; 4];
     let before = shelf.read(&mut buf);
     let missing = shelf.open_book("no/such/file.dk");
-    let there = shelf.open_book("/dev/zero");
+    let Ok(()) = shelf.open_book("/dev/zero") else {
+        return Ok(false);
+    };
     let found = shelf.read(&mut buf);
-    before == Ok(0) && missing == Err(Failed) && there == Ok(()) && found == Ok(4)
+    let Ok(()) = shelf.open_book("/dev/null") else {
+        return Ok(false);
+    };
+    let empty = shelf.read(&mut buf);
+    shelf.back();
+    let again = shelf.read(&mut buf);
+    Ok(
+        before == Ok(0)
+            && missing == Err(Failed)
+            && found == Ok(4)
+            && empty == Ok(0)
+            && again == Ok(4),
+    )
 }
 
 #[test]
 fn shelves_and_sinks_answer_and_fail_as_listed(rt: HostRuntime) -> Result<(), Fail> {
     let alloc = rt.alloc();
-    let memory = shelves_answer(alloc)? && sinks_take(alloc)?;
+    let memory = shelves_answer(alloc)? && books_go_on(alloc)? && sinks_take(alloc)?;
     let lines = lines_go_out_in_few_large_pieces(alloc)?;
-    let system = outputs_flush_and_take_at_least_a_byte() && files_open(&rt);
+    let system = outputs_flush_and_take_at_least_a_byte() && files_open(&rt, alloc)?;
     assert!(rt; memory && lines && system);
     Ok(())
 }

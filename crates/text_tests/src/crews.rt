@@ -6,7 +6,7 @@ ghost use Rattle.task_board.specs.Passes.{IsIdle, IsNew, IsOver};
 use crate::passes::{last_pass, pass_back};
 use crate::reports::is_reported;
 use crate::told::{NoGate, Told};
-use board_core::End;
+use board_core::{End, Place};
 use dk_model::{Code, Listed, NoMemory, Verdict};
 use std::alloc::Global;
 use std::process::Abort;
@@ -37,10 +37,10 @@ fn put_all<R: Wait>(
 {
     let [(_, first), (_, second)] = &JOBS;
     if !put_one(rt, alloc, board, &mut reader, *first) {
-        return board.seal(rt, reader, End::Unread);
+        return board.seal(rt, reader, End::Whole);
     }
     if !put_one(rt, alloc, board, &mut reader, *second) {
-        return board.seal(rt, reader, End::Unread);
+        return board.seal(rt, reader, End::Whole);
     }
     board.seal(rt, reader, End::Whole)
 }
@@ -71,7 +71,8 @@ fn titles_of(alloc: Global) -> Result<Titles, NoMemory> {
     let mut titles = Titles::new(alloc);
     for (name, _) in &JOBS {
         let name = Listed::from_slice(alloc, name.as_bytes())?;
-        titles.push(&Title { name, line: 9 })?;
+        let place = Place::in_file(alloc, 9);
+        titles.push(&Title { name, place })?;
     }
     Ok(titles)
 }

@@ -1,4 +1,5 @@
 //! Where reading a file ends, through shelf, lexer, parser and scoping, with its commands counted.
+ghost use Rattle.std.specs.Prelude.{◌<◌, IfOk, Some, length, map};
 
 use dk_io::{Book, MemShelf, Shelf};
 use dk_model::{Code, Fault, Limits, NoMemory};
@@ -8,7 +9,7 @@ use scope_terms::Names;
 use std::alloc::{AllocError, Global};
 use std::test::Fail;
 
-// Takes so many commands, and no other; scopes them if it is told to, up to the first that is
+// Takes so many commands and directives, and no other; scopes them if it is told to, up to the first that is
 // refused.
 #[derive(Drop)]
 struct Counter {
@@ -45,7 +46,9 @@ impl Counter {
 // and the end, where the book was read up to it.
 type Told = (u32, u32, Option<Code>, Option<ReadEnd>);
 
-fn shelf_of(alloc: Global, text: &str, failing: u64) -> Result<MemShelf, Fail> {
+fn shelf_of(alloc: Global, text: &str, failing: u64) -> Result<MemShelf, Fail>
+    ensures { IfOk result (λ s. length (map Some s.aside) < 64) }
+{
     let name = String::from_str(alloc, "f.dk")?;
     let bytes = Vec::from_slice(alloc, text.as_bytes())?;
     let mut books = Vec::new(alloc);
@@ -85,15 +88,17 @@ fn end_of(
     shelf: &mut MemShelf,
     counter: &mut Counter,
     levels: u32,
-) -> Option<ReadEnd> {
+) -> Option<ReadEnd>
+    requires { length (map Some shelf.old.aside) < 64 }
+{
     let mut limits = Limits::standard();
     limits.levels = levels;
     let mut reader = Reader::new(alloc, limits);
     let _opened = shelf.open_book("f.dk");
     'commands: for _command in 0..1_000 {
         match reader.next(alloc, shelf) {
-            Ok(raw) => {
-                if !counter.take(alloc, &raw) {
+            Ok(next) => {
+                if !counter.take(alloc, &next.into_raw()) {
                     return None;
                 }
             }
@@ -138,7 +143,18 @@ fn reads_up_to_the_first_fault(alloc: Global) -> Result<Option<&'static str>, Fa
         ("a : Type.\n\n b\n b.", 1, refused(3, Code::E02)),
         ("a : Type. $", 1, refused(1, Code::E01)),
         (".", 0, refused(1, Code::E02)),
-        ("#NAME m.", 0, refused(1, Code::E06)),
+        ("#CHECK m.", 0, refused(1, Code::E06)),
+        ("#NAME m.\na : Type. #NAME n.", 3, WHOLE),
+        (
+            "#REQUIRE m.\na : m.b.\n\n#REQUIRE",
+            2,
+            refused(4, Code::E03),
+        ),
+        ("#NAME m n.", 0, refused(1, Code::E02)),
+        ("#NAME {|m|}.", 0, refused(1, Code::E02)),
+        ("#REQUIRE m.n.", 0, refused(1, Code::E02)),
+        ("#REQUIRE Type.", 0, refused(1, Code::E02)),
+        ("a : Type. b :\n#NAME m.", 1, refused(1, Code::E02)),
         ("a : Type.\n\nb :\nc defac", 1, refused(3, Code::E06)),
         ("a : Type. m.n : Type.", 1, refused(1, Code::E02)),
         ("a : Type. thm t : a.", 1, refused(1, Code::E02)),

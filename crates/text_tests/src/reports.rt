@@ -4,7 +4,7 @@ ghost use Rattle.std.specs.List.{list_any};
 ghost use Rattle.board_core.specs.Events.{is_seal};
 ghost use Rattle.board_core.specs.Machine.{Holds, HoldsNone, IsFinished, marks_of};
 
-use board_core::{Book, Claimed, End, Task, finished_when_drained};
+use board_core::{Book, Claimed, End, Place, Task, finished_when_drained};
 use dk_io::MemSink;
 use dk_model::{Code, Listed, Verdict};
 use std::alloc::Global;
@@ -13,84 +13,178 @@ use std::sync::Arc;
 use std::test::Fail;
 use verdict_book::{Title, Titles, first_fault, write_report};
 
-// The report, the jobs with the verdict that each is answered with and whether it is settled, the end, and the first fault. Job K
-// stands at line K + 10.
+// How the reader ends, at line 20 of a module's file where it ends at a place.
+enum Ends {
+    Whole,
+    Fault(&'static str, Verdict),
+    Unread(&'static str),
+    Unopened(&'static str),
+    /// Memory ends before anything is begun.
+    Nothing,
+}
+
+// The report with the folder `lib/`, the jobs with the module of each, its name, the verdict that it is answered with and whether
+// it is settled, the end, and the first fault. Job K stands at line K + 10.
 struct Row {
     text: &'static str,
-    jobs: &'static [(&'static str, Verdict, bool)],
-    end: End,
+    jobs: &'static [(&'static str, &'static str, Verdict, bool)],
+    end: Ends,
     fault: Option<(u32, Verdict)>,
 }
 
-const ROWS: [Row; 9] = [
+const ROWS: [Row; 17] = [
     Row {
         text: "accepted 0\n",
         jobs: &[],
-        end: End::Whole,
+        end: Ends::Whole,
         fault: None,
     },
     Row {
         text: "ok 1 a\nok 2 b\naccepted 2\n",
         jobs: &[
-            ("a", Verdict::Accepted, false),
-            ("b", Verdict::Accepted, true),
+            ("", "a", Verdict::Accepted, false),
+            ("", "b", Verdict::Accepted, true),
         ],
-        end: End::Whole,
+        end: Ends::Whole,
         fault: None,
     },
     Row {
         text: "ok 1 a\nrefused 2 line 12 E21\n",
         jobs: &[
-            ("a", Verdict::Accepted, false),
-            ("b", Verdict::Refused(Code::E21), false),
-            ("c", Verdict::Refused(Code::E20), false),
+            ("", "a", Verdict::Accepted, false),
+            ("", "b", Verdict::Refused(Code::E21), false),
+            ("", "c", Verdict::Refused(Code::E20), false),
         ],
-        end: End::Whole,
+        end: Ends::Whole,
         fault: Some((2, Verdict::Refused(Code::E21))),
     },
     Row {
         text: "ok 1 a\nbudget 2 line 12 7\n",
-        jobs: &[("a", Verdict::Accepted, true), ("b", Verdict::Ended, false)],
-        end: End::Unread,
+        jobs: &[
+            ("", "a", Verdict::Accepted, true),
+            ("", "b", Verdict::Ended, false),
+        ],
+        end: Ends::Unread("m"),
         fault: Some((2, Verdict::Ended)),
     },
     Row {
         text: "memory 1 line 11\n",
-        jobs: &[("a", Verdict::Memory, false)],
-        end: End::Fault(20, Verdict::Ended),
+        jobs: &[("", "a", Verdict::Memory, false)],
+        end: Ends::Fault("", Verdict::Ended),
         fault: Some((1, Verdict::Memory)),
     },
     Row {
         text: "ok 1 a\nunread 2\n",
-        jobs: &[("a", Verdict::Accepted, false)],
-        end: End::Unread,
+        jobs: &[("", "a", Verdict::Accepted, false)],
+        end: Ends::Unread(""),
         fault: None,
     },
     Row {
         text: "ok 1 a\nrefused 2 line 20 E02\n",
-        jobs: &[("a", Verdict::Accepted, false)],
-        end: End::Fault(20, Verdict::Refused(Code::E02)),
+        jobs: &[("", "a", Verdict::Accepted, false)],
+        end: Ends::Fault("", Verdict::Refused(Code::E02)),
         fault: Some((2, Verdict::Refused(Code::E02))),
     },
     Row {
         text: "ok 1 a\nmemory 2 line 20\n",
-        jobs: &[("a", Verdict::Accepted, false)],
-        end: End::Fault(20, Verdict::Memory),
+        jobs: &[("", "a", Verdict::Accepted, false)],
+        end: Ends::Fault("", Verdict::Memory),
         fault: Some((2, Verdict::Memory)),
     },
     Row {
         text: "memory 0 line 0\n",
         jobs: &[],
-        end: End::Fault(0, Verdict::Memory),
+        end: Ends::Nothing,
         fault: Some((1, Verdict::Memory)),
     },
+    Row {
+        text: "ok 1 m.a\nok 2 n.{|b|}\nok 3 m.c\nok 4 d\naccepted 4\n",
+        jobs: &[
+            ("m", "a", Verdict::Accepted, false),
+            ("n", "{|b|}", Verdict::Accepted, true),
+            ("m", "c", Verdict::Accepted, false),
+            ("", "d", Verdict::Accepted, false),
+        ],
+        end: Ends::Whole,
+        fault: None,
+    },
+    Row {
+        text: "ok 1 a\nrefused 2 line 12 E21 in lib/m.dk\n",
+        jobs: &[
+            ("", "a", Verdict::Accepted, false),
+            ("m", "b", Verdict::Refused(Code::E21), false),
+            ("", "c", Verdict::Refused(Code::E20), false),
+        ],
+        end: Ends::Unopened("n"),
+        fault: Some((2, Verdict::Refused(Code::E21))),
+    },
+    Row {
+        text: "ok 1 m.a\nbudget 2 line 12 7\n",
+        jobs: &[
+            ("m", "a", Verdict::Accepted, true),
+            ("", "b", Verdict::Ended, false),
+        ],
+        end: Ends::Whole,
+        fault: Some((2, Verdict::Ended)),
+    },
+    Row {
+        text: "memory 1 line 11 in lib/n.dk\n",
+        jobs: &[("n", "a", Verdict::Memory, false)],
+        end: Ends::Whole,
+        fault: Some((1, Verdict::Memory)),
+    },
+    Row {
+        text: "ok 1 a\nunread 2 in lib/m.dk\n",
+        jobs: &[("", "a", Verdict::Accepted, false)],
+        end: Ends::Unread("m"),
+        fault: None,
+    },
+    Row {
+        text: "ok 1 m.a\nunopened lib/n.dk\n",
+        jobs: &[("m", "a", Verdict::Accepted, false)],
+        end: Ends::Unopened("n"),
+        fault: None,
+    },
+    Row {
+        text: "refused 1 line 20 E14 in lib/m.dk\n",
+        jobs: &[],
+        end: Ends::Fault("m", Verdict::Refused(Code::E14)),
+        fault: Some((1, Verdict::Refused(Code::E14))),
+    },
+    Row {
+        text: "ok 1 a\nmemory 2 line 20 in lib/m.dk\n",
+        jobs: &[("", "a", Verdict::Accepted, false)],
+        end: Ends::Fault("m", Verdict::Memory),
+        fault: Some((2, Verdict::Memory)),
+    },
 ];
+
+fn module_of<R: Abort>(rt: &R, alloc: Global, module: &str) -> Listed<u8> {
+    Listed::from_slice(alloc, module.as_bytes()).expect(rt, "memory for a module")
+}
+
+fn place_in<R: Abort>(rt: &R, alloc: Global, module: &str, line: u32) -> Place {
+    Place {
+        line,
+        module: module_of(rt, alloc, module),
+    }
+}
+
+fn end_of<R: Abort>(rt: &R, alloc: Global, end: &Ends) -> End {
+    match end {
+        Ends::Whole => End::Whole,
+        Ends::Fault(module, verdict) => End::Fault(place_in(rt, alloc, module, 20), *verdict),
+        Ends::Unread(module) => End::Unread(place_in(rt, alloc, module, 20)),
+        Ends::Unopened(module) => End::Unopened(module_of(rt, alloc, module)),
+        Ends::Nothing => End::Fault(place_in(rt, alloc, "m", 0), Verdict::Memory),
+    }
+}
 
 // A book with these jobs, which nobody has claimed, and their titles.
 fn put_jobs<R: Abort>(
     rt: &R,
     alloc: Global,
-    jobs: &[(&str, Verdict, bool)],
+    jobs: &[(&str, &str, Verdict, bool)],
     titles: &mut Titles,
 ) -> Book<Verdict>
     ensures unsealed { list_any is_seal result.events ≡ false }
@@ -98,12 +192,13 @@ fn put_jobs<R: Abort>(
 {
     let mut book: Book<Verdict> = Book::new(alloc).expect(rt, "memory for a book");
     let mut line = 11;
-    for (name, verdict, settled) in jobs {
+    for (module, name, verdict, settled) in jobs {
         assert!(rt; line < 100);
         put_job(rt, alloc, &mut book, *verdict, *settled);
         let name = Listed::from_slice(alloc, name.as_bytes()).expect(rt, "memory for a name");
+        let place = place_in(rt, alloc, module, line);
         titles
-            .push(&Title { name, line })
+            .push(&Title { name, place })
             .expect(rt, "memory for a title");
         line += 1;
     }
@@ -192,7 +287,7 @@ pub fn is_reported(
 {
     let mut sink = MemSink::new(alloc, 1000, 7, Vec::new(alloc))?;
     let wrote = titles.len() == book.len()
-        && write_report(book, titles, 7, false, &mut sink).is_ok();
+        && write_report(book, titles, 7, false, "lib/", &mut sink).is_ok();
     Ok(wrote && sink.bytes() == text.as_bytes())
 }
 
@@ -200,7 +295,7 @@ pub fn is_reported(
 fn is_row<R: Abort>(rt: &R, alloc: Global, row: &Row) -> Result<bool, Fail> {
     let mut titles = Titles::new(alloc);
     let mut book = put_jobs(rt, alloc, row.jobs, &mut titles);
-    seal(rt, &mut book, row.end);
+    seal(rt, &mut book, end_of(rt, alloc, &row.end));
     answer_all(rt, &mut book);
     Ok(first_fault(&book) == row.fault && is_reported(alloc, &book, &titles, row.text)?)
 }

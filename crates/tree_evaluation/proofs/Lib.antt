@@ -1,13 +1,10 @@
-pub mod Winding
-mod Turning
-mod Parts
-mod Choosing
-mod Pausing
-mod Through
-mod Trying
-mod Matched
-mod Comparing
-mod Refining
-mod References
-mod Reducing
-mod Listing
+pub mod Arguments
+pub mod Refining
+pub mod Choosing
+pub mod Trying
+pub mod Matched
+pub mod Turning
+pub mod Comparing
+pub mod Parts
+pub mod Listing
+pub mod Reducing

@@ -1,5 +1,5 @@
 -- The reducer over trees: it keeps nothing, and a term stands for itself.
-use Rattle.std.proofs.Common.{ℕ, ◌≡◌, ◌∙◌, ◌+◌, ◌-◌, ◌≤◌, arith, length, List, [], ◌∷◌, map, ap, Some, None, Bool, Result, Ok, Err, refl, sym as flip}
+use Rattle.std.proofs.Common.{ℕ, ◌≡◌, ◌∙◌, ◌-◌, ◌≤◌, arith, length, List, [], ◌∷◌, map, ap, Some, None, Bool, Result, Ok, Err, refl, sym as flip}
 use Rattle.dk_model.specs.Trees.{Tree, tree}
 use Rattle.dk_model.specs.Units.{Units}
 use Rattle.dk_model.specs.declared.term.Term.{Term}
@@ -11,18 +11,18 @@ use Rattle.shared_term.specs.Changes.{from_last}
 use Rattle.shared_term.proofs.Together.{none_missing}
 use Rattle.signature_log.specs.Reducers.{Keeps, Gives, GivesAnswer, Shows, OwnsParts, built}
 use Rattle.tree_evaluation.specs.declared.trees.Trees.{Trees}
-use Rattle.tree_evaluation.specs.Given.{GivesTerm, GivesBool}
+use Rattle.tree_evaluation.specs.Answers.{Answers}
 use Rattle.tree_evaluation.specs.Nodes.{owned, denoted, node_tree}
 
 pub trees_keep : (old new : Trees) → Keeps owned denoted old new
 trees_keep old new = record { own = λ t o. tt; same = λ t o. refl }
 
-pub trees_give : (due : Units Tree) (r : Trees) (result : Result Term Stop) (left : ℕ) → GivesTerm due result left → Gives owned denoted due r result left
+pub trees_give : (due : Units Tree) (r : Trees) (result : Result Term Stop) (left : ℕ) → Answers tree due result left → Gives owned denoted due r result left
 trees_give due r (Ok t) left h = (h, tt)
 trees_give due r (Err Ended) left h = h
 trees_give due r (Err NoMemory) left h = tt
 
-pub trees_answer : (due : Units Bool) (result : Result Bool Stop) (left : ℕ) → GivesBool due result left → GivesAnswer due result left
+pub trees_answer : (due : Units Bool) (result : Result Bool Stop) (left : ℕ) → Answers (λ b. b) due result left → GivesAnswer due result left
 trees_answer due (Ok b) left h = h
 trees_answer due (Err Ended) left h = h
 trees_answer due (Err NoMemory) left h = tt

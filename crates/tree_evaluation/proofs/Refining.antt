@@ -1,159 +1,116 @@
 -- The cells of a row, before and after a column has a value.
-use Rattle.std.proofs.Common.{List, [], ◌∷◌, ◌++◌, ◌≡◌, ◌+◌, ◌<◌, ℕ, zero, suc, Option, Some, None, Bool, true, false, map, take, drop, get_or, append_assoc, refl, ap, ◌∙◌, sym as flip, arith}
-use Rattle.std.proofs.lemmas.List.{map-append, length-map, take-map, drop-map, drop_more}
-use Rattle.std.specs.Prelude.{eqb, ◌&&◌, length, if◌then◌else◌}
-use Rattle.dk_model.specs.Trees.{Tree, symbol, variable}
-use Rattle.dk_model.specs.Signatures.{Pattern, Patterns, rule_variable_pattern, wildcard_pattern, guard_pattern, symbol_pattern, variable_pattern, abstraction_pattern, pattern_list, patterns_by, PlainRule}
+use Rattle.std.proofs.Common.{List, [], ◌∷◌, ◌++◌, ◌≡◌, ◌+◌, ◌-◌, ℕ, Option, Some, None, Bool, true, false, map, append_assoc, refl, ap, ◌∙◌, sym as flip}
+use Rattle.std.proofs.lemmas.List.{map-append, length-map, take-map, drop-map}
+use Rattle.std.specs.Option.{option_map}
+use Rattle.std.specs.Prelude.{eqb, ◌&&◌, length, take, drop, replicate, if◌then◌else◌}
+use Rattle.dk_model.specs.Trees.{Tree, bare, symbol, variable}
+use Rattle.dk_model.specs.Signatures.{Pattern, pattern, patterns, pattern_list}
 use Rattle.dk_model.specs.Spines.{head, arguments}
-use Rattle.dk_model.specs.Matrix.{blank, cell, cell_at, is_rigid, rigid_at, refined_cells, refined_rows, heads_same}
-use Rattle.dk_model.specs.Matrix.{Cell as PlainCell, Row as PlainRow}
+use Rattle.dk_model.specs.Matrix.{blank, cell, cell_at, refined_cells, refined_rows, heads_same, opened_columns}
+use Rattle.dk_model.specs.Matrix.{Cell as PlainCell, Column as PlainColumn, Row as PlainRow}
+use Rattle.dk_model.specs.declared.term.Term.{Term}
 use Rattle.dk_model.specs.declared.signature.Pat.{Pat, Row_of-Pat, end_of-Pat, more_of-Pat, items-the_row-Pat}
 use Rattle.dk_model.specs.declared.signature.Pat.TheVariants.{Sym, Var}
 use Rattle.dk_model.specs.declared.signature.Pat.TheBlock.{hidden-the_row-Pat-0, items_hidden-the_row-Pat-0}
-use Rattle.shared_term.specs.Storage.{stored_term}
-use Rattle.shared_term.specs.declared.stored.Stored.{Stored}
+use Rattle.tree_evaluation.specs.Matrix.{pattern_cell, plain_cell, row, part_count, cells_if, refined_row}
 use Rattle.tree_evaluation.specs.declared.matrix.Cell.{Cell}
-use Rattle.tree_evaluation.specs.declared.matrix.Cell.TheVariants.{Blank}
-use Rattle.tree_evaluation.specs.Rules.{stored_pattern}
-use Rattle.tree_evaluation.specs.Matrix.{pattern_cell, plain_cell, row, is_kept, cells_after, cells_when_kept}
 use Rattle.tree_evaluation.specs.declared.matrix.Row.{Row}
-use Rattle.dk_model.specs.declared.term.Term.{Term}
 
 -- the patterns below a symbol
 
-abbrev stored_patterns : {m : _} → Row_of-Pat Stored m → Patterns
-stored_patterns = patterns_by stored_term
-
-pub each_cell : (ps : List (Pat Stored)) → map cell (map stored_pattern ps) ≡ map pattern_cell ps
+pub each_cell : (ps : List (Pat Term)) → map cell (map pattern ps) ≡ map pattern_cell ps
 each_cell [] = refl
 each_cell (p ∷ ps) = ap (λ (l : List PlainCell). pattern_cell p ∷ l) (each_cell ps)
 
-row_items : (n : _) (r : Row_of-Pat Stored n) → pattern_list (stored_patterns r) ≡ map stored_pattern (items-the_row-Pat Stored n r)
+pub first_are : (ps : List (Pat Term)) (w : ℕ) → map pattern_cell ps ++ replicate (w - length ps) blank ≡ map cell (map pattern ps) ++ replicate (w - length (map pattern ps)) blank
+first_are ps w =
+    ap (λ (l : List PlainCell). l ++ replicate (w - length ps) blank) (flip (each_cell ps))
+    ∙ ap (λ (m : ℕ). map cell (map pattern ps) ++ replicate (w - m) blank) (flip (length-map ps pattern))
+
+row_items : (n : _) (r : Row_of-Pat Term n) → pattern_list (patterns r) ≡ map pattern (items-the_row-Pat Term n r)
 row_items n end_of-Pat = refl
-row_items n (more_of-Pat p r) = ap (λ (l : List Pattern). stored_pattern p ∷ l) (row_items _ r)
+row_items n (more_of-Pat p r) = ap (λ (l : List Pattern). pattern p ∷ l) (row_items _ r)
 
-listed : (ps : List (Pat Stored)) → pattern_list (stored_patterns (hidden-the_row-Pat-0 Stored ps)) ≡ map stored_pattern ps
-listed ps = row_items _ (hidden-the_row-Pat-0 Stored ps) ∙ ap (map stored_pattern) (items_hidden-the_row-Pat-0 Stored ps)
+listed : (ps : List (Pat Term)) → pattern_list (patterns (hidden-the_row-Pat-0 Term ps)) ≡ map pattern ps
+listed ps = row_items _ (hidden-the_row-Pat-0 Term ps) ∙ ap (map pattern) (items_hidden-the_row-Pat-0 Term ps)
 
-listed_cells : (ps : List (Pat Stored)) → map cell (pattern_list (stored_patterns (hidden-the_row-Pat-0 Stored ps))) ≡ map pattern_cell ps
-listed_cells ps = ap (map cell) (listed ps) ∙ each_cell ps
+-- the cells for a value and its parts, by the pattern for it
 
--- what its head takes, and what it asks of the parts
+pub parts_counted : (d : ℕ) (v : Tree) → length (opened_columns d v) ≡ part_count v
+parts_counted d (bare b) = refl
+parts_counted d v = length-map {B = PlainColumn} (arguments v) (λ a. record { depth = d; term = a })
 
-module _ (v h : Tree) (p : Pat Stored) (k n : ℕ) (ps : List (Pat Stored)) (at_head : h ≡ head v) (counted : n ≡ length (arguments v)) where
-  same_count : eqb n (length ps) ≡ eqb (length (arguments v)) (length (pattern_list (stored_patterns (hidden-the_row-Pat-0 Stored ps))))
-  same_count = rw (listed ps, length-map ps stored_pattern) (ap (λ (m : ℕ). eqb m (length ps)) counted)
+symbol_counted : (v : Tree) (k n m : ℕ) → n ≡ part_count v → (heads_same (head v) (symbol k) && eqb (length (arguments v)) m) ≡ (heads_same (head v) (symbol k) && eqb n m)
+symbol_counted (bare b) k n m e = refl
+symbol_counted v k n m e = ap (λ (j : ℕ). heads_same (head v) (symbol k) && eqb j m) (flip e)
 
-  pub takes_symbol : p ≡ Sym k ps → heads_same h (symbol k) ≡ true → eqb n (length ps) ≡ is_kept v (cell (stored_pattern p))
-  takes_symbol e q =
-      let same : heads_same (head v) (symbol k) ≡ true = ap (λ (t : Tree). heads_same t (symbol k)) (flip at_head) ∙ q in
-      same_count ∙ flip (ap (λ (x : Pat Stored). is_kept v (cell (stored_pattern x))) e ∙ ap (λ (b : Bool). b && eqb (length (arguments v)) (length (pattern_list (stored_patterns (hidden-the_row-Pat-0 Stored ps))))) same)
+variable_counted : (v : Tree) (k n m : ℕ) → n ≡ part_count v → (heads_same (head v) (variable k) && eqb (length (arguments v)) m) ≡ (heads_same (head v) (variable k) && eqb n m)
+variable_counted (bare b) k n m e = refl
+variable_counted v k n m e = ap (λ (j : ℕ). heads_same (head v) (variable k) && eqb j m) (flip e)
 
-  pub takes_variable : p ≡ Var k ps → heads_same h (variable k) ≡ true → eqb n (length ps) ≡ is_kept v (cell (stored_pattern p))
-  takes_variable e q =
-      let same : heads_same (head v) (variable k) ≡ true = ap (λ (t : Tree). heads_same t (variable k)) (flip at_head) ∙ q in
-      same_count ∙ flip (ap (λ (x : Pat Stored). is_kept v (cell (stored_pattern x))) e ∙ ap (λ (b : Bool). b && eqb (length (arguments v)) (length (pattern_list (stored_patterns (hidden-the_row-Pat-0 Stored ps))))) same)
+module _ (v : Tree) (n k : ℕ) (p : Pat Term) (ps : List (Pat Term)) (counted : n ≡ part_count v) where
+  abbrev parts_if : Bool → List Pattern → Option (List PlainCell)
+  parts_if b l = if b then Some (blank ∷ map cell l) else None
 
-module _ (old new : List PlainCell) (p : Pat Stored) (n k : ℕ) (ps : List (Pat Stored)) (parts : new ≡ old ++ blank ∷ map pattern_cell ps) where
-  pub after_symbol : p ≡ Sym k ps → new ≡ old ++ cells_after n (cell (stored_pattern p))
-  after_symbol e = parts ∙ ap (λ (l : List PlainCell). old ++ blank ∷ l) (flip (listed_cells ps)) ∙ flip (ap (λ (x : Pat Stored). old ++ cells_after n (cell (stored_pattern x))) e)
+  listed_so : (b : Bool) → parts_if b (map pattern ps) ≡ cells_if (map pattern_cell ps) b
+  listed_so true = ap (λ (l : List PlainCell). Some (blank ∷ l)) (each_cell ps)
+  listed_so false = refl
 
-  pub after_variable : p ≡ Var k ps → new ≡ old ++ cells_after n (cell (stored_pattern p))
-  after_variable e = parts ∙ ap (λ (l : List PlainCell). old ++ blank ∷ l) (flip (listed_cells ps)) ∙ flip (ap (λ (x : Pat Stored). old ++ cells_after n (cell (stored_pattern x))) e)
+  pub symbol_parts : p ≡ Sym k ps → refined_cells v n (cell (pattern p)) ≡ cells_if (map pattern_cell ps) (heads_same (head v) (symbol k) && eqb n (length ps))
+  symbol_parts e =
+      ap (λ (x : Pat Term). refined_cells v n (cell (pattern x))) e
+      ∙ ap (λ (l : List Pattern). parts_if (heads_same (head v) (symbol k) && eqb (length (arguments v)) (length l)) l) (listed ps)
+      ∙ listed_so (heads_same (head v) (symbol k) && eqb (length (arguments v)) (length (map pattern ps)))
+      ∙ ap (λ (m : ℕ). cells_if (map pattern_cell ps) (heads_same (head v) (symbol k) && eqb (length (arguments v)) m)) (length-map ps pattern)
+      ∙ ap (cells_if (map pattern_cell ps)) (symbol_counted v k n (length ps) counted)
 
--- the cell at a place
-
-pub cell_found : (cs : List Cell) (i : ℕ) → cell_at (map plain_cell cs) i ≡ plain_cell (get_or cs i Blank)
-cell_found [] i = refl
-cell_found (x ∷ cs) zero = refl
-cell_found (x ∷ cs) (suc i) = cell_found cs i
-
--- the first rigid cell, `i` cells on
-
-abbrev pub from_place : ℕ → Option ℕ → Option ℕ
-from_place i None = None
-from_place i (Some j) = Some (j + i)
-
-one_on : (i : ℕ) (o : Option ℕ) → from_place i (elim o [ None ↦ None | Some j ↦ Some (j + 1) ]) ≡ from_place (i + 1) o
-one_on i None = refl
-one_on i (Some j) = ap (λ (n : ℕ). Some n) (omega arith)
-
-first_rigid : (c : PlainCell) (cs : List PlainCell) (i : ℕ) → is_rigid c ≡ true → from_place i (rigid_at (c ∷ cs)) ≡ Some i
-first_rigid c cs i e = rw e (ap (λ (n : ℕ). Some n) (omega arith))
-
-first_loose : (c : PlainCell) (cs : List PlainCell) (i : ℕ) → is_rigid c ≡ false → from_place i (rigid_at (c ∷ cs)) ≡ from_place (i + 1) (rigid_at cs)
-first_loose c cs i e = rw e (one_on i (rigid_at cs))
-
-pub rigid_here : (cs : List Cell) (i : ℕ) (d : Cell) → i < length cs → is_rigid (plain_cell (get_or cs i d)) ≡ true
-    → from_place i (rigid_at (map plain_cell (drop i cs))) ≡ Some i
-rigid_here cs i d lt e = rw (drop_more cs i d lt) (first_rigid (plain_cell (get_or cs i d)) (map plain_cell (drop (i + 1) cs)) i e)
-
-pub rigid_later : (cs : List Cell) (i : ℕ) (d : Cell) → i < length cs → is_rigid (plain_cell (get_or cs i d)) ≡ false
-    → from_place i (rigid_at (map plain_cell (drop i cs))) ≡ from_place (i + 1) (rigid_at (map plain_cell (drop (i + 1) cs)))
-rigid_later cs i d lt e = rw (drop_more cs i d lt) (first_loose (plain_cell (get_or cs i d)) (map plain_cell (drop (i + 1) cs)) i e)
-
--- the cells around it
-
-pub cells_joined : (all xs ys zs : List Cell) (mid : List PlainCell) (i : ℕ) → xs ≡ take i all → map plain_cell ys ≡ map plain_cell xs ++ mid → zs ≡ ys ++ drop (i + 1) all
-    → map plain_cell zs ≡ take i (map plain_cell all) ++ mid ++ drop (i + 1) (map plain_cell all)
-cells_joined all xs ys zs mid i e q r =
-    let start : map plain_cell xs ≡ take i (map plain_cell all) = ap (map plain_cell) e ∙ flip (take-map plain_cell i all) in
-    let rest : map plain_cell (drop (i + 1) all) ≡ drop (i + 1) (map plain_cell all) = flip (drop-map plain_cell (i + 1) all) in
-    ap (map plain_cell) r ∙ map-append plain_cell ys (drop (i + 1) all)
-    ∙ ap (λ (l : List PlainCell). l ++ map plain_cell (drop (i + 1) all)) (q ∙ ap (λ (l : List PlainCell). l ++ mid) start)
-    ∙ ap (λ (l : List PlainCell). take i (map plain_cell all) ++ mid ++ l) rest
-
--- a row is kept where its cell is
-
-refined_when : (v : Tree) (n : ℕ) (c : PlainCell) → refined_cells v n c ≡ (if is_kept v c then Some (cells_after n c) else None)
-refined_when v n blank = refl
-refined_when v n (cell (rule_variable_pattern k xs)) = refl
-refined_when v n (cell wildcard_pattern) = refl
-refined_when v n (cell (guard_pattern g)) = refl
-refined_when v n (cell (symbol_pattern k ps)) = refl
-refined_when v n (cell (variable_pattern k ps)) = refl
-refined_when v n (cell (abstraction_pattern p)) = refl
-
-kept : (v : Tree) (n : ℕ) (c : PlainCell) → is_kept v c ≡ true → refined_cells v n c ≡ Some (cells_after n c)
-kept v n c e = refined_when v n c ∙ ap (λ (b : Bool). if b then Some (cells_after n c) else None) e
-
-dropped : (v : Tree) (n : ℕ) (c : PlainCell) → is_kept v c ≡ false → refined_cells v n c ≡ None
-dropped v n c e = refined_when v n c ∙ ap (λ (b : Bool). if b then Some (cells_after n c) else None) e
-
-module _ (v : Tree) (n i : ℕ) (r : PlainRow) (rs : List PlainRow) where
-  abbrev with_cells : Option (List PlainCell) → List PlainRow
-  with_cells o = elim o [ None ↦ refined_rows v n i rs | Some cs ↦ record { cells = take i r.cells ++ cs ++ drop (i + 1) r.cells; rule = r.rule } ∷ refined_rows v n i rs ]
-
-  pub row_kept : is_kept v (cell_at r.cells i) ≡ true
-      → refined_rows v n i (r ∷ rs) ≡ record { cells = take i r.cells ++ cells_after n (cell_at r.cells i) ++ drop (i + 1) r.cells; rule = r.rule } ∷ refined_rows v n i rs
-  row_kept e = ap with_cells (kept v n (cell_at r.cells i) e)
-
-  pub row_dropped : is_kept v (cell_at r.cells i) ≡ false → refined_rows v n i (r ∷ rs) ≡ refined_rows v n i rs
-  row_dropped e = ap with_cells (dropped v n (cell_at r.cells i) e)
+  pub variable_parts : p ≡ Var k ps → refined_cells v n (cell (pattern p)) ≡ cells_if (map pattern_cell ps) (heads_same (head v) (variable k) && eqb n (length ps))
+  variable_parts e =
+      ap (λ (x : Pat Term). refined_cells v n (cell (pattern x))) e
+      ∙ ap (λ (l : List Pattern). parts_if (heads_same (head v) (variable k) && eqb (length (arguments v)) (length l)) l) (listed ps)
+      ∙ listed_so (heads_same (head v) (variable k) && eqb (length (arguments v)) (length (map pattern ps)))
+      ∙ ap (λ (m : ℕ). cells_if (map pattern_cell ps) (heads_same (head v) (variable k) && eqb (length (arguments v)) m)) (length-map ps pattern)
+      ∙ ap (cells_if (map pattern_cell ps)) (variable_counted v k n (length ps) counted)
 
 -- a row further
 
-row_is : (r : Row) (cells : List PlainCell) (rule : PlainRule) → (row r).cells ≡ cells → (row r).rule ≡ rule → row r ≡ record { cells = cells; rule = rule }
-row_is r cells rule e q = λ i. record { cells = e i; rule = q i }
+module _ (v : Tree) (n i : ℕ) where
+  with_row : (o : Option (List PlainCell)) (r : PlainRow) (rs : List PlainRow) → elim o as (λ _. List PlainRow) [
+    | None ↦ rs
+    | Some cs ↦ record { cells = take i r.cells ++ cs ++ drop (i + 1) r.cells; rule = r.rule } ∷ rs
+  ] ≡ elim (elim o as (λ _. Option PlainRow) [ None ↦ None | Some cs ↦ Some (record { cells = take i r.cells ++ cs ++ drop (i + 1) r.cells; rule = r.rule }) ]) as (λ _. List PlainRow) [ None ↦ rs | Some x ↦ x ∷ rs ]
+  with_row None r rs = refl
+  with_row (Some cs) r rs = refl
 
-module _ (v : Tree) (n i j : ℕ) (rows kept : List Row) (x : Row) (all : List PlainRow) (lt : j < length rows) (at : x ≡ get_or rows j x)
-    (h : map row kept ++ refined_rows v n i (map row (drop j rows)) ≡ all) where
-  abbrev rest : List PlainRow
-  rest = map row (drop (j + 1) rows)
+  module _ (all : List PlainRow) (kept rows rows' : List Row) (x : Row) (first : rows ≡ x ∷ rows') (h : map row kept ++ refined_rows v n i (map row rows) ≡ all) where
+    abbrev before_rest : Option PlainRow → List PlainRow
+    before_rest o = map row kept ++ elim o as (λ _. List PlainRow) [ None ↦ refined_rows v n i (map row rows') | Some y ↦ y ∷ refined_rows v n i (map row rows') ]
 
-  next : map row (drop j rows) ≡ row x ∷ rest
-  next = ap (map row) (drop_more rows j x lt) ∙ ap (λ (y : Row). row y ∷ rest) (flip at)
+    opened : before_rest (refined_row v n i (row x)) ≡ all
+    opened = flip (ap (λ (l : List Row). map row kept ++ refined_rows v n i (map row l)) first
+        ∙ ap (λ (l : List PlainRow). map row kept ++ l) (with_row (refined_cells v n (cell_at (row x).cells i)) (row x) (refined_rows v n i (map row rows')))) ∙ h
 
-  pub dropped_here : is_kept v (cell_at (row x).cells i) ≡ false → map row kept ++ refined_rows v n i (map row (drop (j + 1) rows)) ≡ all
-  dropped_here e = ap (λ (l : List PlainRow). map row kept ++ l) (flip (ap (refined_rows v n i) next ∙ row_dropped v n i (row x) rest e)) ∙ h
+    pub passed_on : refined_row v n i (row x) ≡ None → map row kept ++ refined_rows v n i (map row rows') ≡ all
+    passed_on e = flip (ap before_rest e) ∙ opened
 
-  pub kept_here : (y : Row) (new : List Row) → is_kept v (cell_at (row x).cells i) ≡ true → (row y).cells ≡ cells_when_kept n i (row x).cells → (row y).rule ≡ (row x).rule
-      → new ≡ kept ++ (y ∷ []) → map row new ++ refined_rows v n i (map row (drop (j + 1) rows)) ≡ all
-  kept_here y new e c r p =
-      ap (λ (l : List Row). map row l ++ refined_rows v n i rest) p
-      ∙ ap (λ (l : List PlainRow). l ++ refined_rows v n i rest) (map-append row kept (y ∷ []))
-      ∙ append_assoc (map row kept) (row y ∷ []) (refined_rows v n i rest)
-      ∙ ap (λ (l : List PlainRow). map row kept ++ l)
-      (ap (λ (z : PlainRow). z ∷ refined_rows v n i rest) (row_is y (cells_when_kept n i (row x).cells) (row x).rule c r)
-      ∙ flip (ap (refined_rows v n i) next ∙ row_kept v n i (row x) rest e))
-      ∙ h
+    pub kept_on : (y : Row) (new : List Row) → refined_row v n i (row x) ≡ Some (row y) → new ≡ kept ++ (y ∷ []) → map row new ++ refined_rows v n i (map row rows') ≡ all
+    kept_on y new e q =
+        ap (λ (l : List Row). map row l ++ refined_rows v n i (map row rows')) q
+        ∙ ap (λ (l : List PlainRow). l ++ refined_rows v n i (map row rows')) (map-append row kept (y ∷ []))
+        ∙ append_assoc (map row kept) (row y ∷ []) (refined_rows v n i (map row rows'))
+        ∙ flip (ap before_rest e) ∙ opened
+
+-- a row whose column has its value
+
+pub cells_joined : (all front parts new : List Cell) (i : ℕ) → front ≡ take i all → new ≡ front ++ parts ++ drop (i + 1) all
+    → map plain_cell new ≡ take i (map plain_cell all) ++ map plain_cell parts ++ drop (i + 1) (map plain_cell all)
+cells_joined all front parts new i e q =
+    ap (map plain_cell) q ∙ map-append plain_cell (front ++ parts) (drop (i + 1) all)
+    ∙ ap (λ (l : List PlainCell). l ++ map plain_cell (drop (i + 1) all)) (map-append plain_cell front parts ∙ ap (λ (l : List PlainCell). l ++ map plain_cell parts) (ap (map plain_cell) e ∙ flip (take-map plain_cell i all)))
+    ∙ ap (λ (l : List PlainCell). take i (map plain_cell all) ++ map plain_cell parts ++ l) (flip (drop-map plain_cell (i + 1) all))
+
+pub row_joined : (v : Tree) (n i : ℕ) (r : PlainRow) (cells parts : List PlainCell) → cells ≡ take i r.cells ++ parts ++ drop (i + 1) r.cells → refined_cells v n (cell_at r.cells i) ≡ Some parts
+    → Some (record { cells = cells; rule = r.rule }) ≡ refined_row v n i r
+row_joined v n i r cells parts e q =
+    ap (λ (l : List PlainCell). Some (record { cells = l; rule = r.rule })) e
+    ∙ flip (ap (option_map (λ (l : List PlainCell). record { cells = take i r.cells ++ l ++ drop (i + 1) r.cells; rule = r.rule })) q)

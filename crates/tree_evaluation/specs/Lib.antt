@@ -1,11 +1,4 @@
-pub mod Machine
-pub mod Given
-pub mod Pending
-pub mod Spine
-pub mod Rules
-pub mod Matrix
-pub mod Pausing
-pub mod Turning
-pub mod Selecting
-pub mod Clauses
 pub mod Nodes
+pub mod Matrix
+pub mod Answers
+pub mod Clauses

@@ -2,6 +2,7 @@
 ghost use Rattle.std.specs.Prelude.{◌≡◌, ◌+◌, IfOk, MatchOption, Some, None};
 ghost use Rattle.dk_model.specs.Trees.{tree};
 ghost use Rattle.dk_model.specs.Captures.{is_in, index_of, mentions_others, renamed, abstracted, captured, capture_at, filled};
+ghost use Rattle.dk_model.specs.Bindings.{mentions_rule_variable, is_closed_at, may_bind};
 ghost use Rattle.tree_evaluation.specs.Matrix.{captures_of};
 
 use dk_model::{NoMemory, Term, make_annotated, make_app, make_bare, make_product};
@@ -182,4 +183,46 @@ pub fn filled(
             filled(alloc, captures, next(under)?, b)?,
         ),
     }
+}
+
+/// Whether the rule variable stands in the term.
+fn mentions_rule_variable(number: u32, term: &Term) -> bool
+    ensures { result ≡ mentions_rule_variable number (tree term.now) }
+{
+    match term {
+        Term::Star => false,
+        Term::Kind => false,
+        Term::Sym(_) => false,
+        Term::Var(_) => false,
+        Term::Rvar(k) => *k == number,
+        Term::App(f, a) => mentions_rule_variable(number, f) || mentions_rule_variable(number, a),
+        Term::Abs(None, b) => mentions_rule_variable(number, b),
+        Term::Abs(Some(n), b) => mentions_rule_variable(number, n)
+            || mentions_rule_variable(number, b),
+        Term::Prod(a, b) => mentions_rule_variable(number, a) || mentions_rule_variable(number, b),
+    }
+}
+
+/// Whether the term, under `under` binders of its own, mentions no variable but those that are bound in it.
+fn is_closed(under: u64, term: &Term) -> Result<bool, NoMemory>
+    ensures { IfOk result (λ b. b ≡ is_closed_at under (tree term.now)) }
+{
+    match term {
+        Term::Star => Ok(true),
+        Term::Kind => Ok(true),
+        Term::Sym(_) => Ok(true),
+        Term::Var(k) => Ok(*k < under),
+        Term::Rvar(_) => Ok(true),
+        Term::App(f, a) => Ok(is_closed(under, f)? && is_closed(under, a)?),
+        Term::Abs(None, b) => is_closed(next(under)?, b),
+        Term::Abs(Some(n), b) => Ok(is_closed(under, n)? && is_closed(next(under)?, b)?),
+        Term::Prod(a, b) => Ok(is_closed(under, a)? && is_closed(next(under)?, b)?),
+    }
+}
+
+/// Whether the rule variable may be bound to the term.
+pub fn may_bind(number: u32, term: &Term) -> Result<bool, NoMemory>
+    ensures { IfOk result (λ b. b ≡ may_bind number (tree term.now)) }
+{
+    Ok(!mentions_rule_variable(number, term) && is_closed(0, term)?)
 }

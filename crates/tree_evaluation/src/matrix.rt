@@ -1,27 +1,24 @@
-//! The matrix of a selection: the rules of a symbol as rows of cells, over columns of terms.
-//!
-//! A row is a rule with what it still asks of each column. Where a column gets a value, the rows that its head rules out
-//! are dropped, and the others ask of its parts what their patterns ask.
-ghost use Rattle.std.specs.Prelude.{◌≡◌, ◌+◌, ◌<◌, [], ◌∷◌, IfOk, IfSome, length, map, take, drop, replicate};
-ghost use Rattle.dk_model.specs.Trees.{tree, symbol, variable};
-ghost use Rattle.dk_model.specs.Spines.{head as head_of, arguments};
-ghost use Rattle.dk_model.specs.Matrix.{blank, cell, is_rigid, rigid_at, heads_same, is_bare, cell_at, first_cells, refined_rows, width, rows_for};
-ghost use Rattle.tree_evaluation.specs.Rules.{plain_rule_of};
-ghost use Rattle.tree_evaluation.specs.Matrix.{pattern_cell, plain_cell, row as row_of, is_kept, cells_after, cells_when_kept, Appends};
+//! The matrix of a selection: a row for each rule, a column for each part of the arguments (docs/evaluation.md).
+ghost use Rattle.std.specs.Prelude.{◌&&◌, eqb, ◌≡◌, ◌+◌, ◌<◌, ◌++◌, [], ◌∷◌, IfOk, IfSome, length, map, take, drop, replicate};
+ghost use Rattle.std.specs.Option.{option_map};
+ghost use Rattle.dk_model.specs.Trees.{tree, symbol as symbol_tree, variable as variable_tree};
+ghost use Rattle.dk_model.specs.Signatures.{plain_rule};
+ghost use Rattle.dk_model.specs.Spines.{head, arguments};
+ghost use Rattle.dk_model.specs.Matrix.{blank, is_rigid, rigid_at, cell_at, is_bare, heads_same, first_cells, opened_columns, refined_cells, refined_rows, width, rows_for};
+ghost use Rattle.tree_evaluation.specs.Matrix.{pattern_cell, plain_cell, plain_cells, column, row as row_of, part_count, cells_if, refined_row};
 
-use crate::rules::SymbolRule;
-use crate::spines::spine;
-use dk_model::{NoMemory, Pat, Term};
-use shared_term::Stored;
+use crate::spines::{is_symbol, is_variable};
+use dk_model::{NoMemory, Pat, Rule, Term};
 use std::alloc::Global;
+use std::collections::LinkedList;
 
 /// What a row asks of a column.
 #[derive(Clone, Copy)]
-pub enum Cell<'v> {
+pub enum Cell<'r> {
     /// Nothing.
     Blank,
     /// That the column's term matches the pattern.
-    Pattern(&'v Pat<Stored>),
+    Pattern(&'r Pat),
 }
 
 /// A part of the arguments.
@@ -34,22 +31,80 @@ pub struct Column {
 
 /// A rule with what it still asks of each column.
 #[derive(Drop)]
-pub struct Row<'v> {
-    pub cells: Vec<Cell<'v>>,
-    pub rule: SymbolRule<'v>,
+pub struct Row<'r> {
+    pub cells: Vec<Cell<'r>>,
+    pub rule: &'r Rule,
 }
 
-/// The matrix of a symbol: its rules over its arguments.
-#[derive(Drop)]
-pub struct Matrix<'v> {
-    pub symbol: u32,
-    pub columns: Vec<Column>,
-    pub rows: Vec<Row<'v>>,
+/// How many columns the rules of at most `count` patterns need.
+pub fn width(count: usize, rules: &[Rule]) -> usize
+    ensures { result ≡ width count (map plain_rule rules.now) }
+{
+    let mut width = 0;
+    for rule in rules {
+        let patterns = rule.pats.len();
+        if patterns <= count && width < patterns {
+            width = patterns;
+        }
+    }
+    width
 }
 
-/// Whether a cell asks for the head of its column.
-fn is_rigid(cell: &Cell) -> bool
-    ensures { result ≡ is_rigid (plain_cell cell.now) }
+/// A row for each rule of at most `count` patterns.
+pub fn rows_for<'r>(
+    alloc: Global,
+    count: usize,
+    width: usize,
+    rules: &'r [Rule],
+) -> Result<LinkedList<Row<'r>>, NoMemory>
+    ensures { IfOk result (λ rows. map row_of rows ≡ rows_for count width (map plain_rule
+        rules.now)) }
+{
+    let mut rows = LinkedList::new(alloc);
+    for rule in rules {
+        if rule.pats.len() <= count {
+            rows.push_back(row_for(alloc, width, rule)?)?;
+        }
+    }
+    Ok(rows)
+}
+
+/// A rule's patterns, and nothing for the columns that are left of the `width`.
+#[tactic(auto, using(crate::proofs::Refining::first_are))]
+fn row_for<'r>(alloc: Global, width: usize, rule: &'r Rule) -> Result<Row<'r>, NoMemory>
+    ensures cells { IfOk result (λ r. (row_of r).cells ≡ first_cells width (plain_rule rule.now)) }
+    ensures rule { IfOk result (λ r. r.rule.now ≡ rule.now) }
+{
+    let mut cells = Vec::new(alloc);
+    push_patterns(&mut cells, rule.pats.as_slice())?;
+    push_blanks(&mut cells, width.saturating_sub(rule.pats.len()))?;
+    Ok(Row { cells, rule })
+}
+
+/// A cell for each pattern.
+fn push_patterns<'r>(cells: &mut Vec<Cell<'r>>, patterns: &'r [Pat]) -> Result<(), NoMemory>
+    ensures { IfOk result (λ _. plain_cells cells.new.items
+        ≡ plain_cells cells.old.items ++ map pattern_cell patterns.now) }
+{
+    for pattern in patterns {
+        cells.push(Cell::Pattern(pattern))?;
+    }
+    Ok(())
+}
+
+/// Cells that ask for nothing.
+fn push_blanks(cells: &mut Vec<Cell>, count: usize) -> Result<(), NoMemory>
+    ensures { IfOk result (λ _. plain_cells cells.new.items
+        ≡ plain_cells cells.old.items ++ replicate count blank) }
+{
+    for _i in 0..count {
+        cells.push(Cell::Blank)?;
+    }
+    Ok(())
+}
+
+fn is_rigid(cell: Cell) -> bool
+    ensures { result ≡ is_rigid (plain_cell cell.entry) }
 {
     match cell {
         Cell::Blank => false,
@@ -65,32 +120,89 @@ fn is_rigid(cell: &Cell) -> bool
 }
 
 /// The place of the first cell that asks for the head of its column.
-#[tactic(auto, using(crate::proofs::Refining::rigid_here, crate::proofs::Refining::rigid_later))]
 pub fn rigid_at(cells: &[Cell]) -> Option<usize>
-    ensures value { result ≡ rigid_at (map plain_cell cells.now) }
+    ensures value { result ≡ rigid_at (plain_cells cells.now) }
     ensures within { IfSome result (λ i. i < length cells.now) }
 {
-    for at in 0..cells.len() {
-        if is_rigid(&cells[at]) {
-            return Some(at);
-        }
+    let [cell, rest @ ..] = cells else {
+        return None;
+    };
+    if is_rigid(*cell) {
+        return Some(0);
     }
-    None
+    match rigid_at(rest) {
+        Some(at) => Some(at + 1),
+        None => None,
+    }
+}
+
+/// A column at this depth for each argument of a term.
+#[tactic(auto, using(crate::proofs::Arguments::column_pushed))]
+pub fn argument_columns(
+    alloc: Global,
+    depth: u64,
+    term: &Term,
+) -> Result<LinkedList<Column>, NoMemory>
+    ensures { IfOk result (λ cs. map column cs ≡ map (λ a. record { depth = depth; term = a })
+        (arguments (tree term.now))) }
+{
+    let Term::App(f, a) = term else {
+        return Ok(LinkedList::new(alloc));
+    };
+    let mut columns = argument_columns(alloc, depth, f)?;
+    columns.push_back(Column {
+        depth,
+        term: a.copy(alloc)?,
+    })?;
+    Ok(columns)
+}
+
+/// The columns that a value opens: its body under one more variable, or its arguments.
+pub fn opened_columns(
+    alloc: Global,
+    depth: u64,
+    value: &Term,
+) -> Result<LinkedList<Column>, NoMemory>
+    ensures { IfOk result (λ cs. map column cs ≡ opened_columns depth (tree value.now)) }
+{
+    match value {
+        Term::Abs(None, body) => body_column(alloc, depth, body),
+        other => argument_columns(alloc, depth, other),
+    }
+}
+
+/// A column for the body of an abstraction at this depth.
+fn body_column(alloc: Global, depth: u64, body: &Term) -> Result<LinkedList<Column>, NoMemory>
+    ensures { IfOk result (λ cs. map column cs ≡ record { depth = depth + 1; term = tree body.now }
+        ∷ []) }
+{
+    let Some(depth) = depth.checked_add(1) else {
+        return Err(NoMemory);
+    };
+    let mut columns = LinkedList::new(alloc);
+    columns.push_front(Column {
+        depth,
+        term: body.copy(alloc)?,
+    })?;
+    Ok(columns)
 }
 
 /// The cell at a place, or nothing.
-#[tactic(auto, using(crate::proofs::Refining::cell_found))]
-fn cell_of<'v>(cells: &[Cell<'v>], at: usize) -> Cell<'v>
-    ensures { plain_cell result ≡ cell_at (map plain_cell cells.now) at }
+fn cell_at<'r>(cells: &[Cell<'r>], at: usize) -> Cell<'r>
+    ensures { plain_cell result ≡ cell_at (plain_cells cells.now) at }
 {
-    match cells.get(at) {
-        Some(cell) => *cell,
-        None => Cell::Blank,
+    match cells {
+        [] => Cell::Blank,
+        [cell, rest @ ..] => if at == 0 {
+            *cell
+        } else {
+            cell_at(rest, at - 1)
+        },
     }
 }
 
 /// The cells before a place.
-fn before<'c, 'v>(cells: &'c [Cell<'v>], at: usize) -> &'c [Cell<'v>]
+fn before<'c, 'r>(cells: &'c [Cell<'r>], at: usize) -> &'c [Cell<'r>]
     ensures { result.now ≡ take at cells.now }
 {
     if at < cells.len() {
@@ -101,31 +213,13 @@ fn before<'c, 'v>(cells: &'c [Cell<'v>], at: usize) -> &'c [Cell<'v>]
 }
 
 /// The cells after a place.
-fn after<'c, 'v>(cells: &'c [Cell<'v>], at: usize) -> &'c [Cell<'v>]
+fn after<'c, 'r>(cells: &'c [Cell<'r>], at: usize) -> &'c [Cell<'r>]
     ensures { result.now ≡ drop (at + 1) cells.now }
 {
     if at < cells.len() {
         &cells[at + 1..]
     } else {
         &cells[cells.len()..]
-    }
-}
-
-fn is_symbol(term: &Term, number: u32) -> bool
-    ensures { result ≡ heads_same (tree term.now) (symbol number) }
-{
-    match term {
-        Term::Sym(k) => *k == number,
-        _ => false,
-    }
-}
-
-fn is_variable(term: &Term, number: u32) -> bool
-    ensures { result ≡ heads_same (tree term.now) (variable number) }
-{
-    match term {
-        Term::Var(k) => *k == u64::from(number),
-        _ => false,
     }
 }
 
@@ -138,199 +232,150 @@ fn is_bare(term: &Term) -> bool
     }
 }
 
-/// Whether a pattern takes a value of this head and as many arguments, as far as its own head says.
-fn takes(value: &Term, head: &Term, count: usize, pattern: &Pat<Stored>) -> bool
-    requires head { tree head.now ≡ head_of (tree value.now) }
-    requires count { count ≡ length (arguments (tree value.now)) }
-    ensures { result ≡ is_kept (tree value.now) (pattern_cell pattern.now) }
+/// Nothing for a value, and a cell for the pattern of each of its parts; or nothing at all where it isn't taken.
+fn opened_if<'r>(
+    alloc: Global,
+    taken: bool,
+    patterns: &'r [Pat],
+) -> Result<Option<Vec<Cell<'r>>>, NoMemory>
+    ensures { IfOk result (λ cells. option_map (λ v. plain_cells v.items) cells
+        ≡ cells_if (map pattern_cell patterns.now) taken) }
 {
-    match pattern {
-        Pat::Sym(k, patterns) => is_symbol(head, *k) && count == patterns.len(),
-        Pat::Var(k, patterns) => is_variable(head, *k) && count == patterns.len(),
-        Pat::Abs(_) => is_bare(value),
-        Pat::Rvar(..) => true,
-        Pat::Any => true,
-        Pat::Guard(_) => true,
+    if !taken {
+        return Ok(None);
     }
-}
-
-/// The same of a cell.
-fn is_kept(value: &Term, head: &Term, count: usize, cell: &Cell) -> bool
-    requires head { tree head.now ≡ head_of (tree value.now) }
-    requires count { count ≡ length (arguments (tree value.now)) }
-    ensures { result ≡ is_kept (tree value.now) (plain_cell cell.now) }
-{
-    match cell {
-        Cell::Blank => true,
-        Cell::Pattern(pattern) => takes(value, head, count, pattern),
-    }
-}
-
-/// Cells that ask for nothing.
-fn push_blanks(cells: &mut Vec<Cell>, count: usize) -> Result<(), NoMemory>
-    ensures { IfOk result (λ _. Appends cells.old cells.new (replicate count blank)) }
-{
-    for _i in 0..count {
-        cells.push(Cell::Blank)?;
-    }
-    Ok(())
-}
-
-/// A cell for each pattern.
-fn push_patterns<'v>(cells: &mut Vec<Cell<'v>>, patterns: &'v [Pat<Stored>]) -> Result<(), NoMemory>
-    ensures { IfOk result (λ _. Appends cells.old cells.new (map pattern_cell patterns.now)) }
-{
-    for pattern in patterns {
-        cells.push(Cell::Pattern(pattern))?;
-    }
-    Ok(())
-}
-
-/// Nothing for a value, and a cell for the pattern of each of its parts.
-fn push_list<'v>(cells: &mut Vec<Cell<'v>>, patterns: &'v [Pat<Stored>]) -> Result<(), NoMemory>
-    ensures { IfOk result (λ _. Appends cells.old cells.new
-        (blank ∷ map pattern_cell patterns.now)) }
-{
+    let mut cells = Vec::new(alloc);
     cells.push(Cell::Blank)?;
-    push_patterns(cells, patterns)
+    push_patterns(&mut cells, patterns)?;
+    Ok(Some(cells))
 }
 
-/// The cells for a value that the pattern takes, and for its `count` parts.
-fn push_parts<'v>(
-    cells: &mut Vec<Cell<'v>>,
+/// This cell, and nothing for each of `count` parts.
+fn kept_cells<'r>(alloc: Global, cell: Cell<'r>, count: usize) -> Result<Vec<Cell<'r>>, NoMemory>
+    ensures { IfOk result (λ cells. plain_cells cells.items
+        ≡ plain_cell cell.entry ∷ replicate count blank) }
+{
+    let mut cells = Vec::new(alloc);
+    cells.push(cell)?;
+    push_blanks(&mut cells, count)?;
+    Ok(cells)
+}
+
+/// Whether a value of `count` parts has this symbol at its head, and as many arguments as there are patterns.
+fn takes_symbol(value: &Term, count: usize, symbol: u32, patterns: &[Pat]) -> bool
+    ensures { result ≡ (heads_same (head (tree value.now)) (symbol_tree symbol)
+        && eqb count (length patterns.now)) }
+{
+    is_symbol(value, symbol) && count == patterns.len()
+}
+
+/// The same of a variable.
+fn takes_variable(value: &Term, count: usize, variable: u32, patterns: &[Pat]) -> bool
+    ensures { result ≡ (heads_same (head (tree value.now)) (variable_tree variable)
+        && eqb count (length patterns.now)) }
+{
+    is_variable(value, variable) && count == patterns.len()
+}
+
+/// The cells that a row has for a value and its `count` parts by its pattern for it, or nothing where the row is dropped.
+fn pattern_refined<'r>(
+    alloc: Global,
+    value: &Term,
     count: usize,
-    pattern: &'v Pat<Stored>,
-) -> Result<(), NoMemory>
-    ensures { IfOk result (λ _. Appends cells.old cells.new
-        (cells_after count (pattern_cell pattern.now))) }
+    pattern: &'r Pat,
+) -> Result<Option<Vec<Cell<'r>>>, NoMemory>
+    requires { count ≡ part_count (tree value.now) }
+    ensures { IfOk result (λ cells. option_map (λ v. plain_cells v.items) cells
+        ≡ refined_cells (tree value.now) count (pattern_cell pattern.now)) }
 {
     match pattern {
-        Pat::Sym(_, patterns) => {
-            push_list(cells, patterns.as_slice())?;
-            Ok(())
+        Pat::Sym(k, patterns) => {
+            let patterns = patterns.as_slice();
+            let taken = takes_symbol(value, count, *k, patterns);
+            Ok(opened_if(alloc, taken, patterns)?)
         }
-        Pat::Var(_, patterns) => {
-            push_list(cells, patterns.as_slice())?;
-            Ok(())
+        Pat::Var(k, patterns) => {
+            let patterns = patterns.as_slice();
+            let taken = takes_variable(value, count, *k, patterns);
+            Ok(opened_if(alloc, taken, patterns)?)
         }
         Pat::Abs(body) => {
-            let body: &'v Pat<Stored> = body;
+            let body: &'r Pat = body;
+            if !is_bare(value) {
+                return Ok(None);
+            }
+            let mut cells = Vec::new(alloc);
             cells.push(Cell::Blank)?;
             cells.push(Cell::Pattern(body))?;
-            Ok(())
+            Ok(Some(cells))
         }
-        Pat::Rvar(..) => push_kept(cells, count, Cell::Pattern(pattern)),
-        Pat::Any => push_kept(cells, count, Cell::Pattern(pattern)),
-        Pat::Guard(_) => push_kept(cells, count, Cell::Pattern(pattern)),
+        Pat::Rvar(..) => Ok(Some(kept_cells(alloc, Cell::Pattern(pattern), count)?)),
+        Pat::Any => Ok(Some(kept_cells(alloc, Cell::Pattern(pattern), count)?)),
+        Pat::Guard(_) => Ok(Some(kept_cells(alloc, Cell::Pattern(pattern), count)?)),
     }
 }
 
-/// This cell, and nothing for the `count` parts.
-fn push_kept<'v>(cells: &mut Vec<Cell<'v>>, count: usize, cell: Cell<'v>) -> Result<(), NoMemory>
-    ensures { IfOk result (λ _. Appends cells.old cells.new
-        (plain_cell cell.entry ∷ replicate count blank)) }
-{
-    cells.push(cell)?;
-    push_blanks(cells, count)
-}
-
-/// The cells of a kept row for the value and its `count` parts.
-fn push_after<'v>(cells: &mut Vec<Cell<'v>>, count: usize, cell: Cell<'v>) -> Result<(), NoMemory>
-    ensures { IfOk result (λ _. Appends cells.old cells.new
-        (cells_after count (plain_cell cell.entry))) }
+/// The same by its cell for the value.
+fn refined_cells<'r>(
+    alloc: Global,
+    value: &Term,
+    count: usize,
+    cell: Cell<'r>,
+) -> Result<Option<Vec<Cell<'r>>>, NoMemory>
+    requires { count ≡ part_count (tree value.now) }
+    ensures { IfOk result (λ cells. option_map (λ v. plain_cells v.items) cells
+        ≡ refined_cells (tree value.now) count (plain_cell cell.entry)) }
 {
     match cell {
-        Cell::Blank => push_kept(cells, count, Cell::Blank),
-        Cell::Pattern(pattern) => push_parts(cells, count, pattern),
+        Cell::Blank => Ok(Some(kept_cells(alloc, Cell::Blank, count)?)),
+        Cell::Pattern(pattern) => pattern_refined(alloc, value, count, pattern),
     }
 }
 
-/// A kept row with the cells for the value and its `count` parts in place of the cell at `at`.
-fn refined_row<'v>(
-    alloc: Global,
-    count: usize,
-    at: usize,
-    row: &Row<'v>,
-) -> Result<Row<'v>, NoMemory>
-    ensures cells { IfOk result (λ r. (row_of r).cells
-        ≡ cells_when_kept count at (row_of row.now).cells) }
-    ensures rule { IfOk result (λ r. (row_of r).rule ≡ (row_of row.now).rule) }
-{
-    let old = row.cells.as_slice();
-    let mut cells = Vec::from_slice(alloc, before(old, at))?;
-    push_after(&mut cells, count, cell_of(old, at))?;
-    cells.extend_from_slice(after(old, at))?;
-    Ok(Row {
-        cells,
-        rule: row.rule,
-    })
-}
-
-/// The rows that are kept where the column at `at` has the value, each with the cells for its `count` parts put in.
-#[tactic(auto, using(crate::proofs::References::spine_head, crate::proofs::References::spine_count, crate::proofs::Refining::row_kept, crate::proofs::Refining::row_dropped))]
-pub fn refined_rows<'v>(
+/// A row where the column at `at` has the value, of `count` parts, or nothing where the value rules the row out.
+fn refined_row<'r>(
     alloc: Global,
     value: &Term,
     count: usize,
     at: usize,
-    rows: &[Row<'v>],
-) -> Result<Vec<Row<'v>>, NoMemory>
-    ensures { IfOk result (λ kept. map row_of kept.items
-        ≡ refined_rows (tree value.now) count at (map row_of rows.now)) }
+    row: Row<'r>,
+) -> Result<Option<Row<'r>>, NoMemory>
+    requires { count ≡ part_count (tree value.now) }
+    ensures { IfOk result (λ refined. option_map row_of refined
+        ≡ refined_row (tree value.now) count at (row_of row.entry)) }
 {
-    let (head, arguments) = spine(alloc, value)?;
-    let mut kept = Vec::new(alloc);
-    for row in rows {
-        let cell = cell_of(row.cells.as_slice(), at);
-        if is_kept(value, head, arguments.len(), &cell) {
-            let refined = refined_row(alloc, count, at, row)?;
-            kept.push(refined)?;
+    let old = row.cells.as_slice();
+    let Some(mut parts) = refined_cells(alloc, value, count, cell_at(old, at))? else {
+        return Ok(None);
+    };
+    let mut cells = Vec::from_slice(alloc, before(old, at))?;
+    cells.append(&mut parts)?;
+    cells.extend_from_slice(after(old, at))?;
+    Ok(Some(Row {
+        cells,
+        rule: row.rule,
+    }))
+}
+
+/// The rows that are kept where the column at `at` has the value, of `count` parts.
+#[tactic(auto, using(crate::proofs::Refining::kept_on, crate::proofs::Refining::passed_on))]
+pub fn refined_rows<'r>(
+    alloc: Global,
+    value: &Term,
+    count: usize,
+    at: usize,
+    rows: LinkedList<Row<'r>>,
+) -> Result<LinkedList<Row<'r>>, NoMemory>
+    requires { count ≡ part_count (tree value.now) }
+    ensures { IfOk result (λ kept. map row_of kept
+        ≡ refined_rows (tree value.now) count at (map row_of rows.entry)) }
+{
+    let mut rows = rows;
+    let mut kept = LinkedList::new(alloc);
+    while let Some(row) = rows.pop_front() {
+        if let Some(row) = refined_row(alloc, value, count, at, row)? {
+            kept.push_back(row)?;
         }
     }
     Ok(kept)
-}
-
-/// How many columns the rules of at most `count` patterns need.
-pub fn width(count: usize, rules: &[SymbolRule]) -> usize
-    ensures { result ≡ width count (map plain_rule_of rules.now) }
-{
-    let mut width = 0;
-    for rule in rules {
-        let patterns = rule.pattern_count();
-        if patterns <= count && width < patterns {
-            width = patterns;
-        }
-    }
-    width
-}
-
-/// A row of `width` cells for each rule of at most `count` patterns.
-pub fn rows_for<'v>(
-    alloc: Global,
-    count: usize,
-    width: usize,
-    rules: &[SymbolRule<'v>],
-) -> Result<Vec<Row<'v>>, NoMemory>
-    ensures { IfOk result (λ rows. map row_of rows.items
-        ≡ rows_for count width (map plain_rule_of rules.now)) }
-{
-    let mut rows = Vec::new(alloc);
-    for rule in rules {
-        if rule.pattern_count() <= count {
-            rows.push(row_for(alloc, width, *rule)?)?;
-        }
-    }
-    Ok(rows)
-}
-
-/// A rule's patterns, and nothing for the columns that are left of the `width`.
-#[tactic(auto, using(crate::proofs::Refining::each_cell))]
-fn row_for<'v>(alloc: Global, width: usize, rule: SymbolRule<'v>) -> Result<Row<'v>, NoMemory>
-    ensures cells { IfOk result (λ r. (row_of r).cells ≡ first_cells width (plain_rule_of rule.entry)) }
-    ensures rule { IfOk result (λ r. (row_of r).rule ≡ plain_rule_of rule.entry) }
-{
-    let mut cells = Vec::new(alloc);
-    push_patterns(&mut cells, rule.patterns())?;
-    push_blanks(&mut cells, width.saturating_sub(rule.pattern_count()))?;
-    Ok(Row { cells, rule })
 }

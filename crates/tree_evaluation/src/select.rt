@@ -1,58 +1,123 @@
 //! Selection: which rule of a symbol takes the arguments, and with what captures (docs/evaluation.md).
-//!
-//! A row that asks for no head is tried, and else the next one. Where a row asks for the head of a column the selection
-//! stops there, to go on once the column is evaluated. Begin at `Evaluation::select`.
-ghost use Rattle.std.specs.Prelude.{◌≡◌, ◌≤◌};
+ghost use Rattle.std.specs.Prelude.{◌≡◌, ◌≤◌, ◌∷◌, ◌++◌, IfOk, OnOk, length, take, drop};
 ghost use Rattle.signature_log.specs.Versions.{entries_of};
-ghost use Rattle.tree_evaluation.specs.Clauses.{Selects};
+ghost use Rattle.tree_evaluation.specs.Clauses.{Selects, SelectsByValue};
 
-use crate::evaluation::Evaluation;
-use crate::gap::{Gap, gap_at};
-use crate::matrix::{Matrix, rigid_at};
-use crate::rules::SymbolRule;
-use dk_model::{Stop, Term};
+use crate::evaluation::{Evaluation, deeper};
+use crate::matrix::{Column, Row, opened_columns, refined_rows, rigid_at};
+use dk_model::{NoMemory, Rule, Stop, Term};
+use std::collections::LinkedList;
 
-/// Where a selection comes to.
+/// A rule that is taken, with its captures.
 #[derive(Drop)]
-pub enum Choice<'v> {
-    /// This rule is taken, with its captures.
-    Taken(Vec<Option<Term>>, SymbolRule<'v>),
-    /// No rule is taken.
-    Nothing,
-    /// A row asks for the head of this column's term.
-    Asks(Gap<'v>, Term),
+pub struct Taken<'r> {
+    pub captures: Vec<Option<Term>>,
+    pub rule: &'r Rule,
 }
 
 impl<'v> Evaluation<'v> {
-    /// The first row that takes the columns, unless a row before it asks for the head of one.
+    /// The first row that takes the columns.
     #[cycle(evaluation)]
-    pub fn select(self, matrix: Matrix<'v>, left: &mut u64) -> Result<Choice<'v>, Stop>
-        ensures gives { Selects (entries_of self.entry.version.now) matrix.entry left.old result left.new }
+    #[tactic(auto, using(crate::proofs::Choosing::no_rows, crate::proofs::Choosing::row_takes, crate::proofs::Choosing::row_fails, crate::proofs::Choosing::row_ends, crate::proofs::Choosing::row_asks))]
+    pub fn select<'r>(
+        self,
+        rows: LinkedList<Row<'r>>,
+        columns: LinkedList<Column>,
+        left: &mut u64,
+    ) -> Result<Option<Taken<'r>>, Stop>
+        ensures gives { Selects (entries_of self.entry.version.now) rows.entry columns left.old
+            result left.new }
         ensures spent { left.new ≤ left.old }
     {
-        let symbol = matrix.symbol;
-        let mut columns = matrix.columns;
-        let rows = matrix.rows;
-        for tried in 0..rows.len() {
-            let row = &rows[tried];
-            match rigid_at(row.cells.as_slice()) {
-                None => {
-                    let rule = row.rule;
-                    match self.row_taken(row, &mut columns, left) {
-                        Ok(Some(captures)) => return Ok(Choice::Taken(captures, rule)),
-                        Ok(None) => {}
-                        Err(stop) => return Err(stop),
-                    }
-                }
-                Some(at) => {
-                    if at >= columns.len() {
-                        return Ok(Choice::Nothing);
-                    }
-                    let (gap, term) = gap_at(symbol, at, columns, rows, tried)?;
-                    return Ok(Choice::Asks(gap, term));
-                }
-            }
+        let inner = Evaluation {
+            depth: deeper(self.depth)?,
+            ..self
+        };
+        let mut rows = rows;
+        let mut columns = columns;
+        let Some(row) = rows.pop_front() else {
+            return Ok(None);
+        };
+        if let Some(at) = rigid_at(row.cells.as_slice()) {
+            put_back(&mut rows, row)?;
+            return inner.select_by_value(at, rows, columns, left);
         }
-        Ok(Choice::Nothing)
+        let rule = row.rule;
+        match inner.row_taken(&row, &mut columns, left)? {
+            Some(captures) => Ok(Some(Taken { captures, rule })),
+            None => inner.select(rows, columns, left),
+        }
     }
+
+    /// The same where the first row asks for the head of the column at `at`.
+    #[cycle(evaluation)]
+    #[tactic(auto, using(crate::proofs::Choosing::past_columns, crate::proofs::Choosing::no_column, crate::proofs::Choosing::value_ends, crate::proofs::Choosing::value_goes))]
+    fn select_by_value<'r>(
+        self,
+        at: usize,
+        rows: LinkedList<Row<'r>>,
+        columns: LinkedList<Column>,
+        left: &mut u64,
+    ) -> Result<Option<Taken<'r>>, Stop>
+        ensures gives { SelectsByValue (entries_of self.entry.version.now) at rows.entry columns
+            left.old result left.new }
+        ensures spent { left.new ≤ left.old }
+    {
+        let inner = Evaluation {
+            depth: deeper(self.depth)?,
+            ..self
+        };
+        let mut columns = columns;
+        if at > columns.len() {
+            return Ok(None);
+        }
+        let mut behind = cut(&mut columns, at)?;
+        let Some(column) = behind.pop_front() else {
+            return Ok(None);
+        };
+        let value = inner.whnf(&column.term, left)?;
+        let parts = opened_columns(self.alloc, column.depth, &value)?;
+        let rows = refined_rows(self.alloc, &value, parts.len(), at, rows)?;
+        let value = Column {
+            depth: column.depth,
+            term: value,
+        };
+        let columns = joined(columns, value, parts, behind)?;
+        inner.select(rows, columns, left)
+    }
+}
+
+/// Cuts the columns before a place, and gives those from there on.
+fn cut(columns: &mut LinkedList<Column>, at: usize) -> Result<LinkedList<Column>, NoMemory>
+    requires { at ≤ length columns.old }
+    ensures before { OnOk result (columns.new ≡ take at columns.old) }
+    ensures behind { IfOk result (λ behind. behind ≡ drop at columns.old) }
+{
+    Ok(columns.split_off(at)?)
+}
+
+/// A row in front of others.
+fn put_back<'r>(rows: &mut LinkedList<Row<'r>>, row: Row<'r>) -> Result<(), NoMemory>
+    ensures { OnOk result (rows.new ≡ row.entry ∷ rows.old) }
+{
+    rows.push_front(row)?;
+    Ok(())
+}
+
+/// The columns with a value and its parts in the place of a column.
+fn joined(
+    columns: LinkedList<Column>,
+    value: Column,
+    parts: LinkedList<Column>,
+    behind: LinkedList<Column>,
+) -> Result<LinkedList<Column>, NoMemory>
+    ensures { IfOk result (λ all. all ≡ columns ++ value ∷ parts ++ behind) }
+{
+    let mut all = columns;
+    let mut parts = parts;
+    let mut behind = behind;
+    all.push_back(value)?;
+    all.append(&mut parts)?;
+    all.append(&mut behind)?;
+    Ok(all)
 }

@@ -1,35 +1,105 @@
-//! An application taken apart by references: its head and its arguments.
-ghost use Rattle.std.specs.Prelude.{◌≡◌, ◌+◌, ◌≤◌, ◌<◌, false, IfOk};
-ghost use Rattle.dk_model.specs.Trees.{tree};
-ghost use Rattle.tree_evaluation.specs.Machine.{is_application, wound};
-ghost use Rattle.tree_evaluation.specs.Spine.{behind_references, size, total_size};
+//! A term as a head with arguments, and one contraction of it.
+ghost use Rattle.std.specs.Prelude.{◌≡◌, IfOk, MatchOption, None, Some, map, drop};
+ghost use Rattle.dk_model.specs.Trees.{tree, symbol, variable};
+ghost use Rattle.dk_model.specs.Signatures.{maybe_tree};
+ghost use Rattle.dk_model.specs.Spines.{head, arguments, applied, head_symbol, body_of, contraction};
+ghost use Rattle.dk_model.specs.Matrix.{heads_same};
 
-use dk_model::{NoMemory, Term};
+use dk_model::{NoMemory, Term, make_app};
 use std::alloc::Global;
 
-/// Takes an application apart by references: its head, which is no application, and its arguments on a stack, the first
-/// one on top. Any other term is its own head. Nothing is copied, and it takes no unit.
-#[tactic(auto, using(crate::proofs::References::references_pushed))]
-pub fn spine<'a>(alloc: Global, term: &'a Term) -> Result<(&'a Term, Vec<&'a Term>), NoMemory>
-    ensures term { IfOk result
-        (λ s. wound (tree s.0.now) (behind_references s.1.items) ≡ tree term.now) }
-    ensures head { IfOk result (λ s. is_application (tree s.0.now) ≡ false) }
-    ensures size { IfOk result
-        (λ s. size (tree s.0.now) + total_size (behind_references s.1.items)
-        ≤ size (tree term.now)) }
-    ensures smaller { IfOk result
-        (λ s. total_size (behind_references s.1.items) < size (tree term.now)) }
+/// The number of the symbol at the head.
+pub fn head_symbol(term: &Term) -> Option<u32>
+    ensures { result ≡ head_symbol (tree term.now) }
 {
-    let mut arguments = Vec::new(alloc);
-    let mut head = term;
-    loop {
-        match head {
-            Term::App(f, a) => {
-                let a: &'a Term = a;
-                arguments.push(a)?;
-                head = f;
-            }
-            other => return Ok((other, arguments)),
+    match term {
+        Term::App(f, _) => head_symbol(f),
+        Term::Sym(k) => Some(*k),
+        _ => None,
+    }
+}
+
+/// Whether the head is this symbol.
+pub fn is_symbol(term: &Term, number: u32) -> bool
+    ensures { result ≡ heads_same (head (tree term.now)) (symbol number) }
+{
+    match term {
+        Term::App(f, _) => is_symbol(f, number),
+        Term::Sym(k) => *k == number,
+        _ => false,
+    }
+}
+
+/// Whether the head is this variable.
+pub fn is_variable(term: &Term, number: u32) -> bool
+    ensures { result ≡ heads_same (head (tree term.now)) (variable number) }
+{
+    match term {
+        Term::App(f, _) => is_variable(f, number),
+        Term::Var(k) => *k == u64::from(number),
+        _ => false,
+    }
+}
+
+/// The arguments from left to right, copied.
+#[tactic(auto, using(crate::proofs::Arguments::argument_pushed))]
+pub fn arguments(alloc: Global, term: &Term) -> Result<Vec<Term>, NoMemory>
+    ensures { IfOk result (λ all. map tree all.items ≡ arguments (tree term.now)) }
+{
+    match term {
+        Term::App(f, a) => {
+            let mut all = arguments(alloc, f)?;
+            all.push(a.copy(alloc)?)?;
+            Ok(all)
         }
+        _ => Ok(Vec::new(alloc)),
+    }
+}
+
+/// A term applied to these, from left to right.
+pub fn applied(alloc: Global, term: Term, arguments: &[Term]) -> Result<Term, NoMemory>
+    ensures { IfOk result (λ t. tree t ≡ applied (tree term) (map tree arguments.now)) }
+{
+    match arguments {
+        [] => Ok(term),
+        [first, rest @ ..] => applied(alloc, make_app(alloc, term, first.copy(alloc)?)?, rest),
+    }
+}
+
+/// The term after one contraction at its head: an abstraction with its first argument.
+pub fn contraction(alloc: Global, term: &Term) -> Result<Option<Term>, NoMemory>
+    ensures { IfOk result (λ t. maybe_tree t ≡ contraction (tree term.now)) }
+{
+    let Term::App(f, a) = term else {
+        return Ok(None);
+    };
+    if let Some(body) = body_of(f) {
+        return Ok(Some(body.substitute(alloc, 0, a)?));
+    }
+    match contraction(alloc, f)? {
+        Some(g) => Ok(Some(make_app(alloc, g, a.copy(alloc)?)?)),
+        None => Ok(None),
+    }
+}
+
+/// The body of an abstraction without an annotation.
+fn body_of(term: &Term) -> Option<&Term>
+    ensures { MatchOption result (body_of (tree term.now) ≡ None)
+        (λ b. body_of (tree term.now) ≡ Some (tree b.now)) }
+{
+    match term {
+        Term::Abs(None, body) => Some(body),
+        _ => None,
+    }
+}
+
+/// The arguments behind the first `count`.
+pub fn behind(arguments: &[Term], count: usize) -> &[Term]
+    ensures { result.now ≡ drop count arguments.now }
+{
+    if count < arguments.len() {
+        &arguments[count..]
+    } else {
+        &arguments[arguments.len()..]
     }
 }

@@ -4,7 +4,7 @@ ghost use Rattle.dk_model.specs.Signatures.{PlainSignature};
 ghost use Rattle.signature_log.specs.Reducers.{Keeps, Makes, OwnsParts, built};
 ghost use Rattle.tree_evaluation.specs.Nodes.{owned, denoted};
 
-use crate::capture::{mentions_others, renamed};
+use crate::capture::{filled, may_bind, mentions_others, renamed};
 use crate::evaluation::Evaluation;
 use crate::instance::all_put;
 use crate::nodes::{as_node, from_node, into_node};
@@ -13,7 +13,8 @@ use shared_term::Stored;
 use signature_log::{Reducer, Version};
 use std::alloc::Global;
 
-/// Evaluation over boxed trees. It remembers nothing, and every term is one of its own.
+/// Evaluation over boxed trees. It remembers nothing, and every term is one of its own. One that would nest too deep
+/// answers `NoMemory` (docs/evaluation.md).
 #[derive(Clone, Copy)]
 pub struct Trees {
     alloc: Global,
@@ -42,31 +43,17 @@ impl Reducer for Trees {
 
     #[tactic(auto, using(crate::proofs::Reducing::trees_keep, crate::proofs::Reducing::trees_give))]
     fn whnf(&mut self, v: &Version, t: &Term, left: &mut u64) -> Result<Term, Stop> {
-        let term = t.copy(self.alloc)?;
-        Evaluation {
-            alloc: self.alloc,
-            version: v,
-        }
-        .whnf(term, left)
+        Evaluation::new(self.alloc, v).whnf(t, left)
     }
 
     #[tactic(auto, using(crate::proofs::Reducing::trees_keep, crate::proofs::Reducing::trees_answer))]
     fn same(&mut self, v: &Version, t: &Term, u: &Term, left: &mut u64) -> Result<bool, Stop> {
-        Evaluation {
-            alloc: self.alloc,
-            version: v,
-        }
-        .same(t, u, left)
+        Evaluation::new(self.alloc, v).same(t, u, left)
     }
 
     #[tactic(auto, using(crate::proofs::Reducing::trees_keep, crate::proofs::Reducing::trees_give))]
     fn normal(&mut self, v: &Version, t: &Term, left: &mut u64) -> Result<Term, Stop> {
-        let term = t.copy(self.alloc)?;
-        Evaluation {
-            alloc: self.alloc,
-            version: v,
-        }
-        .normal(term, left)
+        Evaluation::new(self.alloc, v).normal(t, left)
     }
 
     #[tactic(auto, using(crate::proofs::Reducing::trees_keep, crate::proofs::Reducing::trees_show))]
@@ -141,6 +128,16 @@ impl Reducer for Trees {
     #[tactic(auto, using(crate::proofs::Reducing::trees_keep))]
     fn rename(&mut self, t: &Term, depth: u64, variables: &[u32]) -> Result<Term, NoMemory> {
         renamed(self.alloc, 0, depth, variables, t)
+    }
+
+    #[tactic(auto, using(crate::proofs::Reducing::trees_keep))]
+    fn fill(&mut self, t: &Term, terms: &[Option<Term>]) -> Result<Term, NoMemory> {
+        filled(self.alloc, terms, 0, t)
+    }
+
+    #[tactic(auto, using(crate::proofs::Reducing::trees_keep))]
+    fn may_bind(&mut self, t: &Term, number: u32) -> Result<bool, NoMemory> {
+        may_bind(number, t)
     }
 
     #[tactic(auto, using(crate::proofs::Reducing::trees_keep))]

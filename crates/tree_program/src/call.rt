@@ -1,5 +1,5 @@
 //! What a call of the program does, over any shelf and sink.
-ghost use Rattle.std.specs.Prelude.{◌≡◌, length};
+ghost use Rattle.std.specs.Prelude.{◌≡◌, [], length};
 ghost use Rattle.board_core.specs.Machine.{IsFinished, marks_of};
 
 use crate::trial::try_book;
@@ -27,7 +27,9 @@ pub fn answer_call<H: Shelf, K: Sink>(
     words: &Result<Vec<String>, ErrorKind>,
     shelf: &mut H,
     sink: &mut K,
-) -> u8 {
+) -> u8
+    requires shelf { H.aside shelf.old ≡ [] }
+{
     let words = match words {
         Ok(words) => words.as_slice(),
         Err(ErrorKind::OutOfMemory) => return NO_MEMORY,
@@ -58,7 +60,9 @@ fn check_file<H: Shelf, K: Sink>(
     shelf: &mut H,
     sink: &mut K,
     request: &CheckRequest<'_>,
-) -> u8 {
+) -> u8
+    requires shelf { H.aside shelf.old ≡ [] }
+{
     let Ok(()) = shelf.open_book(request.file) else {
         let line = [
             b"unopened ".as_slice(),
@@ -79,6 +83,6 @@ fn put_report<K: Sink>(sink: &mut K, tried: &Tried, request: &CheckRequest<'_>) 
 {
     let Tried { book, titles } = tried;
     let outcome = outcome_of(book, titles);
-    let written = write_report(book, titles, request.budget, request.quiet, sink);
+    let written = write_report(book, titles, request.budget, request.quiet, "", sink);
     told(written, outcome.status())
 }

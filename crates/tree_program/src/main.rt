@@ -56,7 +56,9 @@ fn words_of_call<R: Env + AllocGlobal>(rt: &R) -> Result<Vec<String>, ErrorKind>
 // Answers this call, with the files of the system and standard output.
 fn status_of_call<R: Env + Files + Print + AllocGlobal>(rt: &R) -> u8 {
     let words = words_of_call(rt);
-    let mut shelf = OsShelf::new(rt);
+    let Ok(mut shelf) = OsShelf::new(rt, rt.alloc()) else {
+        return NO_MEMORY;
+    };
     let mut sink = OsSink::new(io::writer(rt));
     answer_call(rt.alloc(), &words, &mut shelf, &mut sink)
 }

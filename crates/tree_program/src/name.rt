@@ -15,6 +15,7 @@ pub fn shown_name(form: &RawForm) -> &[u8]
             [] => b"",
             [rule, ..] => head_name(&rule.left),
         },
+        _ => b"",
     }
 }
 

@@ -7,7 +7,7 @@ ghost use Rattle.tree_program.specs.Trials.{GoesOn};
 
 use crate::name::shown_name;
 use crate::tried::Tried;
-use board_core::End;
+use board_core::{End, Place};
 use command_check::enter_command;
 use dk_io::Shelf;
 use dk_model::{Code, Entry, Fault, Limits, Listed, NoMemory, Scoped, Verdict};
@@ -58,11 +58,11 @@ impl Trial {
         let mut reader = Reader::new(alloc, limits);
         'commands: loop {
             let raw = match reader.next(alloc, shelf) {
-                Ok(raw) => raw,
-                Err(end) => return end_at(end),
+                Ok(next) => next.into_raw(),
+                Err(end) => return end_at(alloc, end),
             };
             if let Err(verdict) = self.enter(alloc, &raw) {
-                return End::Fault(raw.line, verdict);
+                return End::Fault(Place::in_file(alloc, raw.line), verdict);
             }
         }
     }
@@ -103,7 +103,7 @@ impl Trial {
         self.version = version;
         let title = Title {
             name: Listed::from_slice(alloc, shown_name(&raw.form))?,
-            line: raw.line,
+            place: Place::in_file(alloc, raw.line),
         };
         self.tried.add(alloc, &title)
     }
@@ -124,14 +124,16 @@ fn scoped(alloc: Global, names: &mut Names, raw: &Raw) -> Result<Scoped, Verdict
 }
 
 // How the file ends where reading it ended so.
-fn end_at(read_end: ReadEnd) -> End
+fn end_at(alloc: Global, read_end: ReadEnd) -> End
     ensures { EndsByItself (Some result) }
 {
     match read_end {
         ReadEnd::Whole => End::Whole,
-        ReadEnd::Unread => End::Unread,
-        ReadEnd::Refused(line, code) => End::Fault(line, Verdict::Refused(code)),
-        ReadEnd::NoMemory(line) => End::Fault(line, Verdict::Memory),
+        ReadEnd::Unread => End::Unread(Place::in_file(alloc, 0)),
+        ReadEnd::Refused(line, code) => {
+            End::Fault(Place::in_file(alloc, line), Verdict::Refused(code))
+        }
+        ReadEnd::NoMemory(line) => End::Fault(Place::in_file(alloc, line), Verdict::Memory),
     }
 }
 

@@ -7,7 +7,8 @@ use Rattle.dk_model.specs.Signatures.{PlainSignature}
 use Rattle.dk_model.specs.Substitution.{shift, substitute}
 use Rattle.dk_model.specs.Spines.{applied}
 use Rattle.dk_model.specs.Captures.{mentions_others, renamed, abstracted, captured}
-use Rattle.typing_model.specs.Steps.{Step, Steps, beta, in_function, no_step, one_step}
+use Rattle.typing_model.specs.Steps.{beta, in_function, no_step, one_step}
+use Rattle.typing_model.specs.PlainSteps.{Step, Steps}
 use Rattle.typing_model.proofs.Rebound.{opened, opened_none, opened_all, put_argument}
 
 shift_abstracted : (xs : List ℕ) (e d : ℕ) (t : Tree) → shift e d (abstracted xs t) ≡ abstracted xs (shift (e + length xs) d t)

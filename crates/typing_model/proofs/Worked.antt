@@ -4,7 +4,8 @@ use Rattle.dk_model.specs.Trees.{Tree, star, kind, symbol, variable, rule_variab
 use Rattle.dk_model.specs.Signatures.{rule_variable_pattern, PlainRule, symbol_entry, rules_entry, PlainSignature}
 use Rattle.dk_model.specs.Scoping.{left_symbol, left_rule_variable, left_wildcard, left_apply, PlainScopedRule, PlainCommand, declare, rule_command}
 use Rattle.dk_model.specs.declared.signature.SymSort.TheVariants.{Static, Definable, Theorem}
-use Rattle.typing_model.specs.Steps.{at_rule_variable, no_arguments, one_argument, Step, beta, by_rule, no_step, one_step, AreMet, no_condition, one_condition}
+use Rattle.typing_model.specs.Steps.{at_rule_variable, no_arguments, one_argument, beta, by_rule, no_step, one_step, no_condition, one_condition}
+use Rattle.typing_model.specs.PlainSteps.{Step, AreMet}
 use Rattle.typing_model.specs.Derivations.{HasType, RuleHasDerivation, HasDerivation}
 use Rattle.typing_model.specs.Conditions.{IsNumbered, HasNoAnnotations}
 use Rattle.dk_model.specs.Typing.{by_units}

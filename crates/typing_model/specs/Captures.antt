@@ -5,7 +5,7 @@ use Rattle.dk_model.specs.PlainTerms.{Tree, variable}
 use Rattle.dk_model.specs.Substitution.{shift}
 use Rattle.dk_model.specs.Spines.{applied}
 use Rattle.dk_model.specs.Captures.{mentions_others, captured}
-use Rattle.typing_model.specs.Steps.{Steps}
+use Rattle.typing_model.specs.PlainSteps.{Steps}
 
 -- t reduces to u by beta alone: no signature has a rule
 abbrev pub ReducesByBeta : Tree → Tree → Type 0

@@ -6,9 +6,11 @@ use Rattle.dk_model.specs.PlainEntries.{PlainRule, PlainSignature}
 use Rattle.dk_model.specs.WellFormed.{IsSignature}
 use Rattle.dk_model.specs.PlainCommands.{PlainScopedRule, PlainCommand, declare}
 use Rattle.dk_model.specs.Shapes.{shape_of}
-use Rattle.dk_model.specs.TypingOver.{Evaluator, answer, inferred, checked}
-use Rattle.dk_model.specs.RuleTypingOver.{rule_checked}
+use Rattle.dk_model.specs.TypingOver.{Evaluator, answer, after, next, inferred, checked}
+use Rattle.dk_model.specs.RuleTypingOver.{convertible, rule_checked}
 use Rattle.dk_model.specs.CommandTypingOver.{command_checked}
+use Rattle.dk_model.specs.Bindings.{Bindings, under}
+use Rattle.dk_model.specs.ByUnits.{by_units}
 use Rattle.dk_model.specs.Spines.{head_symbol}
 use Rattle.dk_model.specs.Selection.{Selected}
 use Rattle.dk_model.specs.Evaluation.{whnf_of, comparison_of, normal_of, columns, rows, rewritten}
@@ -17,7 +19,7 @@ use Rattle.dk_model.specs.Verdicts.{verdict, inferred_type, entry_of}
 use Rattle.dk_model.specs.declared.code.Verdict.TheVariants.{Accepted}
 use Rattle.dk_model.specs.declared.signature.SymSort.{SymSort}
 use Rattle.typing_model.specs.Steps.{ReducesTo, AreJoinable}
-use Rattle.typing_model.specs.Derivations.{Context, HasType, Fits, RuleHasDerivation, HasDerivation}
+use Rattle.typing_model.specs.Derivations.{Context, HasType, Fits, Resolves, RuleHasDerivation, HasDerivation}
 use Rattle.typing_model.specs.Conditions.{IsNumbered, HasNoAnnotations}
 
 -- a term reduces to its weak head form
@@ -38,11 +40,13 @@ SelectionReduces S = (n m k : ℕ) (t : Tree) (taken : Selected) → head_symbol
 abbrev pub ComparisonJoins : PlainSignature → Type 0
 ComparisonJoins S = (n m : ℕ) (t u : Tree) → comparison_of S n t u ≡ Some (true, m) → AreJoinable S t u
 
--- an evaluation whose answers are reducts, and which finds only terms the same that are joinable, whatever is left to spend
+-- an evaluation whose answers are reducts, which finds only terms the same that are joinable, and solves equations only by
+-- bindings to which they resolve, whatever is left to spend
 pub record Reduces {X : Type 0} (S : PlainSignature) (E : Evaluator X) : Type 0 where
   pub whnf : (n m : X) (t u : Tree) → E.whnf n t ≡ Some (u, m) → ReducesTo S t u
   pub same : (n m : X) (t u : Tree) → E.same n t u ≡ Some (true, m) → AreJoinable S t u
   pub normal : (n m : X) (t u : Tree) → E.normal n t ≡ Some (u, m) → ReducesTo S t u
+  pub solve : (n m : X) (s r : Bindings) (t u : Tree) → E.solve n s t u ≡ answer r m → Resolves S s ((t, u) ∷ []) r
 
 -- a term has the type that inference answers
 abbrev pub InferredHasType : {X : Type 0} → PlainSignature → Evaluator X → Type 0
@@ -64,6 +68,19 @@ DeclarationHasDerivation {X} S E = (sort : SymSort) (typ body : Option Tree) (bu
 -- a rule whose shape is typed has a derivation
 abbrev pub TypedRuleHasDerivation : {X : Type 0} → PlainSignature → Evaluator X → Type 0
 TypedRuleHasDerivation {X} S E = (rule : PlainScopedRule) (shape : PlainRule) (n m : X) (u : Unit {0}) → shape_of rule ≡ Ok shape → rule_checked E S shape n ≡ answer u m → RuleHasDerivation S rule
+
+-- evaluation with units, where an equation is only solved if its sides are convertible, so that no rule variable is bound
+abbrev pub by_conversion : PlainSignature → Evaluator ℕ
+by_conversion S = record {
+  whnf = whnf_of S;
+  same = comparison_of S;
+  normal = normal_of S;
+  solve = λ n s t u. next (after (comparison_of S n (under s t) (under s u)) convertible) (λ v m. answer s m);
+}
+
+-- a command that is accepted without binding a rule variable is accepted, and leaves as many units
+abbrev pub StaysAccepted : PlainSignature → Type 0
+StaysAccepted S = (command : PlainCommand) (n m : ℕ) (u : Unit {0}) → command_checked (by_conversion S) S command n ≡ answer u m → command_checked (by_units S) S command n ≡ answer u m
 
 -- a signature stays one with the entry of a further command
 abbrev pub StaysSignature : PlainSignature → Type 0

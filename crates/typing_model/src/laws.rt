@@ -20,6 +20,7 @@ ghost use Rattle.typing_model.specs.Laws.{
   NormalReduces,
   Reduces,
   SelectionReduces,
+  StaysAccepted,
   StaysNumbered,
   StaysPlain,
   StaysSignature,
@@ -92,6 +93,14 @@ pub fn typed_rule_has_derivation()
     ensures plain { (S : _) → IsNumbered S → HasNoAnnotations S → TypedRuleHasDerivation S (by_units S) }
 {
     // Proved by the structure of the left side.
+}
+
+/// A command that is accepted without binding a rule variable, each equation being convertible as it stands, is accepted, and
+/// takes as many units: solving equations only accepts more.
+pub fn solving_accepts_more()
+    ensures { (S : _) → StaysAccepted S }
+{
+    // Proved by the structure of the command: each comparison says yes.
 }
 
 /// A well-formed signature meets the conditions of the other laws: its rules number their variables, and it has no

@@ -1,5 +1,5 @@
 -- What a lawful history says of the numbers that were claimed and answered, and of its end.
-use Rattle.std.proofs.Common.{◌≡◌, ◌⊎◌, inl, inr, ◌↔◌, ℕ, ◌<◌, ◌≤◌, ◌||◌, Bool, true, false, cond, eqb, List, [], ◌∷◌, ◌++◌, refl, sym, ap, ◌∙◌, subst, arith, Option, Some, None}
+use Rattle.std.proofs.Common.{◌≡◌, ◌↔◌, ℕ, ◌<◌, ◌≤◌, ◌||◌, Bool, true, false, cond, eqb, List, [], ◌∷◌, ◌++◌, refl, sym, ap, ◌∙◌, subst, arith, Option, Some, None}
 use Rattle.std.specs.Prelude.{IfNone, IfSome, IsNone}
 use Rattle.std.specs.List.{list_any}
 use Rattle.std.proofs.lemmas.Bool.{eqb-true}
@@ -7,14 +7,15 @@ use Rattle.std.proofs.lemmas.List.Sums.{sum_by-append}
 use Rattle.dk_model.specs.declared.code.Verdict.{Verdict}
 use Rattle.dk_model.specs.declared.code.Verdict.TheVariants.{Accepted, Refused, Ended, Memory}
 use Rattle.board_core.specs.declared.event.End.{End}
-use Rattle.board_core.specs.declared.event.End.TheVariants.{Whole, Unread, Fault, Stopped}
+use Rattle.board_core.specs.declared.event.End.TheVariants.{Whole, Unread, Unopened, Fault, Stopped}
 use Rattle.board_core.specs.declared.event.Event.{Event}
+use Rattle.board_core.specs.declared.event.Place.{Place}
 use Rattle.board_core.specs.declared.event.Event.TheVariants.{Put, Claim, Answer, Seal}
 use Rattle.board_core.specs.Events.{answered_verdict, answers, claims, end_of, is_accepted, is_fault, is_put, is_seal, IsFirstFault, puts}
 use Rattle.board_core.specs.Machine.{Allowed, IsLawful}
 use Rattle.board_core.proofs.Histories.{any_kept, claimed_by, fault_any, found, kept_or, or_right, verdict_faults}
 use Rattle.board_core.proofs.Lawful.{allowed_at}
-use Rattle.verdict_book.specs.Books.{fault_of_end, IsFirst, IsWithoutFault}
+use Rattle.verdict_book.specs.Books.{EndsAtNoVerdict, fault_of_end, IsFirst, IsWithoutFault}
 use Rattle.verdict_book.specs.Stops.{EndsByItself, IsFault}
 
 -- an answered number has a verdict
@@ -95,10 +96,10 @@ stopped_fault marks es a h =
     subst (λ l. list_any is_fault l ≡ true) (sym r.2) (any_kept is_fault r.0 (Seal Stopped ∷ r.1) ok.1)
 
 -- a reader's own verdict isn't Accepted
-end_fault : (marks : List Bool) (es : List Event) → IsLawful marks es → (line : ℕ) (v : Verdict) → end_of es ≡ Some (Fault line v) → is_accepted v ≡ false
-end_fault marks es a line v h =
-    let r = ended_at es (Fault line v) h in
-    let ok = came marks es r.0 r.1 (Seal (Fault line v)) (Seal (Fault line v)) a r.2 refl in
+end_fault : (marks : List Bool) (es : List Event) → IsLawful marks es → (place : Place) (v : Verdict) → end_of es ≡ Some (Fault place v) → is_accepted v ≡ false
+end_fault marks es a place v h =
+    let r = ended_at es (Fault place v) h in
+    let ok = came marks es r.0 r.1 (Seal (Fault place v)) (Seal (Fault place v)) a r.2 refl in
     ok.1
 
 -- a sealed history has an end
@@ -127,8 +128,9 @@ ends_by_itself marks es a sealed clean = let r = has_end es sealed in subst Ends
   where
     go : (x : End) → end_of es ≡ Some x → EndsByItself (Some x)
     go Whole e = tt
-    go Unread e = tt
-    go (Fault line v) e = is_fault_by v (end_fault marks es a line v e)
+    go (Unread place) e = tt
+    go (Unopened name) e = tt
+    go (Fault place v) e = is_fault_by v (end_fault marks es a place v e)
     go Stopped e = let t = stopped_fault marks es a e in cc
 
 -- the first fault is a number that was put
@@ -143,17 +145,14 @@ first_by es (Some f) none some = some
 pub first_any : (es : List Event) (n : ℕ) (v : Verdict) → IsFirstFault es n v → list_any is_fault es ≡ true
 first_any es n v first = fault_any n es (verdict_faults n v es first.0 first.1)
 
--- where no job is at fault, none is named exactly where the input ended or a read failed
+-- where no job is at fault, none is named exactly where the reader ended at no verdict
 pub none_named : (es : List Event) (count : ℕ) → list_any is_fault es ≡ false → EndsByItself (end_of es) → IsNone (fault_of_end count (end_of es)) ↔ IsWithoutFault es
-none_named es count clean own = go (end_of es) refl own
+none_named es count clean own = go (end_of es) own
   where
-    go : (o : Option End) → end_of es ≡ o → EndsByItself o → IsNone (fault_of_end count o) ↔ IsWithoutFault es
-    go (Some Whole) e own = (λ h. (clean, inl e), λ w. refl)
-    go (Some Unread) e own = (λ h. (clean, inr e), λ w. refl)
-    go (Some (Fault line v)) e own = (λ h. (let t : true ≡ false = h in cc), λ w. absurd (not_whole w.1))
-      where
-        not_whole : (end_of es ≡ Some Whole) ⊎ (end_of es ≡ Some Unread) → ⊥
-        not_whole (inl i) = let t : Some Whole ≡ Some (Fault line v) = sym i ∙ e in cc
-        not_whole (inr i) = let t : Some Unread ≡ Some (Fault line v) = sym i ∙ e in cc
-    go (Some Stopped) e own = absurd own
-    go None e own = absurd own
+    go : (o : Option End) → EndsByItself o → IsNone (fault_of_end count o) ↔ ((list_any is_fault es ≡ false) × EndsAtNoVerdict o)
+    go (Some Whole) own = (λ h. (clean, tt), λ w. refl)
+    go (Some (Unread place)) own = (λ h. (clean, tt), λ w. refl)
+    go (Some (Unopened name)) own = (λ h. (clean, tt), λ w. refl)
+    go (Some (Fault place v)) own = (λ h. (let t : true ≡ false = h in cc), λ w. absurd w.1)
+    go (Some Stopped) own = absurd own
+    go None own = absurd own

@@ -1,45 +1,54 @@
 -- For callers: the report of a board's history: the `ok` lines of the jobs before its first fault, and its last line (docs/board.md).
-use Rattle.std.specs.Prelude.{◌≡◌, ◌⊎◌, ℕ, ◌+◌, ◌-◌, ◌==◌, false, List, length, map, take, slice_index_or, if◌then◌else◌, Option, Some, None}
+use Rattle.std.specs.Prelude.{◌≡◌, ℕ, ◌+◌, ◌-◌, ◌==◌, false, List, [], ◌∷◌, codes, length, map, take, slice_index_or, if◌then◌else◌, Option, Some, None}
 use Rattle.std.specs.List.{list_any}
 use Rattle.dk_model.specs.declared.code.Verdict.{Verdict}
 use Rattle.dk_model.specs.declared.code.Verdict.TheVariants as verdict
 use Rattle.board_core.specs.declared.event.End.{End}
 use Rattle.board_core.specs.declared.event.End.TheVariants as end
 use Rattle.board_core.specs.declared.event.Event.{Event}
+use Rattle.board_core.specs.declared.event.Place.{Place}
 use Rattle.board_core.specs.Events.{end_of, is_fault, IsFirstFault}
-use Rattle.verdict_book.specs.Report.{FileReport}
+use Rattle.verdict_book.specs.Report.{FileReport, concat, nowhere}
 use Rattle.verdict_book.specs.declared.outcome.Outcome.{Outcome}
-use Rattle.verdict_book.specs.declared.outcome.Outcome.TheVariants.{Accepted, Stopped, Unread}
+use Rattle.verdict_book.specs.declared.outcome.Outcome.TheVariants.{Accepted, Stopped, Unread, Unopened}
 use Rattle.verdict_book.specs.declared.title.Title.{Title}
 
+-- the name in the `ok` line of a command of this module, which is empty for the file that is checked
+abbrev pub name_in : List ℕ → List ℕ → List ℕ
+name_in [] name = name
+name_in (letter ∷ letters) name = concat ((letter ∷ letters) ∷ codes "." ∷ name ∷ [])
+
 -- the reader's own verdict on the command behind so many jobs; at line 0 memory ended before the first command was begun
-abbrev pub fault_outcome : ℕ → ℕ → Verdict → Outcome
-fault_outcome count line verdict.Memory = if line == 0 then Stopped 0 0 verdict.Memory else Stopped (count + 1) line verdict.Memory
-fault_outcome count line v = Stopped (count + 1) line v
+abbrev pub fault_outcome : ℕ → Place → Verdict → Outcome
+fault_outcome count place verdict.Memory =
+    if place.line == 0 then Stopped 0 nowhere verdict.Memory else Stopped (count + 1) place verdict.Memory
+fault_outcome count place v = Stopped (count + 1) place v
 
 -- stands for the outcome of a history that isn't finished: none of its jobs is at fault, and it has no end, or one that only
 -- a job at fault makes
 abbrev pub unfinished : ℕ → Outcome
-unfinished count = Unread (count + 1)
+unfinished count = Unread (count + 1) nowhere
 
--- the outcome by the end behind so many jobs, where none of them is at fault; a finished history then has one of the first three
+-- the outcome by the end behind so many jobs, where none of them is at fault; a finished history then has one of the first four
 abbrev pub end_outcome : ℕ → Option End → Outcome
 end_outcome count (Some end.Whole) = Accepted count
-end_outcome count (Some end.Unread) = Unread (count + 1)
-end_outcome count (Some (end.Fault line v)) = fault_outcome count line v
+end_outcome count (Some (end.Unread place)) = Unread (count + 1) place
+end_outcome count (Some (end.Unopened name)) = Unopened name
+end_outcome count (Some (end.Fault place v)) = fault_outcome count place v
 end_outcome count (Some end.Stopped) = unfinished count
 end_outcome count None = unfinished count
 
+-- the names in the `ok` lines
 abbrev pub names_of : List Title → List (List ℕ)
-names_of titles = map (λ (t : Title). t.name) titles
+names_of titles = map (λ (t : Title). name_in t.place.«module» t.name) titles
 
--- the line of the job of this number
-abbrev pub line_at : List Title → ℕ → ℕ
-line_at titles n = slice_index_or (map (λ (t : Title). t.line) titles) (n - 1) 0
+-- the place of the job of this number
+abbrev pub place_at : List Title → ℕ → Place
+place_at titles n = slice_index_or (map (λ (t : Title). t.place) titles) (n - 1) nowhere
 
 -- the report of jobs with these titles, with this first fault, if there is one, and this end
 abbrev pub report_with : List Title → Option (ℕ × Verdict) → Option End → FileReport
-report_with titles (Some f) e = record { names = names_of (take (f.0 - 1) titles); outcome = Stopped f.0 (line_at titles f.0) f.1 }
+report_with titles (Some f) e = record { names = names_of (take (f.0 - 1) titles); outcome = Stopped f.0 (place_at titles f.0) f.1 }
 report_with titles None e = record { names = names_of titles; outcome = end_outcome (length titles) e }
 
 -- the first fault of these events, if there is one
@@ -53,9 +62,18 @@ IsReportOf titles es report = (f : Option (ℕ × Verdict)) × IsFirst es f × (
 
 -- the command behind so many jobs, where the reader gave it its verdict itself
 abbrev pub fault_of_end : ℕ → Option End → Option (ℕ × Verdict)
-fault_of_end count (Some (end.Fault line v)) = Some (count + 1, v)
+fault_of_end count (Some (end.Fault place v)) = Some (count + 1, v)
 fault_of_end count _ = None
 
--- no job is at fault, and the input was read to its end, or up to a failed read
+-- the reader ended at no verdict: the input was read to its end, or up to a failed read or opening
+abbrev pub EndsAtNoVerdict : Option End → Type 0
+EndsAtNoVerdict (Some end.Whole) = Unit {0}
+EndsAtNoVerdict (Some (end.Unread place)) = Unit {0}
+EndsAtNoVerdict (Some (end.Unopened name)) = Unit {0}
+EndsAtNoVerdict (Some (end.Fault place v)) = ⊥
+EndsAtNoVerdict (Some end.Stopped) = ⊥
+EndsAtNoVerdict None = ⊥
+
+-- neither a job nor the reader's end is at fault
 abbrev pub IsWithoutFault : List Event → Type 0
-IsWithoutFault es = (list_any is_fault es ≡ false) × ((end_of es ≡ Some end.Whole) ⊎ (end_of es ≡ Some end.Unread))
+IsWithoutFault es = (list_any is_fault es ≡ false) × EndsAtNoVerdict (end_of es)

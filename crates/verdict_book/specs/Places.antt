@@ -1,14 +1,37 @@
--- For proofs: titles whose names stand in one text.
-use Rattle.std.specs.Prelude.{ℕ, ◌+◌, List, [], ◌∷◌, take, drop}
+-- For proofs: titles whose names stand in one text, and whose modules in one list.
+use Rattle.std.specs.Prelude.{◌≡◌, ℕ, ◌+◌, ◌<◌, ◌≤◌, List, [], ◌∷◌, ◌++◌, length, take, drop, slice_index_or}
 use Rattle.verdict_book.specs.declared.title.Title.{Title}
-use Rattle.verdict_book.specs.declared.title.Place.{Place}
+use Rattle.verdict_book.specs.declared.title.Spot.{Spot}
+use Rattle.verdict_book.specs.declared.title.TitleSlice.{TitleSlice}
 
--- the titles, each with the front of what is left of the text
-abbrev pub titled : List ℕ → List Place → List Title
-titled names [] = []
-titled names (p ∷ ps) = record { name = take p.length names; line = p.line } ∷ titled (drop p.length names) ps
+-- the titles, each with its module and with the front of what is left of the text
+abbrev pub titled : List (List ℕ) → List ℕ → List Spot → List Title
+titled modules names [] = []
+titled modules names (s ∷ ss) =
+    record { name = take s.length names; place = record { line = s.line; «module» = slice_index_or modules s.module_at [] } }
+    ∷ titled modules (drop s.length names) ss
+
+abbrev pub titles_in : TitleSlice → List Title
+titles_in t = titled t.modules.now t.names.now t.spots.now
 
 -- how many bytes the names have together
-abbrev pub total : List Place → ℕ
+abbrev pub total : List Spot → ℕ
 total [] = 0
-total (p ∷ ps) = p.length + total ps
+total (s ∷ ss) = s.length + total ss
+
+-- each title's module stands in the list
+abbrev pub AreIn : List (List ℕ) → List Spot → Type 0
+AreIn modules [] = Unit {0}
+AreIn modules (s ∷ ss) = (s.module_at < length modules) × AreIn modules ss
+
+-- the text has the names, and the list the modules
+pub record AreHeld (modules : List (List ℕ)) (names : List ℕ) (spots : List Spot) : Type 0 where
+  pub within : total spots ≤ length names
+  pub known : AreIn modules spots
+
+abbrev pub IsHeld : TitleSlice → Type 0
+IsHeld t = AreHeld t.modules.now t.names.now t.spots.now
+
+-- the list begins as the other
+abbrev pub Extends : List (List ℕ) → List (List ℕ) → Type 0
+Extends old new = (more : List (List ℕ)) × (new ≡ old ++ more)

@@ -1,6 +1,7 @@
 //! The report of a board's book: what its jobs and its end come to.
 ghost use Rattle.std.specs.Prelude.{◌≡◌, ◌↔◌, ◌<◌, ◌≤◌, ◌^◌, ◌++◌, true, false, length, IsNone, IsSomeAnd};
 ghost use Rattle.std.specs.List.{list_any};
+ghost use Rattle.std.specs.Option.{option_copied};
 ghost use Rattle.dk_io.specs.Writing.{Wrote};
 ghost use Rattle.dk_io.specs.Causes.{HasCause};
 ghost use Rattle.dk_io.specs.Gathered.{Gathers};
@@ -9,13 +10,13 @@ ghost use Rattle.board_core.specs.Machine.{IsFinished, marks_of};
 ghost use Rattle.verdict_book.specs.Report.{FileReport, last_line, ok_lines, report_of};
 ghost use Rattle.verdict_book.specs.Pieces.{pieces_text};
 ghost use Rattle.verdict_book.specs.Books.{end_outcome, fault_of_end, fault_outcome, IsReportOf, IsWithoutFault, names_of};
-ghost use Rattle.verdict_book.specs.Places.{titled, total};
+ghost use Rattle.verdict_book.specs.Places.{IsHeld, titles_in};
 ghost use Rattle.verdict_book.specs.Stops.{EndsByItself, IsFault, StopsAtFault};
 
-use crate::report::{put_last, put_ok};
-use crate::title::Place;
-use crate::{Outcome, Piece, Titles, put_pieces};
-use board_core::{Book, End};
+use crate::report::{Style, put_last, put_ok};
+use crate::title::TitleSlice;
+use crate::{ModuleRef, Outcome, Piece, PlaceRef, Titles, put_pieces};
+use board_core::{Book, End, Place};
 use dk_io::{Buffer, Failed, Sink};
 use dk_model::Verdict;
 
@@ -37,47 +38,49 @@ pub fn first_fault<J>(book: &Book<J>) -> Option<(u32, Verdict)>
 }
 
 // The command behind so many jobs, where the reader gave it its verdict itself.
-fn end_fault(count: u32, end: Option<End>) -> Option<(u32, Verdict)>
+fn end_fault(count: u32, end: Option<&End>) -> Option<(u32, Verdict)>
     requires { count < 4294967295 }
-    ensures { result ≡ fault_of_end count end }
+    ensures { result ≡ fault_of_end count (option_copied end.entry) }
 {
     match end {
-        Some(End::Fault(_, verdict)) => Some((count + 1, verdict)),
+        Some(End::Fault(_, verdict)) => Some((count + 1, *verdict)),
         _ => None,
     }
 }
 
 // The reader's own verdict on the command behind so many jobs.
-fn reader_outcome(count: u32, line: u32, verdict: Verdict) -> Outcome
+fn reader_outcome<'a>(count: u32, place: &'a Place, verdict: Verdict) -> Outcome<'a>
     requires few { count < 4294967295 }
     requires fault { IsFault verdict }
-    ensures value { result ≡ fault_outcome count line verdict }
+    ensures value { result ≡ fault_outcome count place.now verdict }
     ensures fault { StopsAtFault result }
 {
     match verdict {
-        Verdict::Memory if line == 0 => Outcome::Stopped(0, 0, Verdict::Memory),
-        _ => Outcome::Stopped(count + 1, line, verdict),
+        Verdict::Memory if place.line == 0 => {
+            Outcome::Stopped(0, PlaceRef::nowhere(), Verdict::Memory)
+        }
+        _ => Outcome::Stopped(count + 1, PlaceRef::of(place), verdict),
     }
 }
 
 // The outcome behind so many jobs of which none is at fault.
-fn own_outcome(count: u32, end: Option<End>) -> Outcome
+fn own_outcome<'a>(count: u32, end: Option<&'a End>) -> Outcome<'a>
     requires few { count < 4294967295 }
-    requires own { EndsByItself end }
-    ensures value { result ≡ end_outcome count end }
+    requires own { EndsByItself (option_copied end) }
+    ensures value { result ≡ end_outcome count (option_copied end.entry) }
     ensures fault { StopsAtFault result }
 {
     match end {
         Some(End::Whole) => Outcome::Accepted(count),
-        Some(End::Unread) => Outcome::Unread(count + 1),
-        Some(End::Fault(line, verdict)) => reader_outcome(count, line, verdict),
-        Some(End::Stopped) => unreachable!(),
-        None => unreachable!(),
+        Some(End::Unread(place)) => Outcome::Unread(count + 1, PlaceRef::of(place)),
+        Some(End::Unopened(module)) => Outcome::Unopened(ModuleRef::of(module)),
+        Some(End::Fault(place, verdict)) => reader_outcome(count, place, *verdict),
+        Some(End::Stopped) | None => unreachable!(),
     }
 }
 
 /// How the file ends whose jobs have these titles, in order: at the book's first fault, or else as the reader ended.
-pub fn outcome_of<J>(book: &Book<J>, titles: &Titles) -> Outcome
+pub fn outcome_of<'a, J>(book: &'a Book<J>, titles: &'a Titles) -> Outcome<'a>
     requires finished { IsFinished (marks_of book.now.jobs) book.now.events }
     requires all { length titles.now ≡ length book.now.jobs }
     ensures value { (report : FileReport) →
@@ -86,49 +89,58 @@ pub fn outcome_of<J>(book: &Book<J>, titles: &Titles) -> Outcome
 {
     book.history();
     match book.fault() {
-        Some((number, verdict)) => Outcome::Stopped(number, titles.line(number), verdict),
+        Some((number, verdict)) => Outcome::Stopped(number, titles.place(number), verdict),
         None => own_outcome(titles.len() as u32, book.end()),
     }
 }
 
-// The places of the jobs that have an `ok` line: those before the first fault.
-fn shown_places<'t, J>(book: &Book<J>, names: &[u8], places: &'t [Place]) -> &'t [Place]
-    requires { length places.now ≡ length book.now.jobs }
+// The titles of the jobs that have an `ok` line: those before the first fault.
+fn shown<'t, J>(book: &Book<J>, titles: &TitleSlice<'t>) -> TitleSlice<'t>
+    requires all { length titles.now.spots.now ≡ length book.now.jobs }
+    requires held { IsHeld titles.now }
     ensures names { (report : FileReport) →
-        IsReportOf (titled names.now places.now) book.now.events report →
-        names_of (titled names.now result.now) ≡ report.names }
-    ensures total { total result.now ≤ total places.now }
+        IsReportOf (titles_in titles.now) book.now.events report →
+        names_of (titles_in result) ≡ report.names }
+    ensures held { IsHeld result }
+    ensures few { length result.spots.now ≤ length titles.now.spots.now }
 {
-    let _text = names;
     book.history();
     match book.fault() {
         Some((number, _)) => {
-            let (shown, _) = places.split_at(number as usize - 1);
-            shown
+            let (before, _) = titles.spots.split_at(number as usize - 1);
+            TitleSlice {
+                names: titles.names,
+                modules: titles.modules,
+                spots: before,
+            }
         }
-        None => places,
+        None => TitleSlice {
+            names: titles.names,
+            modules: titles.modules,
+            spots: titles.spots,
+        },
     }
 }
 
-// The `ok` lines of jobs with these places in the text of their names.
+// The `ok` lines of jobs with these titles.
 fn put_titles<K: Sink>(
     buffer: &mut Buffer,
     sink: &mut K,
-    names: &[u8],
-    places: &[Place],
+    titles: &TitleSlice<'_>,
 ) -> Result<(), Failed>
-    requires few { length places.now < 2 ^ 63 }
-    requires within { total places.now ≤ length names.now }
+    requires few { length titles.now.spots.now < 2 ^ 63 }
+    requires held { IsHeld titles.now }
     ensures put { Gathers (K.taken sink.old) buffer.old (K.taken sink.new) buffer.new
-        (ok_lines 1 (names_of (titled names.now places.now))) result }
+        (ok_lines 1 (names_of (titles_in titles.now))) result }
     ensures cause { HasCause (K.faults sink.old) (K.faults sink.new) result }
 {
     let mut number = 1;
-    let mut rest = names;
-    for place in places {
-        let (name, behind) = rest.split_at(place.length as usize);
+    let mut rest = titles.names;
+    for spot in titles.spots {
+        let (name, behind) = rest.split_at(spot.length as usize);
         rest = behind;
-        match put_ok(buffer, sink, number, name) {
+        let module = &titles.modules[spot.module_at as usize];
+        match put_ok(buffer, sink, number, module.as_slice(), name) {
             Ok(()) => number += 1,
             Err(failed) => return Err(failed),
         }
@@ -137,27 +149,26 @@ fn put_titles<K: Sink>(
 }
 
 // The lines of the report, one after the other.
-fn put_lines<K: Sink>(
+fn put_lines<'x, K: Sink>(
     buffer: &mut Buffer,
     sink: &mut K,
-    names: &[u8],
-    places: &[Place],
-    outcome: Outcome,
-    budget: u64,
-    quiet: bool,
+    titles: &TitleSlice<'_>,
+    outcome: &'x Outcome<'x>,
+    style: &'x Style<'x>,
 ) -> Result<(), Failed>
-    requires few { length places.now < 2 ^ 63 }
-    requires within { total places.now ≤ length names.now }
-    requires fault { StopsAtFault outcome }
+    requires few { length titles.now.spots.now < 2 ^ 63 }
+    requires held { IsHeld titles.now }
+    requires fault { StopsAtFault outcome.now }
     ensures put { Gathers (K.taken sink.old) buffer.old (K.taken sink.new) buffer.new
-        (report_of (names_of (titled names.now places.now)) outcome budget quiet) result }
+        (report_of (names_of (titles_in titles.now)) outcome.now style.now.budget
+        style.now.quiet style.now.folder.now) result }
     ensures cause { HasCause (K.faults sink.old) (K.faults sink.new) result }
 {
-    if quiet {
-        return put_last(buffer, sink, outcome, budget);
+    if style.quiet {
+        return put_last(buffer, sink, outcome, style);
     }
-    match put_titles(buffer, sink, names, places) {
-        Ok(()) => put_last(buffer, sink, outcome, budget),
+    match put_titles(buffer, sink, titles) {
+        Ok(()) => put_last(buffer, sink, outcome, style),
         Err(failed) => Err(failed),
     }
 }
@@ -165,27 +176,33 @@ fn put_lines<K: Sink>(
 /// Writes the report of the book: an `ok` line for each job before its first fault, unless `quiet`, and the last line. Takes no
 /// memory.
 ///
-/// `titles` are those of the book's jobs, in order. `budget` is the number in a line that says that the budget ended. After
-/// `Failed` the sink has taken a front of the report.
+/// `titles` are those of the book's jobs, in order. `budget` is the number in a line that says that the budget ended, `folder`
+/// what stands before the name of a module's file, up to and with its last `/`. After `Failed` the sink has taken a front of
+/// the report.
 pub fn write_report<J, K: Sink>(
     book: &Book<J>,
     titles: &Titles,
     budget: u64,
     quiet: bool,
+    folder: &str,
     sink: &mut K,
 ) -> Result<(), Failed>
     requires finished { IsFinished (marks_of book.now.jobs) book.now.events }
     requires all { length titles.now ≡ length book.now.jobs }
     ensures wrote { (report : FileReport) → IsReportOf titles.now book.now.events report →
         Wrote (K.taken sink.old) (K.taken sink.new)
-        (report_of report.names report.outcome budget quiet) result }
+        (report_of report.names report.outcome budget quiet folder.now) result }
     ensures cause { HasCause (K.faults sink.old) (K.faults sink.new) result }
 {
+    let style = Style {
+        budget,
+        quiet,
+        folder,
+    };
     let outcome = outcome_of(book, titles);
-    let (names, places) = titles.parts();
-    let shown = shown_places(book, names, places);
+    let before = shown(book, &titles.as_slice());
     let mut buffer = Buffer::new();
-    match put_lines(&mut buffer, sink, names, shown, outcome, budget, quiet) {
+    match put_lines(&mut buffer, sink, &before, &outcome, &style) {
         Ok(()) => buffer.flush(sink),
         Err(failed) => Err(failed),
     }
@@ -194,39 +211,45 @@ pub fn write_report<J, K: Sink>(
 /// Writes these pieces, and the last line of a report behind them. Takes no memory.
 ///
 /// After `Failed` the sink has taken a front of that.
-pub fn write_last<K: Sink>(
+pub fn write_last<'x, K: Sink>(
     head: &[Piece<'_>],
-    outcome: Outcome,
+    outcome: &'x Outcome<'x>,
     budget: u64,
+    folder: &'x str,
     sink: &mut K,
 ) -> Result<(), Failed>
-    requires { StopsAtFault outcome }
+    requires { StopsAtFault outcome.now }
     ensures wrote { Wrote (K.taken sink.old) (K.taken sink.new)
-        (pieces_text head.now ++ last_line outcome budget) result }
+        (pieces_text head.now ++ last_line outcome.now budget folder.now) result }
     ensures cause { HasCause (K.faults sink.old) (K.faults sink.new) result }
 {
+    let style = Style {
+        budget,
+        quiet: true,
+        folder,
+    };
     let mut lines = Buffer::new();
-    match put_behind(&mut lines, sink, head, outcome, budget) {
+    match put_behind(&mut lines, sink, head, outcome, &style) {
         Ok(()) => lines.flush(sink),
         Err(failed) => Err(failed),
     }
 }
 
 // The pieces, and the last line behind them.
-fn put_behind<K: Sink>(
+fn put_behind<'x, K: Sink>(
     buffer: &mut Buffer,
     sink: &mut K,
     head: &[Piece<'_>],
-    outcome: Outcome,
-    budget: u64,
+    outcome: &'x Outcome<'x>,
+    style: &'x Style<'x>,
 ) -> Result<(), Failed>
-    requires { StopsAtFault outcome }
+    requires { StopsAtFault outcome.now }
     ensures put { Gathers (K.taken sink.old) buffer.old (K.taken sink.new) buffer.new
-        (pieces_text head.now ++ last_line outcome budget) result }
+        (pieces_text head.now ++ last_line outcome.now style.now.budget style.now.folder.now) result }
     ensures cause { HasCause (K.faults sink.old) (K.faults sink.new) result }
 {
     match put_pieces(buffer, sink, head) {
-        Ok(()) => put_last(buffer, sink, outcome, budget),
+        Ok(()) => put_last(buffer, sink, outcome, style),
         Err(failed) => Err(failed),
     }
 }

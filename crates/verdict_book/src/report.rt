@@ -1,98 +1,150 @@
 //! The lines of a report.
+ghost use Rattle.std.specs.Prelude.{◌++◌, codes};
 ghost use Rattle.dk_io.specs.Causes.{HasCause};
 ghost use Rattle.dk_io.specs.Gathered.{Gathers};
-ghost use Rattle.verdict_book.specs.Report.{last_line, ok_line, stop_line};
+ghost use Rattle.verdict_book.specs.Report.{in_book, last_line, ok_line, stop_text};
+ghost use Rattle.verdict_book.specs.Books.{name_in};
 ghost use Rattle.verdict_book.specs.Stops.{IsFault, StopsAtFault};
 
 use crate::{Outcome, Piece, put_pieces};
 use dk_io::{Buffer, Failed, Sink};
 use dk_model::Verdict;
 
-/// The line of an accepted command.
-pub fn put_ok<K: Sink>(
+/// How the lines of a report are written.
+#[derive(Drop)]
+pub struct Style<'a> {
+    /// The number in the line that says that the budget ended.
+    pub budget: u64,
+    /// Without `ok` lines.
+    pub quiet: bool,
+    /// What stands before the name of a module's file.
+    pub folder: &'a str,
+}
+
+/// The line of an accepted command of this module.
+pub fn put_ok<'x, K: Sink>(
     buffer: &mut Buffer,
     sink: &mut K,
     number: u64,
-    name: &[u8],
+    module: &'x [u8],
+    name: &'x [u8],
 ) -> Result<(), Failed>
     ensures put { Gathers (K.taken sink.old) buffer.old (K.taken sink.new) buffer.new
-        (ok_line number name.now) result }
+        (ok_line number (name_in «module».now name.now)) result }
     ensures cause { HasCause (K.faults sink.old) (K.faults sink.new) result }
 {
-    put_pieces(
-        buffer,
-        sink,
-        &[
-            Piece::Text(b"ok "),
-            Piece::Number(number),
-            Piece::Text(b" "),
-            Piece::Text(name),
-            Piece::Text(b"\n"),
-        ],
-    )
+    let ok = Piece::Text(b"ok ");
+    let blank = Piece::Text(b" ");
+    let number = Piece::Number(number);
+    let name = Piece::Text(name);
+    let end = Piece::Text(b"\n");
+    if module.is_empty() {
+        return put_pieces(buffer, sink, &[ok, number, blank, name, end]);
+    }
+    let module = Piece::Text(module);
+    let dot = Piece::Text(b".");
+    put_pieces(buffer, sink, &[ok, number, blank, module, dot, name, end])
 }
 
+// What the last line says up to its place's module.
 fn put_stop<K: Sink>(
     buffer: &mut Buffer,
     sink: &mut K,
-    number: u32,
-    line: u32,
+    place: (u32, u32),
     verdict: Verdict,
     budget: u64,
 ) -> Result<(), Failed>
     requires { IsFault verdict }
     ensures put { Gathers (K.taken sink.old) buffer.old (K.taken sink.new) buffer.new
-        (stop_line number line verdict budget) result }
+        (stop_text place.0 place.1 verdict budget) result }
     ensures cause { HasCause (K.faults sink.old) (K.faults sink.new) result }
 {
-    let number = Piece::Number(number as u64);
-    let line = Piece::Number(line as u64);
+    let number = Piece::Number(place.0 as u64);
+    let line = Piece::Number(place.1 as u64);
     let at = Piece::Text(b" line ");
     let blank = Piece::Text(b" ");
-    let end = Piece::Text(b"\n");
     match verdict {
         Verdict::Accepted => unreachable!(),
         Verdict::Refused(code) => {
             let refused = Piece::Text(b"refused ");
             let code = Piece::Text(code.spelling());
-            put_pieces(buffer, sink, &[refused, number, at, line, blank, code, end])
+            put_pieces(buffer, sink, &[refused, number, at, line, blank, code])
         }
         Verdict::Ended => {
             let ended = Piece::Text(b"budget ");
             let budget = Piece::Number(budget);
-            put_pieces(buffer, sink, &[ended, number, at, line, blank, budget, end])
+            put_pieces(buffer, sink, &[ended, number, at, line, blank, budget])
         }
         Verdict::Memory => {
             let memory = Piece::Text(b"memory ");
-            put_pieces(buffer, sink, &[memory, number, at, line, end])
+            put_pieces(buffer, sink, &[memory, number, at, line])
         }
     }
 }
 
-/// The last line.
-pub fn put_last<K: Sink>(
+// The end of a last line about a place of this module.
+fn put_place<'x, K: Sink>(
     buffer: &mut Buffer,
     sink: &mut K,
-    outcome: Outcome,
-    budget: u64,
+    folder: &'x str,
+    module: &'x [u8],
 ) -> Result<(), Failed>
-    requires { StopsAtFault outcome }
     ensures put { Gathers (K.taken sink.old) buffer.old (K.taken sink.new) buffer.new
-        (last_line outcome budget) result }
+        (in_book folder.now «module».now ++ codes "\n") result }
     ensures cause { HasCause (K.faults sink.old) (K.faults sink.new) result }
 {
     let end = Piece::Text(b"\n");
+    if module.is_empty() {
+        return put_pieces(buffer, sink, &[end]);
+    }
+    let within = Piece::Text(b" in ");
+    let folder = Piece::Text(folder.as_bytes());
+    let module = Piece::Text(module);
+    let ending = Piece::Text(b".dk");
+    put_pieces(buffer, sink, &[within, folder, module, ending, end])
+}
+
+/// The last line.
+pub fn put_last<'x, K: Sink>(
+    buffer: &mut Buffer,
+    sink: &mut K,
+    outcome: &'x Outcome<'x>,
+    style: &'x Style<'x>,
+) -> Result<(), Failed>
+    requires { StopsAtFault outcome.now }
+    ensures put { Gathers (K.taken sink.old) buffer.old (K.taken sink.new) buffer.new
+        (last_line outcome.now style.now.budget style.now.folder.now) result }
+    ensures cause { HasCause (K.faults sink.old) (K.faults sink.new) result }
+{
     match outcome {
         Outcome::Accepted(count) => {
             let accepted = Piece::Text(b"accepted ");
-            put_pieces(buffer, sink, &[accepted, Piece::Number(count as u64), end])
+            let end = Piece::Text(b"\n");
+            put_pieces(buffer, sink, &[accepted, Piece::Number(*count as u64), end])
         }
-        Outcome::Stopped(number, line, verdict) => {
-            put_stop(buffer, sink, number, line, verdict, budget)
+        Outcome::Stopped(number, place, verdict) => {
+            let at = (*number, place.line());
+            match put_stop(buffer, sink, at, *verdict, style.budget) {
+                Ok(()) => put_place(buffer, sink, style.folder, place.module()),
+                Err(failed) => Err(failed),
+            }
         }
-        Outcome::Unread(number) => {
+        Outcome::Unread(number, place) => {
             let unread = Piece::Text(b"unread ");
-            put_pieces(buffer, sink, &[unread, Piece::Number(number as u64), end])
+            match put_pieces(buffer, sink, &[unread, Piece::Number(*number as u64)]) {
+                Ok(()) => put_place(buffer, sink, style.folder, place.module()),
+                Err(failed) => Err(failed),
+            }
+        }
+        Outcome::Unopened(module) => {
+            let unopened = Piece::Text(b"unopened ");
+            let folder = Piece::Text(style.folder.as_bytes());
+            let ending = Piece::Text(b".dk\n");
+            put_pieces(
+                buffer,
+                sink,
+                &[unopened, folder, Piece::Text(module.name()), ending],
+            )
         }
     }
 }

@@ -1,8 +1,10 @@
 //! What a report names of a job, and the list of it for all jobs.
-ghost use Rattle.std.specs.Prelude.{◌≡◌, ◌-◌, ◌<◌, ◌≤◌, ◌++◌, ◌∷◌, [], length, take, OnOk, OnErr};
-ghost use Rattle.verdict_book.specs.Books.{line_at};
-ghost use Rattle.verdict_book.specs.Places.{titled, total};
+ghost use Rattle.std.specs.Prelude.{◌≡◌, ◌-◌, ◌<◌, ◌≤◌, ◌++◌, ◌∷◌, [], length, slice_get, take, IsTrue, IfOk, OnOk, OnErr};
+ghost use Rattle.verdict_book.specs.Books.{place_at};
+ghost use Rattle.verdict_book.specs.Places.{Extends, IsHeld, titles_in};
 
+use crate::PlaceRef;
+use board_core::Place;
 use dk_model::{Listed, NoMemory};
 use std::alloc::Global;
 use std::marker::Model;
@@ -10,38 +12,50 @@ use std::marker::Model;
 /// What a report names of a job.
 #[derive(Drop)]
 pub struct Title {
-    /// The name in its `ok` line.
+    /// The name in its `ok` line, without its module.
     pub name: Listed<u8>,
-    /// The line of its command's first token, from 1.
-    pub line: u32,
+    /// Its command's module, and the line of that command's first token, from 1.
+    pub place: Place,
 }
 
-/// A title whose name stands in a text.
+/// A title whose name stands in a text and whose module in a list.
 #[derive(Clone, Copy)]
-pub struct Place {
+pub struct Spot {
     /// How many bytes the name has.
     pub length: u32,
     pub line: u32,
+    /// Where in the list its module stands.
+    pub module_at: u32,
 }
 
 /// The titles of jobs, in order. Their names stand in one text, one behind the other, so that a job
-/// takes no block of memory for its name.
+/// takes no block of memory for its name; a module stands once for all jobs in a row that have it.
 #[derive(Drop)]
 pub struct Titles {
     names: Vec<u8>,
-    places: Vec<Place>,
+    modules: Vec<Listed<u8>>,
+    spots: Vec<Spot>,
 }
 
 impl Model for Titles {
     ghost use Rattle.std.specs.Prelude.{◌≡◌, List, length};
     ghost use Rattle.verdict_book.specs.declared.title.Title.{Title};
-    ghost use Rattle.verdict_book.specs.Places.{titled, total};
+    ghost use Rattle.verdict_book.specs.Places.{AreIn, titled, total};
 
     ghost Value = { List Title };
 
-    ghost view = { λ t. titled t.names.items t.places.items };
+    ghost view = { λ t. titled t.modules.items t.names.items t.spots.items };
 
-    ghost invariant = { λ t. total t.places.items ≡ length t.names.items };
+    ghost invariant = { λ t. (total t.spots.items ≡ length t.names.items)
+        × AreIn t.modules.items t.spots.items };
+}
+
+/// Some titles of a list, in order.
+#[derive(Drop)]
+pub struct TitleSlice<'t> {
+    pub names: &'t [u8],
+    pub modules: &'t [Listed<u8>],
+    pub spots: &'t [Spot],
 }
 
 impl Titles {
@@ -50,14 +64,15 @@ impl Titles {
     {
         Titles {
             names: Vec::new(alloc),
-            places: Vec::new(alloc),
+            modules: Vec::new(alloc),
+            spots: Vec::new(alloc),
         }
     }
 
     pub fn len(&self) -> usize
         ensures { result ≡ length self.now }
     {
-        self.places.len()
+        self.spots.len()
     }
 
     /// Adds a copy of a title, behind the others. A name of 2^32 bytes is want of memory.
@@ -68,11 +83,13 @@ impl Titles {
         let Ok(length) = u32::try_from(title.name.len()) else {
             return Err(NoMemory);
         };
-        self.places.reserve(1)?;
+        self.spots.reserve(1)?;
+        let module_at = module_number(&mut self.modules, &title.place.module)?;
         self.names.extend_from_slice(title.name.as_slice())?;
-        self.places.push_reserved(Place {
+        self.spots.push_reserved(Spot {
             length,
-            line: title.line,
+            line: title.place.line,
+            module_at,
         });
         Ok(())
     }
@@ -81,25 +98,54 @@ impl Titles {
     pub fn pop(&mut self)
         ensures { self.new ≡ take (length self.old - 1) self.old }
     {
-        if let Some(place) = self.places.pop() {
-            let kept = self.names.len() - place.length as usize;
+        if let Some(spot) = self.spots.pop() {
+            let kept = self.names.len() - spot.length as usize;
             self.names.truncate(kept);
         }
     }
 
-    /// The line of the job of this number.
-    pub fn line(&self, number: u32) -> u32
+    /// The place of the job of this number.
+    pub fn place(&self, number: u32) -> PlaceRef<'_>
         requires { (0 < number) × (number ≤ length self.now) }
-        ensures { result ≡ line_at self.now number }
+        ensures { result ≡ place_at self.now number }
     {
-        self.places[number as usize - 1].line
+        let spot = &self.spots[number as usize - 1];
+        PlaceRef::at(spot.line, &self.modules[spot.module_at as usize])
     }
 
-    /// The names, one behind the other, and the place of each.
-    pub(crate) fn parts(&self) -> (&[u8], &[Place])
-        ensures titles { titled result.0.now result.1.now ≡ self.now }
-        ensures total { total result.1.now ≡ length result.0.now }
+    pub(crate) fn as_slice(&self) -> TitleSlice<'_>
+        ensures titles { titles_in result ≡ self.now }
+        ensures held { IsHeld result }
     {
-        (self.names.as_slice(), self.places.as_slice())
+        TitleSlice {
+            names: self.names.as_slice(),
+            modules: self.modules.as_slice(),
+            spots: self.spots.as_slice(),
+        }
     }
+}
+
+// Whether the module stands last in the list.
+fn is_last(modules: &[Listed<u8>], module: &Listed<u8>) -> bool
+    ensures { IsTrue result →
+        slice_get modules.now (length modules.now - 1) ≡ Some «module».now }
+{
+    match modules.last() {
+        Some(last) => last.as_slice() == module.as_slice(),
+        None => false,
+    }
+}
+
+// Where the module stands in the list: last. It is put there, unless it was the last already.
+fn module_number(modules: &mut Vec<Listed<u8>>, module: &Listed<u8>) -> Result<u32, NoMemory>
+    ensures kept { Extends modules.old.items modules.new.items }
+    ensures ok { IfOk result (λ n. slice_get modules.new.items n ≡ Some «module».now) }
+{
+    if !is_last(modules.as_slice(), module) {
+        modules.push(module.copy(*modules.allocator())?)?;
+    }
+    let Ok(number) = u32::try_from(modules.len() - 1) else {
+        return Err(NoMemory);
+    };
+    Ok(number)
 }

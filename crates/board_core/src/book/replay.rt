@@ -21,7 +21,7 @@ impl<J> Book<J> {
     {
         let mut book = Book::new(*self.history.allocator())?;
         for event in self.history() {
-            self.repeat(blank, &mut book, *event)?;
+            self.repeat(blank, &mut book, event)?;
         }
         Ok(book)
     }
@@ -31,29 +31,29 @@ impl<J> Book<J> {
         &self,
         blank: &Arc<B>,
         book: &mut Book<B>,
-        event: Event,
+        event: &Event,
     ) -> Result<(), NoMemory>
         requires lawful { IsLawful (marks_of (blanks (arc_value blank.now) self.now.jobs))
-            (book.old.events ++ event ∷ []) }
-        requires within { puts (book.old.events ++ event ∷ [])
+            (book.old.events ++ event.now ∷ []) }
+        requires within { puts (book.old.events ++ event.now ∷ [])
             ≤ length (blanks (arc_value blank.now) self.now.jobs) }
         requires part { book.old
             ≡ part_of (blanks (arc_value blank.now) self.now.jobs) book.old.events }
         ensures { OnOk result (book.new ≡ part_of (blanks (arc_value blank.now) self.now.jobs)
-            (book.old.events ++ event ∷ [])) }
+            (book.old.events ++ event.now ∷ [])) }
     {
         match event {
-            Event::Put(number) => self.repeat_put(blank, book, number),
+            Event::Put(number) => self.repeat_put(blank, book, *number),
             Event::Claim(worker, number) => {
-                self.repeat_claim(blank, book, worker, number);
+                self.repeat_claim(blank, book, *worker, *number);
                 Ok(())
             }
             Event::Answer(worker, number, verdict) => {
-                book.answer(worker, number, verdict);
+                book.answer(*worker, *number, *verdict);
                 Ok(())
             }
             Event::Seal(end) => {
-                book.seal(end);
+                book.seal(end.copy(*self.history.allocator())?);
                 Ok(())
             }
         }

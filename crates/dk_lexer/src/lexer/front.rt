@@ -1,12 +1,12 @@
 //! Fronts of a piece of which no byte gives a token: blanks, and bytes of a comment.
 ghost use Rattle.std.specs.Prelude.{◌≡◌, ◌≤◌, ◌<◌, ◌+◌, ◌-◌, ℕ, length, take};
 ghost use Rattle.dk_lexer.specs.Fronts.{Passes, StandInName, comment_inside, is_blank_class, with_part};
-ghost use Rattle.dk_lexer.specs.Classes.{class_of, in_name};
+ghost use Rattle.dk_lexer.specs.Classes.{class_of};
 ghost use Rattle.dk_lexer.specs.Tokens.{bound};
 
 use super::Lexer;
 use crate::Place;
-use crate::class::{Class, classify};
+use crate::class::{Class, classify, is_in_name};
 use crate::part::Part;
 
 // Is it a blank between tokens.
@@ -16,18 +16,6 @@ fn is_blank(byte: u8) -> bool
     ensures { result ≡ is_blank_class (class_of byte) }
 {
     matches!(byte, b' ' | b'\t' | b'\r' | b'\n')
-}
-
-// May it stand in a name.
-#[inline(always)]
-#[tactic(auto, unfolding(crate::specs::Classes::class_of))]
-fn is_in_name(byte: u8) -> bool
-    ensures { result ≡ in_name (class_of byte) }
-{
-    matches!(
-        byte,
-        b'a'..=b'z' | b'A'..=b'Z' | b'0'..=b'9' | b'_' | b'\'' | b'!' | b'?'
-    )
 }
 
 // How many of the first bytes stand in a name.

@@ -19,7 +19,7 @@ returns-in-Ok-check_open_book g c = λ shelf.
     let q = c.args.request.now in
     let made = c.in-Ok.ensures in
     let checks = c.in-Ok-check_open_book.ensures.checks in
-    let size_is : c.size-size.result ≡ length (theory_of q.count) = c.size-size.ensures ∙ ap (λ (t : TextState). t.size) made in
+    let size_is : c.size-size.result ≡ length (theory_of q.count) = c.size-size.ensures ∙ ap (λ (t : TextState). length t.bytes) made in
     let outcome_is = c.outcome_of-outcome.ensures.value checks.report checks.report_is in
     theory_row _ _ shelf _ _ _ checks.report.names _ _ checks.report.outcome refl refl (checks.ends (theory_of q.count) (ap (λ (t : TextState). Some t.left) made))
     (subst (λ o. Writes (sink_of g.K.Sink c.args.sink.now) (sink_of g.K.Sink c.put_summary.new.sink) (text_by (made_line q.count (length (theory_of q.count))) q.budget o) (status_of o) c.put_summary.result) outcome_is

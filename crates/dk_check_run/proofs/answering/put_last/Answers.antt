@@ -7,8 +7,8 @@ returns-in-Ok g c = record {
   known = inl c.status.ensures;
   whole = λ _. c.in-Ok.ensures.wrote.whole;
   held = λ _. c.in-Ok.ensures.cause.stands;
-  failed = λ e. absurd (status_not_five c.args.outcome (sym c.status.ensures ∙ e));
-  front = λ e. absurd (status_not_five c.args.outcome (sym c.status.ensures ∙ e));
+  failed = λ e. absurd (status_not_five c.args.outcome.now (sym c.status.ensures ∙ e));
+  front = λ e. absurd (status_not_five c.args.outcome.now (sym c.status.ensures ∙ e));
 }
 
 pub returns-in-Err : goal.returns-in-Err

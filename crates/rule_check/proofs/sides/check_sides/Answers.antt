@@ -12,6 +12,5 @@ check_terms-requires-clause-found g c = found_kept c.args.r.now c.check_notes.ne
 pub returns-clause-gives : goal.returns-clause-gives
 returns-clause-gives g c = λ t. fit_is c.check_terms.result c.check_terms.new.left
     (sides_go_on (entries_of c.args.version.now) c.args.r.now c.check_notes.new.r c.in_ok-check_notes.ensures.follows.keeps (plain_rule c.args.rule.now) c.args.side c.requires.typ c.requires.found t
-    (map maybe_tree c.as_slice.result.now) c.as_slice-types.result.now c.args.left.now c.check_notes.new.left (ap (map maybe_tree) c.as_slice.ensures) c.as_slice-types.ensures.value
-    c.in_ok-check_notes.ensures.gives)
+    (map maybe_tree c.as_slice.result.now) c.args.left.now c.check_notes.new.left (ap (map maybe_tree) c.as_slice.ensures) c.in_ok-check_notes.ensures.gives)
     c.check_terms.ensures.gives

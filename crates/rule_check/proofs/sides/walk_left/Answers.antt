@@ -8,7 +8,7 @@ use Rattle.rule_check.proofs.Walking.{spine_same, nothing_owned, nothing_is}
 use Rattle.rule_check.proofs.sides.walk_left.Goals as goal
 
 pub walk_spine-walked-requires-clause-found : goal.walk_spine-walked-requires-clause-found
-walk_spine-walked-requires-clause-found g c = nothing_owned g.R.Reducer.owns c.symbol_head.new.r c.in_ok-found.found c.args.rule.now.vars c.in_ok-found.ensures.types c.in_ok-found.ensures.guards
+walk_spine-walked-requires-clause-found g c = nothing_owned g.R.Reducer.owns g.R.Reducer.denotes c.symbol_head.new.r c.in_ok-found.found c.args.rule.now.vars c.in_ok-found.ensures.types c.in_ok-found.ensures.guards c.in_ok-found.ensures.bindings
 
 pub returns-in_err-walked-clause-gives : goal.returns-in_err-walked-clause-gives
 returns-in_err-walked-clause-gives g c =
@@ -17,7 +17,7 @@ returns-in_err-walked-clause-gives g c =
     let rule = c.args.rule.now in
     let head = c.in_ok-head.ensures.head in
     let same = spine_same (entries_of c.args.version.now) c.args.left.now (none_bound D s c.new-context.result.bound c.new-context.ensures.bound) head.term head.typ
-    (ap (λ ps. patterns_of (map pattern ps)) c.as_slice-arguments.ensures) (nothing_is D s c.in_ok-found.found rule.vars c.in_ok-found.ensures.types c.in_ok-found.ensures.guards) in
+    (ap (λ ps. patterns_of (map pattern ps)) c.as_slice-arguments.ensures) (nothing_is D s c.in_ok-found.found rule.vars c.in_ok-found.ensures.types c.in_ok-found.ensures.guards c.in_ok-found.ensures.bindings) in
     let p = fails_is c.in_err-walked.field-0.0 _ _ _ (flip same) c.in_err-walked.ensures.gives in
     search rules
 
@@ -29,5 +29,5 @@ returns-clause-gives g c =
     let head = c.in_ok-head.ensures.head in
     let given = c.in_ok-walked.ensures.gives in
     let same = spine_same (entries_of c.args.version.now) c.args.left.now (none_bound D s c.new-context.result.bound c.new-context.ensures.bound) head.term head.typ
-    (ap (λ ps. patterns_of (map pattern ps)) c.as_slice-arguments.ensures) (nothing_is D s c.in_ok-found.found rule.vars c.in_ok-found.ensures.types c.in_ok-found.ensures.guards) in
+    (ap (λ ps. patterns_of (map pattern ps)) c.as_slice-arguments.ensures) (nothing_is D s c.in_ok-found.found rule.vars c.in_ok-found.ensures.types c.in_ok-found.ensures.guards c.in_ok-found.ensures.bindings) in
     (D c.walk_spine-walked.new.r c.in_ok-walked.field-0.term, flip same ∙ given.0, given.2, given.3)

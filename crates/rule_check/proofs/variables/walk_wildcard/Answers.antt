@@ -31,7 +31,7 @@ returns-clause-gives g c =
     let n = c.first_type.new.walk.left in
     let given = c.in_ok-typ.ensures.gives in
     let e = c.as_slice.ensures ∙ c.in_ok-variables.ensures ∙ ap outermost_first (c.len.ensures ∙ flip (length_bound_types D r x)) in
-    let found = wildcard_found r mid c.in_ok-typ.ensures.continues.keeps w c.push_type.new.self c.requires.found c.in_ok-typ.typ c.in_ok-number.ensures.types c.in_ok-number.ensures.guards given.1 in
+    let found = wildcard_found r mid c.in_ok-typ.ensures.continues.keeps w c.push_type.new.self c.requires.found c.in_ok-typ.typ c.in_ok-number.ensures.types c.in_ok-number.ensures.guards c.in_ok-number.ensures.bindings given.1 in
     let made = c.in_ok-occurrence.ensures.makes in
     let k = c.in_ok-occurrence.ensures.keeps in (
       wildcard_given (entries_of c.args.version.now) (bound_types D r x) c.as_slice.result.now (D r c.args.expected.now) (D mid c.in_ok-typ.typ) (found_of D r w) c.args.side.now.walk.left n e given.0

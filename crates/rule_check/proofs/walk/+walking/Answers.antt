@@ -4,17 +4,18 @@ use Rattle.dk_model.specs.Trees.{apply}
 use Rattle.dk_model.specs.Substitution.{substitute}
 use Rattle.dk_model.specs.Signatures.{pattern}
 use Rattle.dk_model.specs.Typing.{answer}
-use Rattle.dk_model.specs.RuleTyping.{Walked, as_convertible}
+use Rattle.dk_model.specs.RuleTyping.{Walked}
+use Rattle.dk_model.specs.Solving.{solved}
 use Rattle.signature_log.specs.Versions.{entries_of}
 use Rattle.infer_check.specs.Contexts.{bound_types}
 use Rattle.infer_check.proofs.Contexts.{bound_types_kept}
 use Rattle.infer_check.proofs.Judging.{fails_is}
 use Rattle.infer_check.proofs.Moving.{context_moved, bound_types_moved, context_under, bound_types_under}
-use Rattle.rule_check.specs.Founds.{found_of}
+use Rattle.rule_check.specs.Founds.{terms_of, found_of}
 use Rattle.rule_check.specs.Given.{OwnsHeaded}
 use Rattle.rule_check.proofs.Continuing.{continues_further}
-use Rattle.rule_check.proofs.Founds.{found_kept, found_same}
-use Rattle.rule_check.proofs.Judging.{abstraction_body_fails, abstraction_given, expected_given}
+use Rattle.rule_check.proofs.Founds.{found_kept, found_same, rebound_same, rebound_owned}
+use Rattle.rule_check.proofs.Judging.{abstraction_body_fails, abstraction_given, expected_given, expected_compared_fails}
 use Rattle.rule_check.proofs.Moving.{same_walked}
 use Rattle.rule_check.proofs.Sizes.{pattern_size, patterns_size, plain_patterns, symbol_is, variable_is, first_smaller, others_smaller}
 use Rattle.rule_check.proofs.Walking.{walked_same, argument_same, headed_is, pattern_is, spine_fails, spine_given, argument_fails, argument_given, headed_same}
@@ -83,7 +84,7 @@ walk-returns-in_ok-head-in-Var-clause-gives g t c =
 pub walk_abstraction-walk-body-requires : goal.walk_abstraction-walk-body-requires
 walk_abstraction-walk-body-requires g t c =
     let r = c.args.r.now in
-    let q = c.as_product.new.r in
+    let q = c.as_product_under.new.r in
     let k = c.in_ok-function.ensures.follows.keeps in
     let fn = c.in_ok-function.function in
     let x = context_under r q k c.args.side.now.walk.context c.bind.new.self c.requires.ready.context fn.domain c.in_ok-bind.ensures.ok c.in_ok-function.ensures.gives.1 in
@@ -95,14 +96,14 @@ walk_abstraction-returns-in_err-body-clause-gives g t c =
     let S = entries_of c.args.version.now in
     let D = g.R.Reducer.denotes in
     let r = c.args.r.now in
-    let q = c.as_product.new.r in
+    let q = c.as_product_under.new.r in
     let x = c.args.side.now.walk.context in
     let w = c.args.side.now.found in
     let k = c.in_ok-function.ensures.follows.keeps in
     let fn = c.in_ok-function.function in
     let f = c.in_err-body.field-0.0 in
-    let same = walked_same S (pattern c.args.body.now) c.as_product.new.left (bound_types_under r q k x c.bind.new.self c.requires.ready.context fn.domain c.in_ok-bind.ensures.ok) refl (found_same r q k w c.requires.found) in
-    let p = abstraction_body_fails S (bound_types D r x) f _ (pattern c.args.body.now) (D r c.args.expected.now) (D q fn.domain) (D q fn.codomain) (found_of D r w) c.args.side.now.walk.left c.as_product.new.left
+    let same = walked_same S (pattern c.args.body.now) c.as_product_under.new.left (bound_types_under r q k x c.bind.new.self c.requires.ready.context fn.domain c.in_ok-bind.ensures.ok) refl (found_same r q k w c.requires.found) in
+    let p = abstraction_body_fails S (bound_types D r x) f _ (pattern c.args.body.now) (D r c.args.expected.now) (D q fn.domain) (D q fn.codomain) (found_of D r w) c.args.side.now.walk.left c.as_product_under.new.left
     c.in_ok-function.ensures.gives.0 (fails_is f _ _ _ (flip same) c.in_err-body.ensures.gives) in
     search rules
 
@@ -111,7 +112,7 @@ walk_abstraction-returns-clause-gives g t c =
     let S = entries_of c.args.version.now in
     let D = g.R.Reducer.denotes in
     let r = c.args.r.now in
-    let q = c.as_product.new.r in
+    let q = c.as_product_under.new.r in
     let s = c.walk-body.new.r in
     let end = c.build.new.self in
     let x = c.args.side.now.walk.context in
@@ -125,8 +126,8 @@ walk_abstraction-returns-clause-gives g t c =
     let l = c.in_ok-build.ensures.keeps in
     let made = c.in_ok-build.ensures.makes in
     let a : Walked = record { term = D s body; typ = D q fn.codomain; found = found_of D s after } in
-    let same = walked_same S (pattern c.args.body.now) c.as_product.new.left (bound_types_under r q k x c.bind.new.self c.requires.ready.context fn.domain c.in_ok-bind.ensures.ok) refl (found_same r q k w c.requires.found) in (
-      abstraction_given S (bound_types D r x) (pattern c.args.body.now) (D r c.args.expected.now) (D q fn.domain) (D q fn.codomain) (found_of D r w) a c.args.side.now.walk.left c.as_product.new.left n
+    let same = walked_same S (pattern c.args.body.now) c.as_product_under.new.left (bound_types_under r q k x c.bind.new.self c.requires.ready.context fn.domain c.in_ok-bind.ensures.ok) refl (found_same r q k w c.requires.found) in (
+      abstraction_given S (bound_types D r x) (pattern c.args.body.now) (D r c.args.expected.now) (D q fn.domain) (D q fn.codomain) (found_of D r w) a c.args.side.now.walk.left c.as_product_under.new.left n
           c.in_ok-function.ensures.gives.0 (flip same ∙ given.0)
           ∙ ap (λ y. answer y n) (same_walked (flip made.0) (flip (found_same s end l after given.2))),
       made.1,
@@ -138,7 +139,7 @@ walk_abstraction-returns-clause-gives g t c =
 pub walk_argument-walk-requires : goal.walk_argument-walk-requires
 walk_argument-walk-requires g t c =
     let r = c.args.r.now in
-    let q = c.into_product.new.r in
+    let q = c.into_product_under.new.r in
     let k = c.in_ok-function.ensures.follows.keeps in
     let x = context_moved r q k c.args.side.now.walk.context c.args.side.now.walk.context c.requires.ready.context refl in
     let f = found_kept r q k c.args.side.now.found c.requires.found in
@@ -149,14 +150,14 @@ walk_argument-returns-in_err-argument-clause-gives g t c =
     let S = entries_of c.args.version.now in
     let D = g.R.Reducer.denotes in
     let r = c.args.r.now in
-    let q = c.into_product.new.r in
+    let q = c.into_product_under.new.r in
     let x = c.args.side.now.walk.context in
     let w = c.args.side.now.found in
     let k = c.in_ok-function.ensures.follows.keeps in
     let fn = c.in_ok-function.function in
     let f = c.in_err-argument.field-0.0 in
-    let same = walked_same S (pattern c.args.argument.now) c.into_product.new.left (bound_types_kept r q x k c.requires.ready.context) refl (found_same r q k w c.requires.found) in
-    let p = argument_fails S (bound_types D r x) f _ (D r c.args.head.term) (D r c.args.head.typ) (D q fn.domain) (D q fn.codomain) (pattern c.args.argument.now) (found_of D r w) c.args.side.now.walk.left c.into_product.new.left
+    let same = walked_same S (pattern c.args.argument.now) c.into_product_under.new.left (bound_types_kept r q x k c.requires.ready.context) refl (found_same r q k w c.requires.found) in
+    let p = argument_fails S (bound_types D r x) f _ (D r c.args.head.term) (D r c.args.head.typ) (D q fn.domain) (D q fn.codomain) (pattern c.args.argument.now) (found_of D r w) c.args.side.now.walk.left c.into_product_under.new.left
     c.in_ok-function.ensures.gives.0 (fails_is f _ _ _ (flip same) c.in_err-argument.ensures.gives) in
     search rules
 
@@ -165,7 +166,7 @@ walk_argument-returns-clause-gives g t c =
     let S = entries_of c.args.version.now in
     let D = g.R.Reducer.denotes in
     let r = c.args.r.now in
-    let q = c.into_product.new.r in
+    let q = c.into_product_under.new.r in
     let s = c.walk.new.r in
     let end = c.apply.new.r in
     let x = c.args.side.now.walk.context in
@@ -181,8 +182,8 @@ walk_argument-returns-clause-gives g t c =
     let head = c.in_ok-apply.ensures.head in
     let term = c.args.head.term in
     let a : Walked = record { term = D s argument; typ = D q fn.domain; found = found_of D s after } in
-    let same = walked_same S (pattern c.args.argument.now) c.into_product.new.left (bound_types_kept r q x k c.requires.ready.context) refl (found_same r q k w c.requires.found) in (
-      argument_given S (bound_types D r x) (D r term) (D r c.args.head.typ) (D q fn.domain) (D q fn.codomain) (pattern c.args.argument.now) (found_of D r w) a c.args.side.now.walk.left c.into_product.new.left n
+    let same = walked_same S (pattern c.args.argument.now) c.into_product_under.new.left (bound_types_kept r q x k c.requires.ready.context) refl (found_same r q k w c.requires.found) in (
+      argument_given S (bound_types D r x) (D r term) (D r c.args.head.typ) (D q fn.domain) (D q fn.codomain) (pattern c.args.argument.now) (found_of D r w) a c.args.side.now.walk.left c.into_product_under.new.left n
           c.in_ok-function.ensures.gives.0 (flip same ∙ given.0)
           ∙ ap (λ y. answer y n) (headed_same
           (flip (head.term ∙ ap (λ y. apply y (D s argument)) (j.same term (k.own term c.requires.head.term) ∙ k.same term c.requires.head.term)))
@@ -201,22 +202,43 @@ walk_headed-returns-clause-gives g t c =
     let D = g.R.Reducer.denotes in
     let r = c.args.r.now in
     let s = c.walk_spine.new.r in
-    let end = c.as_convertible.new.r in
+    let end = c.expect.new.r in
     let x = c.args.side.now.walk.context in
     let w = c.args.side.now.found in
     let after = c.walk_spine.new.side.found in
-    let n = c.as_convertible.new.left in
-    let walked = c.in_ok-walked.walked in
-    let given = c.in_ok-walked.ensures.gives in
-    let k = c.in_ok-walked.ensures.continues.keeps in
-    let l = c.in_ok-as_convertible.ensures.follows.keeps in
-    let a : Walked = record { term = D s walked.term; typ = D s walked.typ; found = found_of D s after } in (
-      expected_given S (bound_types D r x) (D r c.args.application.head.term) (D r c.args.application.head.typ) (D r c.args.expected.now) (plain_patterns c.args.application.arguments.now) (found_of D r w) a c.args.side.now.walk.left c.walk_spine.new.side.walk.left n
-          given.0 (ap (λ y. as_convertible S (D s walked.typ) y c.walk_spine.new.side.walk.left) (flip (k.same c.args.expected.now c.requires.expected)) ∙ c.in_ok-as_convertible.ensures.gives)
-          ∙ ap (λ y. answer y n) (same_walked (flip (l.same walked.term given.1)) (flip (found_same s end l after given.3))),
-      l.own walked.term given.1,
-      found_kept s end l after given.3,
+    let last = c.expect.new.side.found in
+    let n = c.expect.new.side.walk.left in
+    let term = c.in_ok-term.field-0.term in
+    let typ = c.in_ok-term.field-0.typ in
+    let given = c.in_ok-term.ensures.gives in
+    let k = c.in_ok-term.ensures.continues.keeps in
+    let l = c.in_ok-expect.ensures.continues.keeps in
+    let a : Walked = record { term = D s term; typ = D s typ; found = found_of D s after } in (
+      expected_given S (bound_types D r x) (D r c.args.application.head.term) (D r c.args.application.head.typ) (D r c.args.expected.now) (plain_patterns c.args.application.arguments.now) (found_of D r w) a (terms_of D end last.bindings)
+          c.args.side.now.walk.left c.walk_spine.new.side.walk.left n
+          given.0 (ap (λ y. solved S (terms_of D s after.bindings) (D s typ) y c.walk_spine.new.side.walk.left) (flip (k.same c.args.expected.now c.requires.expected)) ∙ c.in_ok-expect.ensures.gives.0)
+          ∙ ap (λ y. answer y n) (same_walked (flip (l.same term given.1)) (flip (rebound_same s end l after last given.3 c.in_ok-expect.ensures.rebound))),
+      l.own term given.1,
+      rebound_owned s end l after last given.3 c.in_ok-expect.ensures.rebound c.in_ok-expect.ensures.gives.1,
     )
+
+pub walk_headed-returns-in_err-expect-clause-gives : goal.walk_headed-returns-in_err-expect-clause-gives
+walk_headed-returns-in_err-expect-clause-gives g t c =
+    let S = entries_of c.args.version.now in
+    let D = g.R.Reducer.denotes in
+    let r = c.args.r.now in
+    let s = c.walk_spine.new.r in
+    let after = c.walk_spine.new.side.found in
+    let term = c.in_ok-term.field-0.term in
+    let typ = c.in_ok-term.field-0.typ in
+    let given = c.in_ok-term.ensures.gives in
+    let k = c.in_ok-term.ensures.continues.keeps in
+    let f = c.in_err-expect.field-0.0 in
+    let a : Walked = record { term = D s term; typ = D s typ; found = found_of D s after } in
+    let same = ap (λ y. solved S (terms_of D s after.bindings) (D s typ) y c.walk_spine.new.side.walk.left) (flip (k.same c.args.expected.now c.requires.expected)) in
+    let p = expected_compared_fails S (bound_types D r c.args.side.now.walk.context) f _ (D r c.args.application.head.term) (D r c.args.application.head.typ) (D r c.args.expected.now) (plain_patterns c.args.application.arguments.now) (found_of D r c.args.side.now.found) a
+    c.args.side.now.walk.left c.walk_spine.new.side.walk.left given.0 (fails_is f _ _ _ same c.in_err-expect.ensures.gives) in
+    search rules
 
 -- a spine
 
@@ -276,11 +298,14 @@ walk_argument-apply-requires-clause-term g t c = c.in_ok-argument.ensures.contin
 pub walk_argument-apply-requires-clause-codomain : goal.walk_argument-apply-requires-clause-codomain
 walk_argument-apply-requires-clause-codomain g t c = c.in_ok-argument.ensures.continues.keeps.own c.in_ok-function.function.codomain c.in_ok-function.ensures.gives.2
 
-pub walk_headed-as_convertible-requires-clause-own : goal.walk_headed-as_convertible-requires-clause-own
-walk_headed-as_convertible-requires-clause-own g t c = c.in_ok-walked.ensures.gives.2
+pub walk_headed-expect-requires-clause-typ : goal.walk_headed-expect-requires-clause-typ
+walk_headed-expect-requires-clause-typ g t c = c.in_ok-term.ensures.gives.2
 
-pub walk_headed-as_convertible-requires-clause-other : goal.walk_headed-as_convertible-requires-clause-other
-walk_headed-as_convertible-requires-clause-other g t c = c.in_ok-walked.ensures.continues.keeps.own c.args.expected.now c.requires.expected
+pub walk_headed-expect-requires-clause-expected : goal.walk_headed-expect-requires-clause-expected
+walk_headed-expect-requires-clause-expected g t c = c.in_ok-term.ensures.continues.keeps.own c.args.expected.now c.requires.expected
 
-pub walk_headed-as_convertible-requires-clause-serves : goal.walk_headed-as_convertible-requires-clause-serves
-walk_headed-as_convertible-requires-clause-serves g t c = c.in_ok-walked.ensures.continues.serving
+pub walk_headed-expect-requires-clause-bindings : goal.walk_headed-expect-requires-clause-bindings
+walk_headed-expect-requires-clause-bindings g t c = c.in_ok-term.ensures.gives.3.bindings
+
+pub walk_headed-expect-requires-clause-serves : goal.walk_headed-expect-requires-clause-serves
+walk_headed-expect-requires-clause-serves g t c = c.in_ok-term.ensures.continues.serving

@@ -31,7 +31,7 @@ invariant-walk_spine-loop-argument g l = record {
       ≡ spine_walked (entries_of l.fn.version) (bound_types g.R.Reducer.denotes l.fn.r l.fn.side.walk.context) (g.R.Reducer.denotes l.fn.r l.fn.application.head.term) (g.R.Reducer.denotes l.fn.r l.fn.application.head.typ)
       (plain_patterns l.fn.application.arguments.now) (found_of g.R.Reducer.denotes l.fn.r l.fn.side.found) l.fn.side.walk.left;
   walked : OwnsHeaded g.R.Reducer.owns l.r l.walked;
-  found : OwnsFound g.R.Reducer.owns l.r l.side.found;
+  found : OwnsFound g.R.Reducer.owns g.R.Reducer.denotes l.r l.side.found;
   continues : Continues g.R.Reducer.owns g.R.Reducer.denotes g.R.Reducer.serves (entries_of l.fn.version) l.fn.r l.fn.side.walk l.r l.side.walk;
   smaller : patterns_size (plain_patterns l.rest) ≤ patterns_size (plain_patterns l.fn.application.arguments.now);
 }

@@ -13,4 +13,4 @@ returns-clause-gives g c =
     let two = c.guard_at.new.r in
     guard_found r one two c.in_ok-term.ensures.keeps c.in_ok-guard.ensures.keeps c.args.side.now.walk.context c.requires.ready.context c.args.side.now.found c.push_guard.new.self c.requires.found
     c.args.expected.now c.requires.expected c.in_ok-term.term (tree c.args.term.now) c.len.result c.in_ok-guard.guard c.len.ensures
-    c.in_ok-term.ensures.makes c.in_ok-guard.ensures.guard c.in_ok-push_guard.ensures.types c.in_ok-push_guard.ensures.guards c.args.side.now.walk.left
+    c.in_ok-term.ensures.makes c.in_ok-guard.ensures.guard c.in_ok-push_guard.ensures.types c.in_ok-push_guard.ensures.guards c.in_ok-push_guard.ensures.bindings c.args.side.now.walk.left

@@ -6,4 +6,4 @@ pub returns-in-Ok-clause-put : goal.returns-in-Ok-clause-put
 returns-in-Ok-clause-put g c = gathers_then c.in-Ok.ensures.put c.put_last.ensures.put
 
 pub returns-in-Err-clause-put : goal.returns-in-Err-clause-put
-returns-in-Err-clause-put g c = gathers_stop (last_line c.args.outcome c.args.budget) c.in-Err.ensures.put
+returns-in-Err-clause-put g c = gathers_stop (last_line c.args.outcome.now c.args.style.now.budget c.args.style.now.folder.now) c.in-Err.ensures.put

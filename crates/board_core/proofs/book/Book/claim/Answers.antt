@@ -9,7 +9,7 @@ use Rattle.board_core.proofs.book.Book.claim.Goals as goal
 pub returns-in_default : goal.returns-in_default
 returns-in_default g c = let t = c.in_default.ensures.taken in let none = subst (λ b. HoldsNone c.args.worker b.events) (sym c.self.view_is) c.requires in record {
   reply = rw (c.idle.ensures, ← c.self.view_is) (idles _ c.args.worker c.self.invariant.keeps t.1);
-  holds = rw c.idle.ensures (idle_holds _ c.args.worker c.self.inside.end c.self.inside.fault c.self.inside.history.items none);
+  holds = rw c.idle.ensures (idle_holds _ c.args.worker c.self.inside.sealed_at c.self.inside.fault c.self.inside.history.items none);
 }
 
 pub invariant_of-self : goal.invariant_of-self

@@ -1,4 +1,4 @@
-use Rattle.std.proofs.Common.{◌≡◌, [], refl}
+use Rattle.std.proofs.Common.{◌≡◌, [], refl, arith}
 use Rattle.dk_lexer.specs.Tokens.{broken, whole}
 use Rattle.file_reader.proofs.Loading.{starts}
 use Rattle.file_reader.proofs.reader.Reader.new.Goals as goal
@@ -10,6 +10,7 @@ returns-clause-begun c = record {
   ending = broken;
   done = [];
   holds = starts c.args.limits _ c.new.ensures c.new-2.ensures c.new-3.ensures.items refl;
+  counted = omega arith;
 }
 
 pub returns-clause-behind : goal.returns-clause-behind

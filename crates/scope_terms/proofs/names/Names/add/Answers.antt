@@ -1,26 +1,30 @@
-use Rattle.std.proofs.Common.{◌∙◌, ◌+◌, sym, ap, is_some, not}
-use Rattle.indexmap.specs.Entry.{map_with_value}
-use Rattle.scope_terms.proofs.Entries.{known, added, seen}
+use Rattle.std.proofs.Common.{◌∙◌, ap, sym, subst, if◌then◌else◌, Bool}
+use Rattle.std.specs.Prelude.{reverse}
+use Rattle.scope_terms.specs.Modules.{Changes, first_place, known_of, module_at, with_name_in}
+use Rattle.scope_terms.specs.Reading.{with_own_name}
+use Rattle.scope_terms.specs.Names.{reading}
+use Rattle.scope_terms.proofs.Readings.{current_is, on_err, reading_added, reading_same}
 use Rattle.scope_terms.proofs.names.Names.add.Goals as goal
 
-pub returns-in-Occupied-clause-is_new : goal.returns-in-Occupied-clause-is_new
-returns-in-Occupied-clause-is_new c =
-    let there = rw c.in-Occupied.is at c.in_ok-self-inside.ensures.found in
-    let number = known (λ k. k.items) c.self.inside.numbers c.in_ok-spelling.spelling c.self.inside.count _ _ c.self.view_is (c.in_ok-spelling.ensures.items_if_clones_equal (λ x y e. e) ∙ c.as_slice.ensures) in
-    ap not (sym there.0) ∙ ap (λ o. not (is_some o)) (sym number)
+pub returns-in_err-added-clause-err : goal.returns-in_err-added-clause-err
+returns-in_err-added-clause-err c =
+    let old = c.args.self.now in
+    on_err c.from_residual.result _ (reading_same old.modules c.add_at.new.self old.entered.items old.count old.within (module_at old.modules c.last_place-place.result) c.in_err-added.ensures.err)
 
-pub returns-in-Vacant-clause-is_new : goal.returns-in-Vacant-clause-is_new
-returns-in-Vacant-clause-is_new c =
-    let absent = rw c.in-Vacant.is at c.in_ok-self-inside.ensures.found in
-    let number = known (λ k. k.items) c.self.inside.numbers c.in_ok-spelling.spelling c.self.inside.count _ _ c.self.view_is (c.in_ok-spelling.ensures.items_if_clones_equal (λ x y e. e) ∙ c.as_slice.ensures) in
-    ap (λ o. not (is_some o)) (sym (number ∙ absent))
+pub returns-then-added-clause-ok : goal.returns-then-added-clause-ok
+returns-then-added-clause-ok c =
+    let old = c.args.self.now in
+    let m = module_at old.modules c.last_place-place.result in
+    let last = c.last_place-place.ensures ∙ ap (λ ps. first_place (reverse ps)) c.deref.ensures.value in
+    let at = ap (module_at old.modules) last ∙ sym (current_is old.modules old.entered.items old.count) in
+    let changes = subst (λ (b : Bool). Changes old.modules c.add_at.new.self m (if b then with_name_in (known_of old.modules m) c.args.name.now old.count else known_of old.modules m)) c.if-added.true c.in_ok-added.ensures.ok in
+    reading_added old.modules c.add_at.new.self old.entered.items old.count old.within m c.args.name.now at changes
+    ∙ ap (λ b. if b then with_own_name (reading old) c.args.name.now else reading old) (sym c.if-added.true)
 
-pub returns-in-Vacant-clause-ok : goal.returns-in-Vacant-clause-ok
-returns-in-Vacant-clause-ok c =
-    let absent = rw c.in-Vacant.is at c.in_ok-self-inside.ensures.found in
-    let number = known (λ k. k.items) c.self.inside.numbers c.in_ok-spelling.spelling c.self.inside.count _ _ c.self.view_is (c.in_ok-spelling.ensures.items_if_clones_equal (λ x y e. e) ∙ c.as_slice.ensures) in
-    let u = c.in_ok-self-inside.ensures.update.1 c.self.inside.count in
-    let same = sym (rw c.in-Vacant.is at c.in_ok-self-inside.ensures.same_map) in
-    let written = c.self-in-Vacant-2-1.given.1 same ∙ ap (λ e. map_with_value e c.insert.result.now) (sym c.in-Vacant.is) ∙ ap (map_with_value c.in_ok-self-inside.field-0) c.insert.ensures.value in
-    ap (λ m. seen (λ k. k.items) c.self.inside.numbers c.in_ok-spelling.spelling c.self.inside.count m.entries (c.self.inside.count + 1)) written
-    ∙ added (λ k. k.items) c.self.inside.numbers c.in_ok-spelling.spelling c.self.inside.count _ _ _ c.self.view_is (number ∙ absent) (c.in_ok-spelling.ensures.items_if_clones_equal (λ x y e. e) ∙ c.as_slice.ensures) u
+pub returns-else-added-clause-ok : goal.returns-else-added-clause-ok
+returns-else-added-clause-ok c =
+    let old = c.args.self.now in
+    let m = module_at old.modules c.last_place-place.result in
+    let changes = subst (λ (b : Bool). Changes old.modules c.add_at.new.self m (if b then with_name_in (known_of old.modules m) c.args.name.now old.count else known_of old.modules m)) c.if-added.false c.in_ok-added.ensures.ok in
+    reading_same old.modules c.add_at.new.self old.entered.items old.count old.within m changes
+    ∙ ap (λ b. if b then with_own_name (reading old) c.args.name.now else reading old) (sym c.if-added.false)

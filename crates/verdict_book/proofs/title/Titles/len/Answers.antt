@@ -4,5 +4,6 @@ use Rattle.verdict_book.proofs.title.Titles.len.Goals as goal
 
 pub returns : goal.returns
 returns c =
-    let count : length c.self.inside.places.items ≡ length c.args.self.now = sym (titled_length c.self.inside.names.items c.self.inside.places.items) ∙ ap length c.self.view_is in
+    let t = c.self.inside in
+    let count : length t.spots.items ≡ length c.args.self.now = sym (titled_length t.modules.items t.names.items t.spots.items) ∙ ap length c.self.view_is in
     omega (arith, count, c.len.ensures)

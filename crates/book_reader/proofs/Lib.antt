@@ -1,0 +1,9 @@
+pub mod Given
+pub mod Keys
+pub mod Stacks
+pub mod Leading
+pub mod Names
+pub mod Openings
+pub mod Turning
+pub mod Ending
+pub mod Turns

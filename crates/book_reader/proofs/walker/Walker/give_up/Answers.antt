@@ -1,0 +1,36 @@
+use Rattle.std.proofs.Common.{List, map, ap, ◌∙◌, refl, arith, length}
+use Rattle.std.proofs.lemmas.List.{append-nil}
+use Rattle.std.specs.Prelude.{reverse, take, ◌-◌}
+use Rattle.book_reader.specs.declared.walker.Frame.{Frame}
+use Rattle.book_reader.specs.Walkers.{open_of}
+use Rattle.book_reader.proofs.Openings.{begun_less, below_more}
+use Rattle.book_reader.proofs.walker.Walker.give_up.Goals as goal
+
+pub returns-in-None-clause-gone : goal.returns-in-None-clause-gone
+returns-in-None-clause-gone g c = (
+  ap (λ (l : List Frame). map open_of (reverse l))
+      (c.in-None.ensures.items ∙ append-nil c.pop.new.self.items ∙ c.in-None.ensures.rest ∙ ap (λ n. take (n - 1) c.args.self.now.below.items) c.in-None.ensures.cases.0),
+  refl,
+  refl,
+)
+
+pub returns-in-Some-clause-gone : goal.returns-in-Some-clause-gone
+returns-in-Some-clause-gone g c = (refl, below_more _ _ _ c.in-Some.ensures.items, refl, c.back.ensures.taken)
+
+pub returns-in-Some-clause-ready : goal.returns-in-Some-clause-ready
+returns-in-Some-clause-ready g c =
+    let r = c.requires in
+    let begun = begun_less _ _ c.in-Some.frame c.in-Some.ensures.items r.below in
+    let aside = ap length c.back.ensures.taken in
+    let less = c.in-Some.ensures.cases in
+    record {
+      room = record {
+        files_fit = r.room.files_fit;
+        few = omega (arith, less, r.room.few);
+        is_open = c.back.ensures.is_open;
+        all_aside = omega (arith, less, aside, r.room.all_aside);
+        room = omega (arith, less, aside, r.room.room);
+      };
+      top = begun.0;
+      below = begun.1;
+    }

@@ -1,0 +1,63 @@
+use Rattle.std.proofs.Common.{◌≡◌, ℕ, List, ◌∷◌, [], sym, ap, ◌∙◌, refl}
+use Rattle.std.proofs.lemmas.List.{append-nil}
+use Rattle.std.specs.Prelude.{reverse, take, ◌-◌}
+use Rattle.dk_parser.specs.RawViews.{written_command}
+use Rattle.theory_walk.specs.Libraries.{command_step, need, put}
+use Rattle.book_reader.specs.Shelves.{shelf_of}
+use Rattle.book_reader.specs.Walkers.{Open, open_of, opens_below, opens_of, pending_of, setting_of, steps_behind}
+use Rattle.book_reader.proofs.Openings.{pending_next}
+use Rattle.book_reader.proofs.Turning.{among_at, taken}
+use Rattle.book_reader.proofs.walker.Walker.turn.Goals as goal
+
+pub returns-in_default-clause-walks : goal.returns-in_default-clause-walks
+returns-in_default-clause-walks g c = λ books done told st.
+    let w = c.args.self.now in
+    c.read.ensures.walks books done told
+    (among_at (setting_of w.root books) done (opens_of w) (record { book = w.top.module; reader = w.top.reader; pending = pending_of c.take.new.self } ∷ opens_below w) w.opened w.opened (shelf_of g.H.Shelf c.args.shelf.now)
+    (ap (λ i. let o : Open = record { book = w.top.module; reader = w.top.reader; pending = pending_of i } in o ∷ opens_below w) (c.in_default.ensures.after ∙ c.in_default.ensures.value)) refl st)
+
+pub returns-then-is_directive-clause-walks : goal.returns-then-is_directive-clause-walks
+returns-then-is_directive-clause-walks g c = λ books done told st.
+    let w = c.args.self.now in
+    let x = written_command c.in-Some.item.raw in
+    let e = c.in_default-pop.ensures in
+    let none = e.items ∙ append-nil c.pop.new.self.items ∙ e.rest ∙ ap (λ n. take (n - 1) c.in-Some.item.needs.items) e.cases.0 in
+    let was : pending_of w.top.item ≡ [] =
+    ap pending_of (sym c.in-Some.ensures.value) ∙ ap (λ (l : List (List ℕ)). steps_behind x (reverse l)) none ∙ ap (λ b. command_step b x) (sym c.is_directive.ensures ∙ c.if-is_directive.true) in
+    among_at (setting_of w.root books) done (opens_of w) (record { book = w.top.module; reader = w.top.reader; pending = pending_of c.take.new.self } ∷ opens_below w) w.opened w.opened (shelf_of g.H.Shelf c.args.shelf.now)
+    (ap (λ ss. let o : Open = record { book = w.top.module; reader = w.top.reader; pending = ss } in o ∷ opens_below w) (ap pending_of c.in-Some.ensures.after ∙ sym was)) refl st
+
+pub returns-in_default-pop-clause-walks : goal.returns-in_default-pop-clause-walks
+returns-in_default-pop-clause-walks g c = λ books done told st.
+    let w = c.args.self.now in
+    let x = written_command c.in-Some.item.raw in
+    let e = c.in_default-pop.ensures in
+    let none = e.items ∙ append-nil c.pop.new.self.items ∙ e.rest ∙ ap (λ n. take (n - 1) c.in-Some.item.needs.items) e.cases.0 in
+    taken (setting_of w.root books) (open_of w.top) (record { book = w.top.module; reader = w.top.reader; pending = pending_of c.take.new.self }) (opens_below w) w.opened (shelf_of g.H.Shelf c.args.shelf.now) done x
+    refl refl
+    (ap pending_of (sym c.in-Some.ensures.value) ∙ ap (λ (l : List (List ℕ)). steps_behind x (reverse l)) none ∙ ap (λ b. command_step b x) (sym c.is_directive.ensures ∙ c.if-is_directive.false)
+    ∙ ap (λ l. put x ∷ l) (sym (ap pending_of c.in-Some.ensures.after)))
+    st
+
+pub returns-clause-walks : goal.returns-clause-walks
+returns-clause-walks g c = λ books done told st.
+    let w = c.args.self.now in
+    let x = written_command c.in-Some.item.raw in
+    let later = steps_behind x (reverse c.pop.new.self.items) in
+    c.need.ensures.walks books done told
+    (among_at (setting_of w.root books) done (opens_of w) _ w.opened w.opened (shelf_of g.H.Shelf c.args.shelf.now)
+    (ap (λ ss. let o : Open = record { book = w.top.module; reader = w.top.reader; pending = ss } in o ∷ opens_below w)
+    (sym (ap pending_of (sym c.in-Some.ensures.value) ∙ pending_next x c.in-Some.item.needs.items c.pop.new.self.items c.in-Some-pop.name c.in-Some-pop.ensures.items
+    ∙ ap (λ b. need b c.in-Some.item.raw.line c.in-Some-pop.name ∷ later) (sym c.is_directive-2.ensures)))) refl st)
+
+pub returns-in_default-clause-moves : goal.returns-in_default-clause-moves
+returns-in_default-clause-moves g c = c.read.ensures.moves
+
+pub returns-then-is_directive-clause-moves : goal.returns-then-is_directive-clause-moves
+returns-then-is_directive-clause-moves g c = (refl, refl)
+
+pub returns-in_default-pop-clause-moves : goal.returns-in_default-pop-clause-moves
+returns-in_default-pop-clause-moves g c = (refl, refl)
+
+pub returns-clause-moves : goal.returns-clause-moves
+returns-clause-moves g c = c.need.ensures.moves

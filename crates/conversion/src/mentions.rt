@@ -1,0 +1,63 @@
+//! What a term mentions: a variable that isn't bound in it, a rule variable.
+ghost use Rattle.std.specs.Prelude.{◌≡◌, ◌<◌, ◌++◌, ◌∷◌, [], IfOk, Some, None, replicate, length};
+ghost use Rattle.dk_model.specs.Bindings.{is_closed_at, mentions_rule_variable, may_bind};
+ghost use Rattle.shared_term.specs.Pools.{term, Extends};
+
+use dk_model::{NoMemory, NodeOf};
+use shared_term::{Pool, TermId};
+use std::alloc::Global;
+
+/// Whether the term mentions no variable but those that are bound in it.
+fn is_closed(pool: &mut Pool, id: TermId) -> Result<bool, NoMemory>
+    requires { id.0 < length pool.old }
+    ensures tells { IfOk result (λ b. b ≡ is_closed_at 0 (term pool.old id)) }
+    ensures keeps { Extends pool.old pool.new }
+{
+    // Raised by one, a variable that isn't bound makes another term.
+    let raised = pool.shift(id, 0, 1)?;
+    Ok(pool.same(raised, id))
+}
+
+/// A term for this rule variable alone.
+fn only(alloc: Global, number: u32, term: TermId) -> Result<Vec<Option<TermId>>, NoMemory>
+    ensures { IfOk result (λ terms. terms.items ≡ replicate number None ++ Some term ∷ []) }
+{
+    let mut terms = Vec::new(alloc);
+    for _ in 0..number {
+        terms.push(None)?;
+    }
+    terms.push(Some(term))?;
+    Ok(terms)
+}
+
+/// Whether the rule variable stands in the term.
+#[tactic(auto, using(crate::proofs::Winding::extends_more, crate::proofs::Raising::only_within, crate::proofs::Raising::only_tells))]
+fn mentions(alloc: Global, pool: &mut Pool, id: TermId, number: u32) -> Result<bool, NoMemory>
+    requires { id.0 < length pool.old }
+    ensures tells { IfOk result (λ b. b ≡ mentions_rule_variable number (term pool.old id)) }
+    ensures keeps { Extends pool.old pool.new }
+{
+    // With `Type` in its place it makes another term.
+    let star = pool.intern(NodeOf::Star)?;
+    let terms = only(alloc, number, star)?;
+    let filled = pool.filled(id, terms.as_slice())?;
+    Ok(!pool.same(filled, id))
+}
+
+/// Whether a rule variable may be bound to the term.
+#[tactic(auto, using(crate::proofs::Winding::extends_more))]
+pub(crate) fn may_bind(
+    alloc: Global,
+    pool: &mut Pool,
+    id: TermId,
+    number: u32,
+) -> Result<bool, NoMemory>
+    requires { id.0 < length pool.old }
+    ensures tells { IfOk result (λ b. b ≡ may_bind number (term pool.old id)) }
+    ensures keeps { Extends pool.old pool.new }
+{
+    if !is_closed(pool, id)? {
+        return Ok(false);
+    }
+    Ok(!mentions(alloc, pool, id, number)?)
+}

@@ -1,0 +1,5 @@
+use Rattle.file_report.proofs.TheoryLaw.{theory_faults}
+use Rattle.file_report.proofs.histories.fault_of_theory.Goals as goal
+
+pub returns : goal.returns
+returns g c = theory_faults

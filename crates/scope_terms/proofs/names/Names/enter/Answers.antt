@@ -1,0 +1,25 @@
+use Rattle.std.proofs.Common.{◌∙◌, ◌++◌, ◌∷◌, [], List, ap, sym}
+use Rattle.scope_terms.specs.Modules.{reading_of}
+use Rattle.scope_terms.specs.Reading.{entering, module_of}
+use Rattle.scope_terms.specs.Names.{reading}
+use Rattle.scope_terms.specs.declared.modules.Place.{Place}
+use Rattle.scope_terms.proofs.Readings.{on_err, reading_entered, reading_kept}
+use Rattle.scope_terms.proofs.names.Names.enter.Goals as goal
+
+pub returns-in_err-place-clause-err : goal.returns-in_err-place-clause-err
+returns-in_err-place-clause-err c =
+    let old = c.args.self.now in
+    on_err c.from_residual-in_err-place.result _
+    (ap (λ (ps : List Place). reading_of c.place.new.self ps old.count) c.reserve.ensures.items
+    ∙ reading_kept old.modules c.place.new.self old.entered.items old.count old.within c.place.ensures.known c.place.ensures.places)
+
+pub returns-in_ok-place-clause-entered : goal.returns-in_ok-place-clause-entered
+returns-in_ok-place-clause-entered c =
+    let old = c.args.self.now in
+    let m = module_of c.args.module_name in
+    let place = c.in_ok-place.place in
+    let items = c.push_reserved.ensures.items ∙ ap (λ (ps : List Place). ps ++ place ∷ []) c.reserve.ensures.items in
+    let stood = sym c.standing-stood.ensures ∙ c.in-New.is in
+    ap (λ (ps : List Place). reading_of c.set_standing.new.self ps old.count) items
+    ∙ reading_entered old.modules c.place.new.self c.set_standing.new.self old.entered.items place m old.count old.within c.place.ensures.known c.place.ensures.places c.in_ok-place.ensures.within c.in_ok-place.ensures.place c.set_standing.ensures
+    ∙ ap (λ s. entering s (reading old) m) (sym stood)

@@ -1,0 +1,13 @@
+use Rattle.std.proofs.Common.{◌∙◌, List, ap, sym, subst}
+use Rattle.scope_terms.specs.Modules.{reading_of}
+use Rattle.scope_terms.specs.Reading.{after_leaving}
+use Rattle.scope_terms.specs.declared.modules.Place.{Place}
+use Rattle.scope_terms.proofs.Readings.{AreWithin, reading_left}
+use Rattle.scope_terms.proofs.names.Names.leave.Goals as goal
+
+pub returns-in-Some : goal.returns-in-Some
+returns-in-Some c =
+    let old = c.args.self.now in
+    let items = c.in-Some.ensures.items in
+    reading_left old.modules c.set_standing.new.self c.pop.new.self.items c.in-Some.place old.count (subst (λ (ps : List Place). AreWithin old.modules ps) items old.within) c.set_standing.ensures
+    ∙ ap (λ (ps : List Place). after_leaving (reading_of old.modules ps old.count)) (sym items)

@@ -1,0 +1,5 @@
+pub mod BookNames
+pub mod BookReadings
+pub mod Libraries
+pub mod Lines
+pub mod Walks
