@@ -2,7 +2,7 @@
 
 /// A file's text, the words, the status and the report. The budgets are counts of units by hand (docs/evaluation.md,
 /// docs/typing.md).
-pub(crate) const RULES: [(&str, &str, u8, &str); 22] = [
+pub(crate) const RULES: [(&str, &str, u8, &str); 23] = [
     (
         "o : Type. c : o. d : o. def sw : (o -> o -> o) -> o -> o -> o. [F] sw (x => y => F x y) --> a => b => F b a. p : o -> o -> o. eq : o -> o -> Type. r : x : o -> eq x x. thm t : eq (sw (x => y => p x y) c d) (p d c) := r (p d c).",
         "check --budget=43 f.dk",
@@ -124,15 +124,21 @@ pub(crate) const RULES: [(&str, &str, u8, &str); 22] = [
         "ok 1 a\nok 2 b\nok 3 f\nok 4 x\nrefused 5 line 1 E21\n",
     ),
     (
-        "a : Type. x : a. def b : Type. def f : b -> a. [] b --> a [] f x --> x.",
+        "a : Type. x : a. def b : Type. def h : b. [] b --> a [] h --> x.",
         "check --budget=1000 f.dk",
         1,
-        "ok 1 a\nok 2 x\nok 3 b\nok 4 f\nrefused 5 line 1 E34\n",
+        "ok 1 a\nok 2 x\nok 3 b\nok 4 h\nrefused 5 line 1 E21\n",
     ),
     (
-        "a : Type. x : a. def b : Type. def f : b -> a. [] b --> a. [] f x --> x.",
+        "a : Type. x : a. def b : Type. def h : b. [] b --> a. [] h --> x.",
         "check --budget=1000 f.dk",
         0,
-        "ok 1 a\nok 2 x\nok 3 b\nok 4 f\nok 5 b\nok 6 f\naccepted 6\n",
+        "ok 1 a\nok 2 x\nok 3 b\nok 4 h\nok 5 b\nok 6 h\naccepted 6\n",
+    ),
+    (
+        "a : Type. x : a. def b : Type. def f : b -> a. [] b --> a [] f x --> x.",
+        "check --budget=1000 f.dk",
+        0,
+        "ok 1 a\nok 2 x\nok 3 b\nok 4 f\nok 5 b\naccepted 5\n",
     ),
 ];
