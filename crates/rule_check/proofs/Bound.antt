@@ -1,21 +1,24 @@
 -- Terms under bindings, and a further binding.
-use Rattle.std.specs.Prelude.{map, replicate, length, slice_set, Result, IfOk}
+use Rattle.std.specs.Prelude.{map, replicate, length, slice_set, Result, Ok, Err, IfOk, OnOk, Bool, true, false, IsTrue, ◌||◌}
 use Rattle.std.proofs.Common.{List, [], ◌∷◌, ◌++◌, append-nil, ◌≡◌, ◌<◌, ◌≤◌, ◌+◌, ℕ, zero, suc, Option, Some, None, refl, ap, ◌∙◌, sym as flip, subst, arith}
 use Rattle.dk_model.specs.Trees.{Tree, star, kind, symbol, variable, rule_variable, apply, bare, annotated, product}
 use Rattle.dk_model.specs.Bounds.{IsClosedAt}
 use Rattle.dk_model.specs.Captures.{capture_at, filled}
 use Rattle.dk_model.specs.Signatures.{maybe_by}
-use Rattle.dk_model.specs.Bindings.{Bindings as PlainBindings, bound_or, under, under_option, with_binding}
+use Rattle.dk_model.specs.Bindings.{Bindings as PlainBindings, bound_or, under, under_option, with_binding, bound, mentions_rule_variable}
 use Rattle.dk_model.proofs.Closed.{closed_further}
-use Rattle.dk_model.proofs.Unders.{AreClosed, mapped_at, under_none, filled_under}
+use Rattle.dk_model.proofs.Unders.{mapped_at, under_none, filled_under}
 use Rattle.dk_model.specs.declared.memory.NoMemory.{NoMemory}
 use Rattle.signature_log.specs.Reducers.{Keeps, Makes, OwnsSome, OwnsSomes}
 use Rattle.signature_log.proofs.Keeping.{keeps_further}
 use Rattle.rule_check.specs.declared.found.Bindings.{Bindings}
-use Rattle.rule_check.specs.Founds.{types_of, terms_of, OwnsBindings}
-use Rattle.rule_check.specs.Bindings.{with_term, IsSomeUnder, AreUnder, IsBound}
-use Rattle.rule_check.proofs.Founds.{maybe_kept, types_of_kept, terms_kept}
+use Rattle.rule_check.specs.Founds.{types_of, terms_of, AreClosed, OwnsBindings}
+use Rattle.rule_check.specs.declared.found.Mentioned.{Mentioned}
+use Rattle.rule_check.specs.Mentioned.{is_marked, stands_in, may_mention, IsNoted}
+use Rattle.rule_check.specs.Bindings.{with_term, IsSomeUnder, AreUnder, IsReplaced, IsBound}
+use Rattle.rule_check.proofs.Founds.{maybe_kept, types_of_kept, owned_types_kept, terms_kept}
 use Rattle.rule_check.proofs.Moving.{moved_over_options}
+use Rattle.rule_check.proofs.Marks.{all_without, bound_covered}
 
 -- ---- with nothing bound, and where all is closed
 
@@ -63,8 +66,8 @@ alone_terms : {R T : Type 0} (denotes : R → T → Tree) (r : R) (k : ℕ) (t :
 alone_terms denotes r zero t = refl
 alone_terms denotes r (suc k) t = ap (λ (os : List (Option Tree)). None ∷ os) (alone_terms denotes r k t)
 
-pub only_is : {R T : Type 0} (denotes : R → T → Tree) (r : R) (b : Bindings T) (k : ℕ) (t : T) → b.terms.items ≡ replicate k None ++ Some t ∷ [] → terms_of denotes r b ≡ with_binding [] k (denotes r t)
-only_is denotes r b k t e = ap (types_of denotes r) e ∙ alone_terms denotes r k t ∙ alone_is k (denotes r t)
+pub alone_denotes : {R T : Type 0} (denotes : R → T → Tree) (r : R) (ts : List (Option T)) (k : ℕ) (t : T) → ts ≡ replicate k None ++ Some t ∷ [] → types_of denotes r ts ≡ with_binding [] k (denotes r t)
+alone_denotes denotes r ts k t e = ap (types_of denotes r) e ∙ alone_terms denotes r k t ∙ alone_is k (denotes r t)
 
 alone_owned : {R T : Type 0} (owns : R → T → Type 0) (r : R) (k : ℕ) (t : T) → owns r t → OwnsSomes owns r (replicate k None ++ Some t ∷ [])
 alone_owned owns r zero t o = (o, tt)
@@ -80,12 +83,11 @@ one_closed (o ∷ s) zero u c h (suc j) v e = c (suc j) v e
 one_closed (o ∷ s) (suc k) u c h zero v e = c zero v e
 one_closed (o ∷ s) (suc k) u c h (suc j) v e = one_closed s k u (λ i w q. c (suc i) w q) h j v e
 
-pub only_owned : {R T : Type 0} (owns : R → T → Type 0) (denotes : R → T → Tree) (r : R) (b : Bindings T) (k : ℕ) (t : T) → b.terms.items ≡ replicate k None ++ Some t ∷ [] → owns r t → IsClosedAt 0 (denotes r t)
-    → OwnsBindings owns denotes r b
-only_owned owns denotes r b k t e o h = record {
-  own = subst (OwnsSomes owns r) (flip e) (alone_owned owns r k t o);
-  closed = subst AreClosed (flip (only_is denotes r b k t e)) (one_closed [] k (denotes r t) (λ i w q. cc) h);
-}
+pub all_owned : {R T : Type 0} (owns : R → T → Type 0) (r : R) (ts : List (Option T)) (k : ℕ) (t : T) → ts ≡ replicate k None ++ Some t ∷ [] → owns r t → OwnsSomes owns r ts
+all_owned owns r ts k t e o = subst (OwnsSomes owns r) (flip e) (alone_owned owns r k t o)
+
+pub alone_closed : {R T : Type 0} (denotes : R → T → Tree) (r : R) (ts : List (Option T)) (k : ℕ) (t : T) → ts ≡ replicate k None ++ Some t ∷ [] → IsClosedAt 0 (denotes r t) → AreClosed (types_of denotes r ts)
+alone_closed denotes r ts k t e h = subst AreClosed (flip (alone_denotes denotes r ts k t e)) (one_closed [] k (denotes r t) (λ i w q. cc) h)
 
 -- ---- a term at a place
 
@@ -112,35 +114,76 @@ with_owned owns r [] (suc k) t h o = (tt, with_owned owns r [] k t tt o)
 with_owned owns r (x ∷ os) zero t h o = (o, h.1)
 with_owned owns r (x ∷ os) (suc k) t h o = (h.0, with_owned owns r os k t h.1 o)
 
--- a further binding: the others are put under it, and its term at its place
-pub is_bound : {R T : Type 0} (owns : R → T → Type 0) (denotes : R → T → Tree) (old mid new : R) (k : Keeps owns denotes old mid) (l : Keeps owns denotes mid new) (b alone all : Bindings T) (d : Bindings T) (i : ℕ) (t u : T)
-    → owns old t → IsClosedAt 0 (denotes old t) → OwnsBindings owns denotes old b → denotes mid u ≡ denotes old t → alone.terms.items ≡ replicate i None ++ Some u ∷ []
-    → AreUnder owns denotes mid alone b new all → d.terms.items ≡ with_term all.terms.items i t → IsBound owns denotes old b i t new d
-is_bound owns denotes old mid new k l b alone all d i t u o h w e f a q =
-    let kl : Keeps owns denotes old new = keeps_further old mid new k l in
-    let x : denotes new t ≡ denotes old t = kl.same t o in
-    let same : terms_of denotes new d ≡ with_binding (terms_of denotes new all) i (denotes new t) = ap (types_of denotes new) q ∙ with_terms denotes new all.terms.items i t in
+-- a rule variable is replaced
+pub is_replaced : {R T : Type 0} (owns : R → T → Type 0) (denotes : R → T → Tree) (old mid new : R) (k : Keeps owns denotes old mid) (os alone ps : List (Option T)) (i : ℕ) (t u : T)
+    → OwnsSomes owns old os → denotes mid u ≡ denotes old t → alone ≡ replicate i None ++ Some u ∷ [] → AreUnder owns denotes mid alone os new ps → IsReplaced owns denotes old os i (denotes old t) new ps
+is_replaced owns denotes old mid new k os alone ps i t u o e f a = record {
+  same = a.same ∙ ap (λ s. map (under_option s) (types_of denotes mid os)) (alone_denotes denotes mid alone i u f ∙ ap (with_binding [] i) e)
+      ∙ ap (map (under_option (with_binding [] i (denotes old t)))) (types_of_kept old mid k os o);
+  own = a.own;
+}
+
+-- the same of what was a call of the reducer before
+pub replaced_before : {A E : Type 0} {R T : Type 0} (owns : R → T → Type 0) (denotes : R → T → Tree) (old mid new : R) (k : Keeps owns denotes old mid) (os ps : List (Option T)) (i : ℕ) (t : T) (o : Result A E)
+    → OwnsSomes owns old os → owns old t → OnOk o (IsReplaced owns denotes mid os i (denotes mid t) new ps) → OnOk o (IsReplaced owns denotes old os i (denotes old t) new ps)
+replaced_before owns denotes old mid new k os ps i t (Ok a) w o h = record {
+  same = h.same ∙ ap (λ u. map (under_option (with_binding [] i u)) (types_of denotes mid os)) (k.same t o) ∙ ap (map (under_option (with_binding [] i (denotes old t)))) (types_of_kept old mid k os w);
+  own = h.own;
+}
+replaced_before owns denotes old mid new k os ps i t (Err e) w o h = h
+
+-- it stands nowhere
+pub stands_nowhere : {R T : Type 0} (owns : R → T → Type 0) (denotes : R → T → Tree) (old new : R) (k : Keeps owns denotes old new) (b : Bindings T) (i : ℕ) (u : Tree) (told : Bool)
+    → OwnsBindings owns denotes old b → told ≡ false → (may_mention denotes old b.mentioned i ≡ true → IsTrue told) → IsReplaced owns denotes old b.terms.items i u new b.terms.items
+stands_nowhere owns denotes old new k b i u told w e h = record {
+  same = types_of_kept old new k b.terms.items w.own ∙ flip (all_without i u (terms_of denotes old b) (λ j v q. by_case v (mentions_rule_variable i v) refl (w.covered i j v q)));
+  own = owned_types_kept old new k b.terms.items w.own;
+}
+  where
+    by_case : (v : Tree) (x : Bool) → mentions_rule_variable i v ≡ x → (mentions_rule_variable i v ≡ true → may_mention denotes old b.mentioned i ≡ true) → mentions_rule_variable i v ≡ false
+    by_case v true q g = let f : told ≡ true = h (g q) in let r : true ≡ false = flip f ∙ e in cc
+    by_case v false q g = q
+
+-- a further binding: the others are put under it, its rule variables are noted, and its term stands at its place
+pub is_bound : {R T : Type 0} (owns : R → T → Type 0) (denotes : R → T → Tree) (old mid new : R) (k : Keeps owns denotes old mid) (l : Keeps owns denotes mid new) (b d : Bindings T) (all : List (Option T)) (i : ℕ) (t : T)
+    → owns old t → IsClosedAt 0 (denotes old t) → OwnsBindings owns denotes old b → IsReplaced owns denotes old b.terms.items i (denotes old t) mid all
+    → IsNoted owns denotes mid b.mentioned (denotes mid t) new d.mentioned → d.terms.items ≡ with_term all i t → IsBound owns denotes old b i t new d
+is_bound owns denotes old mid new k l b d all i t o h w a n q =
+    let u : Tree = denotes old t in
+    let s : PlainBindings = terms_of denotes old b in
+    let x : denotes new t ≡ u = (keeps_further old mid new k l).same t o in
+    let others : types_of denotes new all ≡ map (under_option (with_binding [] i u)) s = types_of_kept mid new l all a.own ∙ a.same in
+    let same : terms_of denotes new d ≡ bound s i u = ap (types_of denotes new) q ∙ with_terms denotes new all i t ∙ ap (λ r. with_binding r i (denotes new t)) others ∙ ap (with_binding (map (under_option (with_binding [] i u)) s) i) x in
+    let y : denotes mid t ≡ u = k.same t o in
+    let m : (j : ℕ) → may_mention denotes old b.mentioned j ≡ may_mention denotes mid b.mentioned j = λ j. flip (ap (λ z. is_marked b.mentioned.marks.items j || stands_in j z) (maybe_kept old mid k b.mentioned.term w.noted)) in
     record {
-      same = same ∙ ap (λ s. with_binding s i (denotes new t)) (a.same ∙ ap (λ s. map (under_option s) (terms_of denotes mid b)) (only_is denotes mid alone i u f ∙ ap (with_binding [] i) e)
-          ∙ ap (map (under_option (with_binding [] i (denotes old t)))) (terms_kept old mid k b w))
-          ∙ ap (with_binding (map (under_option (with_binding [] i (denotes old t))) (terms_of denotes old b)) i) x;
+      same = same;
       own = record {
-        own = subst (OwnsSomes owns new) (flip q) (with_owned owns new all.terms.items i t a.own.own (kl.own t o));
-        closed = subst AreClosed (flip same) (one_closed (terms_of denotes new all) i (denotes new t) a.own.closed (subst (IsClosedAt 0) (flip x) h));
+        own = subst (OwnsSomes owns new) (flip q) (with_owned owns new all i t (owned_types_kept mid new l all a.own) ((keeps_further old mid new k l).own t o));
+        closed = subst AreClosed (flip same) (one_closed (map (under_option (with_binding [] i u)) s) i u (all_closed (with_binding [] i u) (one_closed [] i u (λ e z f. cc) h) s w.closed) h);
+        noted = n.own;
+        covered = λ j e v f. bound_covered s i u (may_mention denotes old b.mentioned) (may_mention denotes new d.mentioned) w.covered
+            (λ z g. n.more z (ap (mentions_rule_variable z) y ∙ g)) (λ z g. n.kept z (flip (m z) ∙ g)) j e v (ap (λ z. capture_at z e) (flip same) ∙ f);
       };
     }
 
+pub bound_where_put : {A E : Type 0} {R T : Type 0} (owns : R → T → Type 0) (denotes : R → T → Tree) (old mid new : R) (k : Keeps owns denotes old mid) (l : Keeps owns denotes mid new) (b d : Bindings T) (all : List (Option T)) (i : ℕ) (t : T) (o : Result A E)
+    → owns old t → IsClosedAt 0 (denotes old t) → OwnsBindings owns denotes old b → IsReplaced owns denotes old b.terms.items i (denotes old t) mid all
+    → IsNoted owns denotes mid b.mentioned (denotes mid t) new d.mentioned → OnOk o (d.terms.items ≡ with_term all i t) → OnOk o (IsBound owns denotes old b i t new d)
+bound_where_put owns denotes old mid new k l b d all i t (Ok x) o h w a n q = is_bound owns denotes old mid new k l b d all i t o h w a n q
+bound_where_put owns denotes old mid new k l b d all i t (Err e) o h w a n q = q
+
 -- ---- each of a list
 
-pub some_more : {R T : Type 0} {owns : R → T → Type 0} {denotes : R → T → Tree} (old at new : R) (b : Bindings T) → OwnsBindings owns denotes old b → (os done pushed rest others : List (Option T)) (x y : Option T) (k : Keeps owns denotes old at) (l : Keeps owns denotes at new)
-    → OwnsSomes owns at done → OwnsSomes owns old rest
-    → types_of denotes at done ++ map (under_option (terms_of denotes old b)) (types_of denotes old rest) ≡ map (under_option (terms_of denotes old b)) (types_of denotes old os) → rest ≡ x ∷ others
-    → IsSomeUnder owns denotes at b x new y → pushed ≡ done ++ y ∷ []
-    → types_of denotes new pushed ++ map (under_option (terms_of denotes old b)) (types_of denotes old others) ≡ map (under_option (terms_of denotes old b)) (types_of denotes old os)
-some_more {R} {T} {owns} {denotes} old at new b w os done pushed rest others x y k l c d e f h q =
-    let s : PlainBindings = terms_of denotes old b in
+pub some_more : {R T : Type 0} {owns : R → T → Type 0} {denotes : R → T → Tree} (old at new : R) (ts : List (Option T)) → OwnsSomes owns old ts → (os done pushed rest others : List (Option T)) (x y : Option T) (k : Keeps owns denotes old at)
+    (l : Keeps owns denotes at new) → OwnsSomes owns at done → OwnsSomes owns old rest
+    → types_of denotes at done ++ map (under_option (types_of denotes old ts)) (types_of denotes old rest) ≡ map (under_option (types_of denotes old ts)) (types_of denotes old os) → rest ≡ x ∷ others
+    → IsSomeUnder owns denotes at ts x new y → pushed ≡ done ++ y ∷ []
+    → types_of denotes new pushed ++ map (under_option (types_of denotes old ts)) (types_of denotes old others) ≡ map (under_option (types_of denotes old ts)) (types_of denotes old os)
+some_more {R} {T} {owns} {denotes} old at new ts w os done pushed rest others x y k l c d e f h q =
+    let s : PlainBindings = types_of denotes old ts in
     let o : OwnsSome owns old x × OwnsSomes owns old others = subst (OwnsSomes owns old) f d in
-    let p : maybe_by (denotes new) y ≡ under_option s (maybe_by (denotes old) x) = h.same ∙ ap (λ z. under_option z (maybe_by (denotes at) x)) (terms_kept old at k b w) ∙ ap (under_option s) (maybe_kept old at k x o.0) in
+    let p : maybe_by (denotes new) y ≡ under_option s (maybe_by (denotes old) x) = h.same ∙ ap (λ z. under_option z (maybe_by (denotes at) x)) (types_of_kept old at k ts w) ∙ ap (under_option s) (maybe_kept old at k x o.0) in
     let tail : List (Option Tree) = map (under_option s) (types_of denotes old others) in
     ap (λ zs. types_of denotes new zs ++ tail) q
     ∙ ap (λ (zs : List (Option Tree)). zs ++ tail) (pushed_types denotes new done y ∙ ap (λ (zs : List (Option Tree)). zs ++ maybe_by (denotes new) y ∷ []) (types_of_kept at new l done c))
@@ -156,11 +199,16 @@ pub somes_pushed : {R T : Type 0} (owns : R → T → Type 0) (r : R) (os : List
 somes_pushed owns r [] o h g = (g, tt)
 somes_pushed owns r (x ∷ os) o h g = (h.0, somes_pushed owns r os o h.1 g)
 
-pub are_under : {R T : Type 0} (owns : R → T → Type 0) (denotes : R → T → Tree) (old new : R) (b c d : Bindings T) → OwnsBindings owns denotes old b → OwnsBindings owns denotes old c → OwnsSomes owns new d.terms.items
-    → terms_of denotes new d ++ [] ≡ map (under_option (terms_of denotes old b)) (terms_of denotes old c) → AreUnder owns denotes old b c new d
-are_under owns denotes old new b c d h g o e =
-    let same : terms_of denotes new d ≡ map (under_option (terms_of denotes old b)) (terms_of denotes old c) = flip (append-nil (terms_of denotes new d)) ∙ e in
-    record { same = same; own = record { own = o; closed = subst AreClosed (flip same) (all_closed (terms_of denotes old b) h.closed (terms_of denotes old c) g.closed) } }
+pub are_under : {R T : Type 0} (owns : R → T → Type 0) (denotes : R → T → Tree) (old new : R) (ts os ps : List (Option T)) → OwnsSomes owns new ps
+    → types_of denotes new ps ++ [] ≡ map (under_option (types_of denotes old ts)) (types_of denotes old os) → AreUnder owns denotes old ts os new ps
+are_under owns denotes old new ts os ps o e = record { same = flip (append-nil (types_of denotes new ps)) ∙ e; own = o }
+
+pub some_filled : {R T : Type 0} (owns : R → T → Type 0) (denotes : R → T → Tree) (old new : R) (ts : List (Option T)) (o : Option T) (t u : T) → o ≡ Some t → AreClosed (types_of denotes old ts)
+    → Makes owns denotes new (filled (types_of denotes old ts) 0 (denotes old t)) u → IsSomeUnder owns denotes old ts o new (Some u)
+some_filled owns denotes old new ts o t u e c m = record {
+  same = ap (λ (z : Tree). Some z) (m.0 ∙ filled_under (types_of denotes old ts) c 0 (denotes old t)) ∙ flip (ap (λ z. under_option (types_of denotes old ts) (maybe_by (denotes old) z)) e);
+  own = m.1;
+}
 
 pub makes_is : {R T : Type 0} (owns : R → T → Type 0) (denotes : R → T → Tree) (r : R) {t u : Tree} (o : Result T NoMemory) → t ≡ u → IfOk o (Makes owns denotes r t) → IfOk o (Makes owns denotes r u)
 makes_is owns denotes r o e h = subst (λ z. IfOk o (Makes owns denotes r z)) e h

@@ -1,6 +1,6 @@
 -- What is found, from one call of a reducer to the next, and with one thing more.
 use Rattle.std.proofs.Common.{List, [], ◌∷◌, ◌++◌, ◌≡◌, ◌∙◌, ℕ, zero, suc, Option, Some, None, ap, refl, sym as flip, subst}
-use Rattle.std.specs.Prelude.{slice_set}
+use Rattle.std.specs.Prelude.{slice_set, ◌||◌}
 use Rattle.dk_model.specs.Trees.{Tree}
 use Rattle.dk_model.specs.Signatures.{maybe_by}
 use Rattle.dk_model.specs.RuleTyping.{Guard as PlainGuard, Found as PlainFound, with_bindings}
@@ -11,6 +11,7 @@ use Rattle.infer_check.proofs.Contexts.{owned_kept, innermost_kept}
 use Rattle.rule_check.specs.declared.found.Guard.{Guard}
 use Rattle.rule_check.specs.declared.found.Found.{Found}
 use Rattle.rule_check.specs.declared.found.Bindings.{Bindings}
+use Rattle.rule_check.specs.Mentioned.{is_marked, stands_in}
 use Rattle.rule_check.specs.Founds.{types_of, terms_of, guard_of, guards_of, found_of, OwnsGuard, OwnsGuards, OwnsBindings, OwnsFound, IsRebound}
 
 pub same_found : {ts us : List (Option Tree)} {gs hs : List PlainGuard} {xs ys : List (Option Tree)} → ts ≡ us → gs ≡ hs → xs ≡ ys
@@ -60,6 +61,9 @@ module _ {R T : Type 0} {owns : R → T → Type 0} {denotes : R → T → Tree}
   bindings_kept b h = record {
     own = owned_types_kept b.terms.items h.own;
     closed = λ k u e. h.closed k u (ap (λ s. capture_at s k) (flip (terms_kept b h)) ∙ e);
+    noted = some_kept b.mentioned.term h.noted;
+    covered = λ j k u e m. ap (λ o. is_marked b.mentioned.marks.items j || stands_in j o) (maybe_kept b.mentioned.term h.noted)
+        ∙ h.covered j k u (ap (λ s. capture_at s k) (flip (terms_kept b h)) ∙ e) m;
   }
 
   pub found_kept : (w : Found T) → OwnsFound owns denotes old w → OwnsFound owns denotes new w

@@ -9,3 +9,4 @@ pub mod Continuing
 pub mod Solving
 pub mod Bound
 pub mod Noting
+pub mod Marks

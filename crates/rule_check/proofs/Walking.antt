@@ -115,14 +115,17 @@ none_types_owned : {R T : Type 0} (owns : R → T → Type 0) (r : R) (n : ℕ) 
 none_types_owned owns r zero = tt
 none_types_owned owns r (suc n) = (tt, none_types_owned owns r n)
 
-no_bindings : {R T : Type 0} (owns : R → T → Type 0) (denotes : R → T → Tree) (r : R) (b : Bindings T) → b.terms.items ≡ [] → OwnsBindings owns denotes r b
-no_bindings owns denotes r b e = record {
+no_bindings : {R T : Type 0} (owns : R → T → Type 0) (denotes : R → T → Tree) (r : R) (b : Bindings T) → b.terms.items ≡ [] → b.mentioned.term ≡ None → OwnsBindings owns denotes r b
+no_bindings owns denotes r b e f = record {
   own = subst (OwnsSomes owns r) (flip e) tt;
   closed = λ k u q. let h : capture_at [] k ≡ Some u = ap (λ bs. capture_at (types_of denotes r bs) k) (flip e) ∙ q in cc;
+  noted = subst (OwnsSome owns r) (flip f) tt;
+  covered = λ j k u q m. let h : capture_at [] k ≡ Some u = ap (λ bs. capture_at (types_of denotes r bs) k) (flip e) ∙ q in cc;
 }
 
-pub nothing_owned : {R T : Type 0} (owns : R → T → Type 0) (denotes : R → T → Tree) (r : R) (w : Found T) (n : ℕ) → w.types.items ≡ replicate n None → w.guards.items ≡ [] → w.bindings.terms.items ≡ [] → OwnsFound owns denotes r w
-nothing_owned owns denotes r w n e f g = record { types = subst (OwnsSomes owns r) (flip e) (none_types_owned owns r n); guards = subst (OwnsGuards owns r) (flip f) tt; bindings = no_bindings owns denotes r w.bindings g }
+pub nothing_owned : {R T : Type 0} (owns : R → T → Type 0) (denotes : R → T → Tree) (r : R) (w : Found T) (n : ℕ) → w.types.items ≡ replicate n None → w.guards.items ≡ [] → w.bindings.terms.items ≡ [] → w.bindings.mentioned.term ≡ None
+    → OwnsFound owns denotes r w
+nothing_owned owns denotes r w n e f g h = record { types = subst (OwnsSomes owns r) (flip e) (none_types_owned owns r n); guards = subst (OwnsGuards owns r) (flip f) tt; bindings = no_bindings owns denotes r w.bindings g h }
 
 pub nothing_is : {R T : Type 0} (denotes : R → T → Tree) (r : R) (w : Found T) (n : ℕ) → w.types.items ≡ replicate n None → w.guards.items ≡ [] → w.bindings.terms.items ≡ [] → found_of denotes r w ≡ nothing_found n
 nothing_is denotes r w n e f g = same_found (ap (types_of denotes r) e ∙ none_types denotes r n) (ap (guards_of denotes r) f) (ap (types_of denotes r) g)

@@ -1,3 +1,4 @@
+pub mod Mentioned
 pub mod Founds
 pub mod Bindings
 pub mod Equations

@@ -6,13 +6,14 @@ ghost use Rattle.dk_model.specs.Bindings.{under};
 ghost use Rattle.dk_model.specs.Typing.{as_product};
 ghost use Rattle.dk_model.specs.declared.code.Code.TheVariants.{E34};
 ghost use Rattle.signature_log.specs.Versions.{entries_of};
-ghost use Rattle.signature_log.specs.Reducers.{Keeps, Makes, OwnsSome};
+ghost use Rattle.signature_log.specs.Reducers.{Keeps, Makes, OwnsSome, OwnsSomes};
 ghost use Rattle.infer_check.specs.Given.{GivesProduct};
 ghost use Rattle.infer_check.specs.Walks.{Follows};
-ghost use Rattle.rule_check.specs.Founds.{terms_of, OwnsBindings};
-ghost use Rattle.rule_check.specs.Bindings.{with_term, IsSomeUnder, AreUnder, IsBound};
+ghost use Rattle.rule_check.specs.Founds.{types_of, terms_of, AreClosed, OwnsBindings};
+ghost use Rattle.rule_check.specs.Bindings.{with_term, IsSomeUnder, AreUnder, IsReplaced, IsBound};
 
 use crate::found::Bindings;
+use crate::mentioned::{is_mentioned, note};
 use dk_model::{Code, NoMemory, TypeFault};
 use infer_check::{Product, into_product};
 use signature_log::{Reducer, Version};
@@ -67,58 +68,104 @@ pub(crate) fn copy_under<R: Reducer>(
     }
 }
 
-/// A binding of this rule variable alone.
-fn only<T: Drop>(alloc: Global, number: u32, term: T) -> Result<Bindings<T>, NoMemory>
-    ensures { IfOk result (λ b. b.terms.items ≡ replicate number None ++ Some term ∷ []) }
+/// A term for this rule variable alone.
+fn alone<T: Drop>(alloc: Global, number: u32, term: T) -> Result<Vec<Option<T>>, NoMemory>
+    ensures { IfOk result (λ terms. terms.items ≡ replicate number None ++ Some term ∷ []) }
 {
     let mut terms = Vec::new(alloc);
     for _ in 0..number {
         terms.push(None)?;
     }
     terms.push(Some(term))?;
-    Ok(Bindings { terms })
+    Ok(terms)
 }
 
 fn some_under<R: Reducer>(
     r: &mut R,
-    bindings: &Bindings<R::T>,
+    terms: &[Option<R::T>],
     term: &Option<R::T>,
 ) -> Result<Option<R::T>, NoMemory>
     requires own { OwnsSome R.owns r.old term.now }
-    requires bindings { OwnsBindings R.owns R.denotes r.old bindings.now }
+    requires terms { OwnsSomes R.owns r.old terms.now }
+    requires closed { AreClosed (types_of R.denotes r.old terms.now) }
     ensures under { IfOk result
-        (IsSomeUnder R.owns R.denotes r.old bindings.now term.now r.new) }
+        (IsSomeUnder R.owns R.denotes r.old terms.now term.now r.new) }
     ensures keeps { Keeps R.owns R.denotes r.old r.new }
     ensures serves { (S : PlainSignature) → R.serves S r.old → R.serves S r.new }
 {
     match term {
-        Some(term) => Ok(Some(copy_under(r, bindings, term)?)),
+        Some(term) => Ok(Some(r.fill(term, terms)?)),
         None => Ok(None),
     }
 }
 
-/// What these rule variables are bound to, under further bindings.
+/// What these rule variables are bound to, with terms for others.
 #[tactic(auto, using(signature_log::proofs::Keeping::keeps_none))]
 fn all_under<R: Reducer>(
     r: &mut R,
-    bindings: &Bindings<R::T>,
-    others: &Bindings<R::T>,
-) -> Result<Bindings<R::T>, NoMemory>
-    requires bindings { OwnsBindings R.owns R.denotes r.old bindings.now }
-    requires others { OwnsBindings R.owns R.denotes r.old others.now }
+    terms: &[Option<R::T>],
+    others: &[Option<R::T>],
+) -> Result<Vec<Option<R::T>>, NoMemory>
+    requires terms { OwnsSomes R.owns r.old terms.now }
+    requires closed { AreClosed (types_of R.denotes r.old terms.now) }
+    requires others { OwnsSomes R.owns r.old others.now }
     ensures under { IfOk result
-        (AreUnder R.owns R.denotes r.old bindings.now others.now r.new) }
+        (λ all. AreUnder R.owns R.denotes r.old terms.now others.now r.new all.items) }
     ensures keeps { Keeps R.owns R.denotes r.old r.new }
     ensures serves { (S : PlainSignature) → R.serves S r.old → R.serves S r.new }
 {
-    let mut terms = Vec::new(r.alloc());
-    let mut rest = others.terms.as_slice();
+    let mut all = Vec::new(r.alloc());
+    let mut rest = others;
     while let Some((first, others)) = rest.split_first() {
-        let term = some_under(r, bindings, first)?;
-        terms.push(term)?;
+        let term = some_under(r, terms, first)?;
+        all.push(term)?;
         rest = others;
     }
-    Ok(Bindings { terms })
+    Ok(all)
+}
+
+/// Replaces a rule variable in what others are bound to.
+fn replace<R: Reducer>(
+    r: &mut R,
+    terms: &mut Vec<Option<R::T>>,
+    number: u32,
+    term: &R::T,
+) -> Result<(), NoMemory>
+    requires own { R.owns r.old term.now }
+    requires closed { IsClosedAt 0 (R.denotes r.old term.now) }
+    requires terms { OwnsSomes R.owns r.old terms.old.items }
+    ensures replaced { OnOk result (IsReplaced R.owns R.denotes r.old terms.old.items number
+        (R.denotes r.old term.now) r.new terms.new.items) }
+    ensures keeps { Keeps R.owns R.denotes r.old r.new }
+    ensures serves { (S : PlainSignature) → R.serves S r.old → R.serves S r.new }
+{
+    let copy = r.copy(term)?;
+    let alone = alone(r.alloc(), number, copy)?;
+    *terms = all_under(r, alone.as_slice(), terms.as_slice())?;
+    Ok(())
+}
+
+/// The same, without a look at each where it stands in none.
+fn replace_where_mentioned<R: Reducer>(
+    r: &mut R,
+    bindings: &mut Bindings<R::T>,
+    number: u32,
+    term: &R::T,
+) -> Result<(), NoMemory>
+    requires own { R.owns r.old term.now }
+    requires closed { IsClosedAt 0 (R.denotes r.old term.now) }
+    requires bindings { OwnsBindings R.owns R.denotes r.old bindings.old }
+    ensures replaced { OnOk result (IsReplaced R.owns R.denotes r.old bindings.old.terms.items
+        number (R.denotes r.old term.now) r.new bindings.new.terms.items) }
+    ensures mentioned { OnOk result (bindings.new.mentioned ≡ bindings.old.mentioned) }
+    ensures keeps { Keeps R.owns R.denotes r.old r.new }
+    ensures serves { (S : PlainSignature) → R.serves S r.old → R.serves S r.new }
+{
+    if is_mentioned(r, &bindings.mentioned, number)? {
+        replace(r, &mut bindings.terms, number, term)
+    } else {
+        Ok(())
+    }
 }
 
 /// Puts a term at a place, behind places without one.
@@ -148,12 +195,9 @@ pub(crate) fn bind<R: Reducer>(
     ensures keeps { Keeps R.owns R.denotes r.old r.new }
     ensures serves { (S : PlainSignature) → R.serves S r.old → R.serves S r.new }
 {
-    let copy = r.copy(&term)?;
-    let alone = only(r.alloc(), number, copy)?;
-    let mut all = all_under(r, &alone, bindings)?;
-    put(&mut all.terms, number, term)?;
-    *bindings = all;
-    Ok(())
+    replace_where_mentioned(r, bindings, number, &term)?;
+    note(r, &mut bindings.mentioned, &term)?;
+    put(&mut bindings.terms, number, term)
 }
 
 /// The parts of a type under the bindings, which must be a product (E34).

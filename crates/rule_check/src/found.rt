@@ -32,6 +32,15 @@ pub struct Found<T> {
 #[derive(Drop)]
 pub struct Bindings<T> {
     pub terms: Vec<Option<T>>,
+    pub mentioned: Mentioned<T>,
+}
+
+/// The rule variables that may stand in what others are bound to: those that are marked at the place of their number, and
+/// those of a term.
+#[derive(Drop)]
+pub struct Mentioned<T> {
+    pub marks: Vec<bool>,
+    pub term: Option<T>,
 }
 
 /// What the walk of a left side changes: the variables that are bound at its place, the units, and what it finds.
@@ -61,6 +70,7 @@ impl<T: Drop> Found<T> {
         ensures types { IfOk result (λ w. w.types.items ≡ replicate vars None) }
         ensures guards { IfOk result (λ w. w.guards.items ≡ []) }
         ensures bindings { IfOk result (λ w. w.bindings.terms.items ≡ []) }
+        ensures mentioned { IfOk result (λ w. w.bindings.mentioned.term ≡ None) }
     {
         let mut types = Vec::new(alloc);
         for _ in 0..vars {
@@ -71,6 +81,10 @@ impl<T: Drop> Found<T> {
             guards: Vec::new(alloc),
             bindings: Bindings {
                 terms: Vec::new(alloc),
+                mentioned: Mentioned {
+                    marks: Vec::new(alloc),
+                    term: None,
+                },
             },
         })
     }

@@ -8,7 +8,7 @@ use Rattle.rule_check.proofs.Walking.{spine_same, nothing_owned, nothing_is}
 use Rattle.rule_check.proofs.sides.walk_left.Goals as goal
 
 pub walk_spine-walked-requires-clause-found : goal.walk_spine-walked-requires-clause-found
-walk_spine-walked-requires-clause-found g c = nothing_owned g.R.Reducer.owns g.R.Reducer.denotes c.symbol_head.new.r c.in_ok-found.found c.args.rule.now.vars c.in_ok-found.ensures.types c.in_ok-found.ensures.guards c.in_ok-found.ensures.bindings
+walk_spine-walked-requires-clause-found g c = nothing_owned g.R.Reducer.owns g.R.Reducer.denotes c.symbol_head.new.r c.in_ok-found.found c.args.rule.now.vars c.in_ok-found.ensures.types c.in_ok-found.ensures.guards c.in_ok-found.ensures.bindings c.in_ok-found.ensures.mentioned
 
 pub returns-in_err-walked-clause-gives : goal.returns-in_err-walked-clause-gives
 returns-in_err-walked-clause-gives g c =
