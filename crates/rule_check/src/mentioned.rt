@@ -90,11 +90,7 @@ fn mark_all<R: Reducer>(
 }
 
 /// Keeps a term beside those that are kept.
-fn keep<R: Reducer>(
-    r: &mut R,
-    kept: Option<R::T>,
-    term: R::T,
-) -> Result<Option<R::T>, NoMemory>
+fn keep<R: Reducer>(r: &mut R, kept: Option<R::T>, term: R::T) -> Result<Option<R::T>, NoMemory>
     requires kept { OwnsSome R.owns r.old kept }
     requires own { R.owns r.old term }
     ensures keeps_both { IfOk result
