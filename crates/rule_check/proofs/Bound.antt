@@ -13,10 +13,9 @@ use Rattle.signature_log.specs.Reducers.{Keeps, Makes, OwnsSome, OwnsSomes}
 use Rattle.signature_log.proofs.Keeping.{keeps_further}
 use Rattle.rule_check.specs.declared.found.Bindings.{Bindings}
 use Rattle.rule_check.specs.Founds.{types_of, terms_of, AreClosed, OwnsBindings}
-use Rattle.rule_check.specs.declared.found.Mentioned.{Mentioned}
 use Rattle.rule_check.specs.Mentioned.{is_marked, stands_in, may_mention, IsNoted}
 use Rattle.rule_check.specs.Bindings.{with_term, IsSomeUnder, AreUnder, IsReplaced, IsBound}
-use Rattle.rule_check.proofs.Founds.{maybe_kept, types_of_kept, owned_types_kept, terms_kept}
+use Rattle.rule_check.proofs.Founds.{maybe_kept, types_of_kept, owned_types_kept}
 use Rattle.rule_check.proofs.Moving.{moved_over_options}
 use Rattle.rule_check.proofs.Marks.{all_without, bound_covered}
 

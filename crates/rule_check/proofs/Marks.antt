@@ -1,16 +1,12 @@
 -- Marks, and which rule variables stand in a term once one is replaced.
-use Rattle.std.specs.Prelude.{map, eqb, slice_get, slice_set, length, ◌||◌, not, Bool, true, false, IsTrue, IfOk}
+use Rattle.std.specs.Prelude.{map, eqb, slice_set, length, ◌||◌, Bool, true, false, IsTrue}
 use Rattle.std.proofs.Common.{List, [], ◌∷◌, ◌++◌, ℕ, zero, suc, ◌≡◌, ◌≢◌, ◌<◌, ◌≤◌, Option, Some, None, refl, ap, ◌∙◌, sym as flip, subst, arith}
 use Rattle.std.proofs.lemmas.Bool.{eqb-true, eq-eqb}
 use Rattle.dk_model.specs.Trees.{Tree, star, kind, symbol, variable, rule_variable, apply, bare, annotated, product}
 use Rattle.dk_model.specs.Captures.{capture_at}
-use Rattle.dk_model.specs.Signatures.{maybe_by}
-use Rattle.dk_model.specs.Bindings.{Bindings as PlainBindings, under, under_option, with_binding, bound, mentions_rule_variable, may_bind}
-use Rattle.dk_model.proofs.Unders.{with_here, with_other, mapped_at, may_bind_is}
-use Rattle.signature_log.specs.Reducers.{Keeps, OwnsSome}
-use Rattle.rule_check.specs.declared.found.Mentioned.{Mentioned}
-use Rattle.rule_check.specs.Mentioned.{is_marked, with_mark, stands_in, may_mention, IsKept, IsNoted}
-use Rattle.rule_check.proofs.Founds.{maybe_kept}
+use Rattle.dk_model.specs.Bindings.{Bindings as PlainBindings, under, under_option, with_binding, bound, mentions_rule_variable}
+use Rattle.dk_model.proofs.Unders.{with_here, with_other, mapped_at}
+use Rattle.rule_check.specs.Mentioned.{is_marked, with_mark, stands_in}
 
 -- ---- one or the other
 

@@ -1,4 +1,4 @@
-use Rattle.std.proofs.Common.{rules, arith, length, [], ◌≡◌, ◌++◌, map, sym as flip, subst, ap, ◌∙◌}
+use Rattle.std.proofs.Common.{rules, arith, length, [], ◌≡◌, ◌++◌, map, sym as flip, subst}
 use Rattle.dk_model.specs.Bindings.{under_option}
 use Rattle.rule_check.specs.Founds.{types_of, AreClosed}
 use Rattle.signature_log.specs.Reducers.{OwnsSomes}
