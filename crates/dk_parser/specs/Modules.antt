@@ -1,4 +1,4 @@
--- For callers: directives, and the modules that a command or a directive needs, in the order of their places (docs/grammar.md).
+-- Trusted: directives, and the modules that a command or a directive needs, in the order of their places (docs/grammar.md).
 use Rattle.std.specs.Prelude.{ℕ, Bool, true, false, List, [], ◌∷◌, ◌++◌, Option, Some, None}
 use Rattle.std.specs.List.{flat_map}
 use Rattle.dk_parser.specs.Written.{Written, written_name, written_qualified, written_star, written_wild, written_apply, written_arrow, written_product, written_bare, written_annotated, WrittenPattern, pattern_name, pattern_qualified, pattern_wild, pattern_guard, pattern_apply, pattern_bare, WrittenParam, WrittenNote, WrittenRule, WrittenForm, written_declare, written_rules, written_module, written_require}

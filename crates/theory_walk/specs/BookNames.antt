@@ -1,4 +1,4 @@
--- For callers: the names that the books of a theory have on the shelf, and the module of the file (docs/modules.md).
+-- Trusted: the names that the books of a theory have on the shelf, and the module of the file (docs/modules.md).
 use Rattle.std.specs.Prelude.{ℕ, ◌-◌, ◌==◌, List, ◌++◌, length, drop, take, reverse, position, unwrap_or, codes, if◌then◌else◌, Option, Some, None}
 use Rattle.std.specs.Str.{bytes_eq}
 use Rattle.dk_lexer.specs.Spelling.{is_plain_name}

@@ -1,4 +1,4 @@
--- For callers: what the bytes of one book are read as (docs/modules.md).
+-- Trusted: what the bytes of one book are read as (docs/modules.md).
 use Rattle.std.specs.Prelude.{ℕ, List, [], Option, Some, None}
 use Rattle.dk_model.specs.declared.limits.Limits.{Limits}
 use Rattle.dk_lexer.specs.Tokens.{Ending, broken, tokens}

@@ -1,4 +1,4 @@
--- For callers: what the books of a theory are read as, each under the module that it has (docs/modules.md).
+-- Trusted: what the books of a theory are read as, each under the module that it has (docs/modules.md).
 use Rattle.std.specs.Prelude.{ℕ, Bool, true, false, List, [], ◌∷◌, ◌++◌, Option, map}
 use Rattle.std.specs.List.{flat_map}
 use Rattle.dk_model.specs.declared.code.Code.{Code}

@@ -1,4 +1,4 @@
--- For callers: the commands of a file and of the modules that it needs, in the order of first need, and how they end (docs/modules.md).
+-- Trusted: the commands of a file and of the modules that it needs, in the order of first need, and how they end (docs/modules.md).
 use Rattle.std.specs.Prelude.{ℕ, zero, suc, ◌-◌, Bool, true, false, nat_le, List, [], ◌∷◌, ◌++◌, length, if◌then◌else◌, Option, Some, None}
 use Rattle.std.specs.List.{list_any}
 use Rattle.std.specs.Str.{bytes_eq}
