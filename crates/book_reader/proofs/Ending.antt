@@ -19,11 +19,11 @@ use Rattle.book_reader.specs.Shelved.{AreLeft, Given, IsCut, MemoryDue, Setting,
 use Rattle.book_reader.specs.Shelves.{ShelfState}
 use Rattle.book_reader.specs.Stacks.{Rest, books_of, walk_stack}
 use Rattle.book_reader.specs.Walkers.{Agrees, AreDistinct, AreOpen, AreRests, IsAmong, LeadsTo, Open, books_in, has, has_key, lefts_of, rest_behind, stack_in}
-use Rattle.book_reader.proofs.Given.{begins_given, begins_whole}
+use Rattle.book_reader.proofs.Given.{begins_given, begins_whole, first_line_is}
 use Rattle.book_reader.proofs.Keys.{apart, apart_keys, first_false, has_first, has_later, is_new, not_open, own_key, second_false}
 use Rattle.book_reader.proofs.Leading.{rests_books, stepped}
 use Rattle.book_reader.proofs.Stacks.{stack_stop}
-use Rattle.book_reader.proofs.Turning.{by_looped, is_looped, needs_are, whole_reading}
+use Rattle.book_reader.proofs.Turning.{OpensNew, by_looped, is_looped, needs_are, whole_reading}
 
 pub plain_commands : (done : List Placed) (r : Reached) → with_commands done (record { commands = []; reached = r }) ≡ walk_with done r
 plain_commands done r = ap (λ l. let w : Walk = record { commands = l; reached = r } in w) (append-nil done)
@@ -370,7 +370,41 @@ module _ (s : Setting) where
   front_taken [] later = refl
   front_taken (x ∷ d) later = ap (λ l. x ∷ l) (front_taken d later)
 
-  -- memory ended while the next item of the book being read was due
+  -- memory ended while the next item of the book being read was due, behind these items of the open books
+  pub memory_behind : (o : Open) (os : List Open) (known : List (List ℕ)) (shelf : ShelfState) (done : List Placed) (line : ℕ) (d : List WrittenCommand) (ds : List (List WrittenCommand))
+      → o.pending ≡ [] → AreDistinct (books_in (o ∷ os))
+      → (open_so : AreOpen s (o ∷ os) (d ∷ ds) (lefts_of shelf)) → IsNextLine s.limits open_so.0.bytes tokens.whole (length d) line
+      → LeadsTo s (o ∷ os) known (d ∷ ds) done
+      → MemoryDue s (length done) (record { book = o.book; line = line })
+  memory_behind o os known shelf done line d ds none distinct open_so next leads =
+      let spot : Spot = record { book = o.book; line = line } in
+      let bytes = open_so.0.bytes in
+      let b = begins_whole s.limits bytes d shelf.left o.reader open_so.0.behind in
+      let x = cut_behind s bytes (length d) line in
+      let items_are : x.items ≡ d = ap (take (length d)) b.1 ∙ front_taken d b.0 in
+      let lib = cut_library o.book x in
+      let r = rests_whole os ds shelf.aside open_so.1 in
+      let walk : walk_in s lib ≡ walk_with done (ends (unread_at spot)) =
+      leads lib (rest_behind o [] (unread line) ∷ r.0) (record {
+        closed = λ k is_known not_so. ap (λ b. if b then opened x else whole_library s (Some k)) (first_false (same_key o.book (Some k)) (has_key (books_in os) (Some k)) not_so);
+        rests_are = (
+          record {
+            reading = x;
+            book_is = ap (λ b. if b then opened x else whole_library s o.book) (own_key o.book);
+            later = [];
+            begins = items_are ∙ sym (append-nil d);
+            rest_is = refl;
+          },
+          same_rests (whole_library s) lib os ds r.0 (λ k is. ap (λ b. if b then opened x else whole_library s k) (apart_keys (books_in os) o.book k distinct.0 is)) r.1,
+        );
+      })
+      ∙ ap (λ q. with_commands done (walk_stack s.most s.own lib (s.most.files - length (o ∷ os)) (q ∷ r.0) known)) (stepped s o [] [] (unread line) none)
+      ∙ plain_commands done (ends (unread_at spot)) in (
+        lib,
+        (λ k. cut_by o.book x k (same_key o.book k) refl (record { bytes = bytes; has_book = open_so.0.has_book; count = length d; line = line; next = next; cut_is = refl })),
+        inr (ap (λ (w : Walk). length w.commands) walk, (unread_at spot, ap (λ (w : Walk). w.reached) walk, refl)),
+      )
+
   pub memory_ended : (o : Open) (os : List Open) (known : List (List ℕ)) (shelf : ShelfState) (done : List Placed) (line : ℕ)
       → o.pending ≡ []
       → ((bytes : List ℕ) (d : List WrittenCommand) → IsBehind s.limits bytes d shelf.left o.reader → IsNextLine s.limits bytes tokens.whole (length d) line)
@@ -379,34 +413,15 @@ module _ (s : Setting) where
   memory_ended o os known shelf done line none next st = by_dones st.dones st.on_shelf st.leads where
     by_dones : (dones : List (List WrittenCommand)) → AreOpen s (o ∷ os) dones (lefts_of shelf) → LeadsTo s (o ∷ os) known dones done → MemoryDue s (length done) (record { book = o.book; line = line })
     by_dones [] open_so leads = absurd open_so
-    by_dones (d ∷ ds) open_so leads =
-        let spot : Spot = record { book = o.book; line = line } in
-        let bytes = open_so.0.bytes in
-        let b = begins_whole s.limits bytes d shelf.left o.reader open_so.0.behind in
-        let x = cut_behind s bytes (length d) line in
-        let items_are : x.items ≡ d = ap (take (length d)) b.1 ∙ front_taken d b.0 in
-        let lib = cut_library o.book x in
-        let r = rests_whole os ds shelf.aside open_so.1 in
-        let walk : walk_in s lib ≡ walk_with done (ends (unread_at spot)) =
-        leads lib (rest_behind o [] (unread line) ∷ r.0) (record {
-          closed = λ k is_known not_so. ap (λ b. if b then opened x else whole_library s (Some k)) (first_false (same_key o.book (Some k)) (has_key (books_in os) (Some k)) not_so);
-          rests_are = (
-            record {
-              reading = x;
-              book_is = ap (λ b. if b then opened x else whole_library s o.book) (own_key o.book);
-              later = [];
-              begins = items_are ∙ sym (append-nil d);
-              rest_is = refl;
-            },
-            same_rests (whole_library s) lib os ds r.0 (λ k is. ap (λ b. if b then opened x else whole_library s k) (apart_keys (books_in os) o.book k st.distinct.0 is)) r.1,
-          );
-        })
-        ∙ ap (λ q. with_commands done (walk_stack s.most s.own lib (s.most.files - length (o ∷ os)) (q ∷ r.0) known)) (stepped s o [] [] (unread line) none)
-        ∙ plain_commands done (ends (unread_at spot)) in (
-          lib,
-          (λ k. cut_by o.book x k (same_key o.book k) refl (record { bytes = bytes; has_book = open_so.0.has_book; count = length d; line = line; next = next bytes d open_so.0.behind; cut_is = refl })),
-          inr (ap (λ (w : Walk). length w.commands) walk, (unread_at spot, ap (λ (w : Walk). w.reached) walk, refl)),
-        )
+    by_dones (d ∷ ds) open_so leads = memory_behind o os known shelf done line d ds none st.distinct open_so (next open_so.0.bytes d open_so.0.behind) leads
+
+  -- the book of a module was opened: what stands then, and its first line is due
+  pub newly_opened : (n : Open) (os : List Open) (known : List (List ℕ)) (shelf : ShelfState) (done : List Placed) → n.pending ≡ [] → OpensNew s n os known shelf done
+      → IsAmong s done (n ∷ os) known shelf × MemoryDue s (length done) (record { book = n.book; line = 1 })
+  newly_opened n os known shelf done none new = (
+    record { dones = [] ∷ new.dones; on_shelf = new.on_shelf; distinct = new.distinct; are_known = new.are_known; leads = new.leads },
+    memory_behind n os known shelf done 1 [] new.dones none new.distinct new.on_shelf (first_line_is s.limits new.on_shelf.0.bytes) new.leads,
+  )
 
   without_by : (k other : Key) (b : Bool) → ((if b then unopened else whole_library s other) ≡ whole_library s other) ⊎ (((if b then unopened else whole_library s other) ≡ unopened) ⊎ IsCut s other (if b then unopened else whole_library s other))
   without_by k other true = inr (inl refl)

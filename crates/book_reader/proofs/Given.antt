@@ -81,3 +81,16 @@ next_line_is limits bytes d c left r b =
       read_are = let e : length now.commands ≡ length d + length (c ∷ at.0) = ap length commands ∙ length-append d (c ∷ at.0) in omega (arith, e);
       line_is = sym (ap (λ cs. next_line cs now.begun (tokens limits h.lexed broken).line) (ap (drop (length d)) commands ∙ drop-append_seam d (c ∷ at.0)));
     }
+
+-- nothing was read of a book, and its first line is due
+pub first_line_is : (limits : Limits) (bytes : List ℕ) → IsNextLine limits bytes whole 0 1
+unfolding tokens
+first_line_is limits bytes = record {
+  given = [];
+  rest = bytes;
+  bytes_are = refl;
+  ending = broken;
+  last = λ is. absurd (let b : broken ≡ whole = is in cc);
+  read_are = omega arith;
+  line_is = refl;
+}

@@ -178,21 +178,29 @@ module _ (s : Setting) where
       (ap (λ b. let x : Rest = record { book = b; steps = p.pending ++ steps_in isp.later; tail = isp.reading.tail } in x) (sym same) ∙ sym isp.rest_is)
 
   -- a module is opened
+  -- a book was opened, and nothing was read of it
+  pub record OpensNew (n : Open) (os : List Open) (known : List (List ℕ)) (shelf : ShelfState) (done : List Placed) : Type 0 where
+    pub dones : List (List WrittenCommand)
+    pub on_shelf : AreOpen s (n ∷ os) ([] ∷ dones) (lefts_of shelf)
+    pub distinct : AreDistinct (books_in (n ∷ os))
+    pub are_known : AreKnown known (n ∷ os)
+    pub leads : LeadsTo s (n ∷ os) known ([] ∷ dones) done
+
   pub opened_new : (o p n : Open) (os : List Open) (known : List (List ℕ)) (before after : ShelfState) (done : List Placed) (directive : Bool) (line : ℕ) (m : List ℕ)
       → standing_of s.own o.book (books_in os) known m ≡ New → length (o ∷ os) < s.most.files → nat_le s.most.modules (length known) ≡ false
       → p.book ≡ o.book → p.reader ≡ o.reader → o.pending ≡ need directive line m ∷ p.pending
       → n.book ≡ Some m → n.pending ≡ [] → ((bytes : List ℕ) → IsBehind s.limits bytes [] (Some bytes) n.reader)
       → Opens (Some s.books) (s.named (Some m)) after.left → after.aside ≡ before.left ∷ before.aside
       → IsAmong s done (o ∷ os) known before
-      → IsAmong s done (n ∷ p ∷ os) (known ++ m ∷ []) after
+      → OpensNew n (p ∷ os) (known ++ m ∷ []) after done
   opened_new o p n os known before after done directive line m new room few same same_reader pending is_m idle fresh opens aside st = by_dones st.dones st.on_shelf st.leads where
     is : IsNew s.own o.book (books_in os) known m
     is = is_new s.own o.book (books_in os) known m new
 
-    by_dones : (dones : List (List WrittenCommand)) → AreOpen s (o ∷ os) dones (lefts_of before) → LeadsTo s (o ∷ os) known dones done → IsAmong s done (n ∷ p ∷ os) (known ++ m ∷ []) after
+    by_dones : (dones : List (List WrittenCommand)) → AreOpen s (o ∷ os) dones (lefts_of before) → LeadsTo s (o ∷ os) known dones done → OpensNew n (p ∷ os) (known ++ m ∷ []) after done
     by_dones [] open_so leads = absurd open_so
     by_dones (d ∷ ds) open_so leads = record {
-      dones = [] ∷ d ∷ ds;
+      dones = d ∷ ds;
       on_shelf = (
         record {
           bytes = opens.0;

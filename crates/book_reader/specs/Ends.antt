@@ -44,8 +44,10 @@ BeginsWalk s done = (later : List Placed) × ((walk_in s (whole_library s)).comm
 abbrev pub placed : Walker → Raw → Placed
 placed w raw = record { book = w.top.module; command = written_command raw }
 
--- what a turn comes to, behind these commands
+-- what a turn comes to, behind these commands; a book that was opened is due at its first line
 abbrev pub ComesTo : Books → List Placed → Walker → ShelfState → Result Turn WalkEnd → Type 0
+ComesTo books done w shelf (Ok turn.Entered) =
+    HasGiven books done shelf w × MemoryDue (setting_of w.root books) (length done) (record { book = w.top.module; line = 1 })
 ComesTo books done w shelf (Ok (turn.Command raw)) = HasGiven books (done ++ placed w raw ∷ []) shelf w
 ComesTo books done w shelf (Ok t) = HasGiven books done shelf w
 ComesTo books done w shelf (Err e) = EndsOf (setting_of w.root books) done w.top.module shelf e × BeginsWalk (setting_of w.root books) done

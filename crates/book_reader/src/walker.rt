@@ -1,12 +1,12 @@
 //! Several books, one inside the other.
-ghost use Rattle.std.specs.Prelude.{◌≡◌, ◌<◌, ◌≤◌, [], ℕ, Bool, List, Some, None, reverse, vec_len, IfOk, OnOk, OnErr};
+ghost use Rattle.std.specs.Prelude.{◌≡◌, ◌<◌, ◌≤◌, ◌∷◌, [], ℕ, Bool, List, Some, None, reverse, vec_len, IfOk, OnOk, OnErr};
 ghost use Rattle.std.specs.List.{list_any};
 ghost use Rattle.std.specs.String.{string_bytes};
 ghost use Rattle.dk_io.specs.Bytes.{Books};
 ghost use Rattle.dk_io.specs.Causes.{HasCauseAt, MayRise};
 ghost use Rattle.theory_walk.specs.declared.needs.Standing.{Standing};
 ghost use Rattle.theory_walk.specs.Walks.{Placed, is_module, module_in, standing_of};
-ghost use Rattle.book_reader.specs.Ends.{AreBegun, Causes, ComesTo, HasRoom, IsNewTo, IsReady, Moves};
+ghost use Rattle.book_reader.specs.Ends.{AreBegun, Causes, ComesTo, HasRoom, IsNewTo, IsReady, Moves, books_open};
 ghost use Rattle.book_reader.specs.Shelves.{shelf_of};
 ghost use Rattle.book_reader.specs.Turns.{GivesUp, IsIdle, NeedsNext};
 ghost use Rattle.book_reader.specs.Walkers.{HasGiven, books_in, opens_below};
@@ -14,7 +14,7 @@ ghost use Rattle.book_reader.specs.Walkers.{HasGiven, books_in, opens_below};
 use crate::name::book_name;
 use crate::opened::Opened;
 use dk_io::{Failed, Shelf};
-use dk_model::{Code, Limits, Listed};
+use dk_model::{Code, Limits, Listed, NoMemory};
 use dk_parser::Raw;
 use file_reader::{ReadEnd, Reader};
 use std::alloc::Global;
@@ -147,12 +147,32 @@ impl Walker {
 }
 
 impl Walker {
+    /// The module of the book being read; the file's own has none.
+    pub fn module(&self, alloc: Global) -> Result<Option<Listed<u8>>, NoMemory>
+        ensures { IfOk result (λ m. m ≡ self.now.top.module) }
+    {
+        match &self.top.module {
+            Some(name) => Ok(Some(name.copy(alloc)?)),
+            None => Ok(None),
+        }
+    }
+
+    /// The module of the book that was read last. Takes no memory.
+    pub fn into_module(self) -> Option<Listed<u8>>
+        ensures { result ≡ self.top.module }
+    {
+        let Walker { top, .. } = self;
+        let Frame { module, .. } = top;
+        module
+    }
+
     /// Opens the file. `Failed` leaves the shelf's books where they were.
     pub fn begin<H: Shelf>(alloc: Global, root: Root, shelf: &mut H) -> Result<Walker, Failed>
         requires aside { H.aside shelf.old ≡ [] }
         requires files { (0 < root.most.files) × (root.most.files ≤ 64) }
         ensures root { IfOk result (λ w. w.root ≡ root) }
         ensures ready { IfOk result (λ w. IsReady w (shelf_of H.Shelf shelf.new)) }
+        ensures opens { IfOk result (λ w. (books_open w ≡ None ∷ []) × (w.opened ≡ [])) }
         ensures walks { (books : Books) → H.books shelf.old ≡ Some books →
             IfOk result (λ w. HasGiven books [] (shelf_of H.Shelf shelf.new) w) }
         ensures books { H.books shelf.new ≡ H.books shelf.old }

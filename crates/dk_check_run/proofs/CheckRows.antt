@@ -14,7 +14,7 @@ use Rattle.verdict_book.specs.Report.{FileReport, nowhere, report_of, status_of}
 use Rattle.verdict_book.specs.declared.outcome.Outcome.{Outcome}
 use Rattle.verdict_book.specs.declared.outcome.Outcome.TheVariants.{Accepted, Stopped, Unread, Unopened}
 use Rattle.file_report.specs.Histories.{EndsInMemory}
-use Rattle.file_report.specs.Memory.{IsCutByMemory}
+use Rattle.theory_walk.specs.Lines.{IsCutByMemory}
 use Rattle.file_check.specs.Counts.{CountsAt, EndsGiven, EndsOn}
 use Rattle.file_check.specs.Shelves.{HasHeld, ShelfState}
 use Rattle.dk_check_run.specs.Books.{IsOfBook, IsOfGiven}

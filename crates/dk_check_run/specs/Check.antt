@@ -10,7 +10,7 @@ use Rattle.board_core.specs.declared.event.Place.{Place}
 use Rattle.board_core.specs.Places.{in_file}
 use Rattle.verdict_book.specs.Report.{FileReport, status_of}
 use Rattle.verdict_book.specs.declared.outcome.Outcome.TheVariants.{Stopped, Unread}
-use Rattle.file_report.specs.Memory.{IsCutByMemory}
+use Rattle.theory_walk.specs.Lines.{IsCutByMemory}
 use Rattle.file_report.specs.Outcomes.{report_of_bytes}
 use Rattle.file_check.specs.Shelves.{HasHeld, ShelfState}
 use Rattle.dk_check_run.specs.Books.{IsOfBook, IsOfGiven}

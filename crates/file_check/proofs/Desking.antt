@@ -13,7 +13,7 @@ use Rattle.board_core.proofs.Histories.{end_append, first_of, unsealed}
 use Rattle.task_board.specs.Histories.{events_in, tagged}
 use Rattle.verdict_book.specs.declared.title.Title.{Title}
 use Rattle.file_report.specs.Outcomes.{Theory}
-use Rattle.file_report.specs.Jobs.{title_of, titles_of}
+use Rattle.file_report.specs.Jobs.{job_titles}
 use Rattle.file_check.specs.declared.desk.Desk.{Desk}
 use Rattle.file_check.specs.declared.job.Job.{Job}
 use Rattle.file_check.specs.Jobs.{job_of}
@@ -29,7 +29,7 @@ sound_kept limits titles back jobs known sound same_titles same_jobs =
 
 -- one job more, with its title
 pub sound_put : (limits : Limits) (titles : List Title) (title : Title) (jobs : List (Job × Bool)) (job : Job) (settled : Bool) → IsSound limits titles jobs → length titles < limits.commands
-    → title ≡ title_of (job_of job) → IsSound limits (titles ++ title ∷ []) (jobs ++ (job, settled) ∷ [])
+    → title ≡ (job_of job).title → IsSound limits (titles ++ title ∷ []) (jobs ++ (job, settled) ∷ [])
 sound_put limits titles title jobs job settled sound room title_is =
     let more = length-append titles (title ∷ []) in
     let more_jobs = length-append jobs ((job, settled) ∷ []) in
@@ -40,8 +40,8 @@ sound_put limits titles title jobs job settled sound room title_is =
       as_many = omega (arith, more, more_jobs, as_many);
       titled =
           ap (λ ts. ts ++ title ∷ []) sound.titled
-          ∙ ap (λ t. titles_of job_of jobs ++ t ∷ []) title_is
-          ∙ sym (map-append (λ (j : Job × Bool). title_of (job_of j.0)) jobs ((job, settled) ∷ []));
+          ∙ ap (λ t. job_titles job_of jobs ++ t ∷ []) title_is
+          ∙ sym (map-append (λ (j : Job × Bool). (job_of j.0).title) jobs ((job, settled) ∷ []));
     }
 
 -- a desk to which no command was handed over is ready
@@ -51,10 +51,9 @@ fresh_ready desk fresh = record {
     limit = fresh.limit;
     few = subst (λ js. length js ≤ desk.limits.commands) (sym fresh.jobs) (omega arith);
     as_many = ap length fresh.titles ∙ sym (ap length fresh.jobs);
-    titled = fresh.titles ∙ sym (ap (titles_of job_of) fresh.jobs);
+    titled = fresh.titles ∙ sym (ap (job_titles job_of) fresh.jobs);
   };
   counted = ap (λ (T : Theory). T.names.count) fresh.theory ∙ sym (ap length fresh.titles);
-  unentered = fresh.unentered;
 }
 
 -- ---- the seal

@@ -1,47 +1,72 @@
 -- For proofs: the program's jobs as the law of histories sees them, and how one is made.
-use Rattle.std.specs.Prelude.{◌≡◌, ◌≢◌, ℕ, Bool, true, []}
+use Rattle.std.specs.Prelude.{◌≡◌, ◌≢◌, ◌++◌, ℕ, Bool, true}
 use Rattle.dk_model.specs.Answering.{IsVerdictOrMemory}
 use Rattle.dk_model.specs.declared.code.Verdict.{Verdict}
 use Rattle.dk_model.specs.declared.code.Verdict.TheVariants.{Accepted}
-use Rattle.dk_parser.specs.Written.{WrittenCommand}
+use Rattle.dk_parser.specs.Written.{WrittenForm}
 use Rattle.scope_terms.specs.Names.{reading}
+use Rattle.scope_terms.specs.Reading.{Reading, current}
+use Rattle.scope_terms.specs.Scopes.{Module, names_after, scope_of, scoped}
 use Rattle.signature_log.specs.Versions.{entries_of}
+use Rattle.board_core.specs.declared.event.Place.{Place}
 use Rattle.command_check.specs.Commands.{stored_command}
-use Rattle.file_report.specs.Outcomes.{Theory, theory_after}
-use Rattle.file_report.specs.Jobs.{IsJobOf, due_of, is_early, title_of}
-use Rattle.file_report.specs.Jobs as plain
+use Rattle.file_report.specs.Outcomes.{Theory, scoped_entry, scoped_verdict, shown_name}
+use Rattle.file_report.specs.Jobs.{TheoryJob, due_on, is_early_on}
 use Rattle.file_check.specs.declared.job.Job.{Job}
 use Rattle.file_check.specs.declared.theory.Prepared.{Prepared}
 use Rattle.file_check.specs.declared.theory.Theory.{Theory as Kept}
 
 -- the job without pointers
-abbrev pub job_of : Job → plain.Job
-job_of j = record { signature = entries_of j.version; command = stored_command j.command; budget = j.budget; name = j.title.job.name; line = j.title.job.place.line }
+abbrev pub job_of : Job → TheoryJob
+job_of j = record { signature = entries_of j.version; command = stored_command j.command; budget = j.budget; title = j.title.job }
 
 -- the verdict that the job is due, and whether the reader may check it itself
 abbrev pub due : Job → Verdict
-due j = due_of (job_of j)
+due j = due_on (job_of j)
 
 abbrev pub early : Job → Bool
-early j = is_early (job_of j)
+early j = is_early_on (job_of j)
 
 -- what the program's theory shows
 abbrev pub theory_of : Kept → Theory
 theory_of t = record { names = (reading t.names).symbols; signature = entries_of t.version }
 
--- it has entered no module: its commands stand in the one without a name
-abbrev pub IsUnentered : Kept → Type 0
-IsUnentered t = (reading t.names).entered ≡ []
+-- how it stands with modules
+abbrev pub modules_of : Kept → Reading
+modules_of t = reading t.names
+
+-- the module that is being read
+abbrev pub module_at : Kept → Module
+module_at t = current (modules_of t)
+
+-- the same modules are entered, and each stands where it stood
+pub record KeepsModules (old new : Kept) : Type 0 where
+  pub entered : (modules_of new).entered ≡ (modules_of old).entered
+  pub standing : (modules_of new).standing ≡ (modules_of old).standing
 
 -- a verdict other than Accepted, the one that is due or want of memory
 pub record IsOtherVerdict (due given : Verdict) : Type 0 where
   pub given_is : IsVerdictOrMemory due given
   pub other : given ≢ Accepted
 
--- the command's job over this theory, and the theory that goes on as if the command were accepted
-pub record Prepares (budget : ℕ) (old : Theory) (c : WrittenCommand) (p : Prepared) (new : Theory) : Type 0 where
-  pub job : IsJobOf budget old c (job_of p.job)
-  pub title : p.title ≡ title_of (job_of p.job)
-  pub early : p.settled ≡ is_early (job_of p.job)
-  pub settled : p.settled ≡ true → (is_early (job_of p.job) ≡ true) × (due_of (job_of p.job) ≡ Accepted)
-  pub theory : new ≡ theory_after old budget c.form
+-- the verdict on a command of the module being read, after the commands of the theory
+abbrev pub verdict_in : ℕ → Kept → WrittenForm → Verdict
+verdict_in budget t form = scoped_verdict (entries_of t.version) budget (scope_of (theory_of t).names (module_at t) form)
+
+-- the theory with that command accepted
+abbrev pub theory_in : ℕ → Kept → WrittenForm → Theory
+theory_in budget t form = record {
+  names = names_after (theory_of t).names (module_at t) form;
+  signature = entries_of t.version ++ scoped_entry (entries_of t.version) budget (scope_of (theory_of t).names (module_at t) form);
+}
+
+-- the command's job over this theory, and the theory that goes on as if the command, which stands at this place, were accepted
+pub record Prepares (budget : ℕ) (old : Kept) (form : WrittenForm) (place : Place) (p : Prepared) (new : Kept) : Type 0 where
+  pub signature : (job_of p.job).signature ≡ entries_of old.version
+  pub command : scope_of (theory_of old).names (module_at old) form ≡ scoped (job_of p.job).command
+  pub budget_is : (job_of p.job).budget ≡ budget
+  pub title_is : p.title ≡ record { name = shown_name form; place = place }
+  pub title : p.title ≡ (job_of p.job).title
+  pub early : p.settled ≡ is_early_on (job_of p.job)
+  pub settled : p.settled ≡ true → (is_early_on (job_of p.job) ≡ true) × (due_on (job_of p.job) ≡ Accepted)
+  pub theory : theory_of new ≡ theory_in budget old form

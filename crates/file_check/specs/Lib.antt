@@ -1,5 +1,7 @@
 pub mod Checks
 pub mod Counts
 pub mod Desks
+pub mod Failures
+pub mod Halts
 pub mod Jobs
-pub mod Shelves
+pub mod Lecterns

@@ -1,19 +1,24 @@
-//! The check of a book by a reader and workers, up to the closed board.
-ghost use Rattle.std.specs.Prelude.{◌≡◌, ◌+◌, ◌-◌, ◌^◌, ◌<◌, ◌≤◌, All, IfOk, OnErr, length};
+//! The check of a file with all that it needs, by a reader and workers, up to the closed board.
+ghost use Rattle.std.specs.Prelude.{◌≡◌, ◌+◌, ◌-◌, ◌^◌, ◌<◌, ◌≤◌, [], All, IfOk, IfErr, length};
+ghost use Rattle.std.specs.String.{string_bytes};
 ghost use Rattle.board_core.specs.Events.{end_of};
 ghost use Rattle.board_core.specs.Machine.{IsFinished, IsLegal, marks_of};
 ghost use Rattle.task_board.specs.Passes.{IsIdle};
-ghost use Rattle.file_check.specs.Checks.{ChecksShelf};
-ghost use Rattle.file_check.specs.Desks.{BeginsDesk, IsFresh, ReadsBook};
-ghost use Rattle.file_check.specs.Jobs.{due, early};
-ghost use Rattle.file_check.specs.Shelves.{shelf_state};
+ghost use Rattle.file_report.specs.Outcomes.{no_theory};
+ghost use Rattle.book_reader.specs.Shelves.{shelf_of};
+ghost use Rattle.file_check.specs.Checks.{ChecksShelf, IsUnchecked};
+ghost use Rattle.file_check.specs.Desks.{IsFresh};
+ghost use Rattle.file_check.specs.Jobs.{due, early, theory_of};
+ghost use Rattle.file_check.specs.Lecterns.{IsBegun, ReadsBooks};
 
 use crate::book_reading::{BookRead, BookReading};
 use crate::checker::JobChecker;
 use crate::desk::Desk;
 use crate::job::{Job, Worker};
+use crate::lectern::Lectern;
 use crate::theory::Theory;
 use board_core::{Book, Gate};
+use book_reader::{Root, Walker};
 use dk_io::Shelf;
 use dk_model::{Limits, Listed, NoMemory};
 use std::alloc::Global;
@@ -34,22 +39,51 @@ pub struct CheckedBook {
     pub titles: Titles,
 }
 
-// The empty board of a file, with the desk at it and the workers' passes.
-fn open_board(
+/// What is to be checked: a file and what it needs, each command with this budget, by so many workers.
+#[derive(Drop)]
+pub struct Asked {
+    pub root: Root,
+    pub budget: u64,
+    pub workers: u32,
+}
+
+/// Why nothing was checked.
+#[derive(Debug, Drop)]
+pub enum Unchecked {
+    /// The file couldn't be opened.
+    Unopened,
+    /// Memory ended before anything was read.
+    NoMemory,
+}
+
+// The empty board, with the desk at it and the workers' passes.
+struct Table {
+    board: Board<JobChecker>,
+    desk: Desk,
+    passes: Listed<WorkerPass<JobChecker>>,
+}
+
+// The table for a theory of no commands.
+fn open_table(
     alloc: Global,
     limits: Limits,
     budget: u64,
     workers: u32,
-) -> Result<(Board<JobChecker>, Desk, Listed<WorkerPass<JobChecker>>), NoMemory>
+    theory: Theory,
+) -> Result<Table, NoMemory>
     requires limit { limits.commands < 4294967294 }
     requires few { workers < 2 ^ 32 - 1 }
-    ensures desk { IfOk result (λ made. BeginsDesk limits budget (workers + 1) made.1) }
-    ensures own { IfOk result (λ made. made.1.pass.seat.table_id ≡ made.0) }
-    ensures count { IfOk result (λ made. length made.2 ≡ workers) }
-    ensures idle { IfOk result (λ made. All (λ p. (p.seat.table_id ≡ made.0)
-        × IsIdle p.seat.me.0) made.2) }
+    requires none { theory_of theory ≡ no_theory }
+    ensures fresh { IfOk result (λ t. IsFresh t.desk) }
+    ensures limits { IfOk result (λ t. t.desk.limits ≡ limits) }
+    ensures budget { IfOk result (λ t. t.desk.budget ≡ budget) }
+    ensures theory { IfOk result (λ t. t.desk.theory ≡ theory) }
+    ensures made { IfOk result (λ t. t.desk.pass.seat.me.0.made ≡ workers + 1) }
+    ensures own { IfOk result (λ t. t.desk.pass.seat.table_id ≡ t.board) }
+    ensures count { IfOk result (λ t. length t.passes ≡ workers) }
+    ensures idle { IfOk result (λ t. All (λ p. (p.seat.table_id ≡ t.board)
+        × IsIdle p.seat.me.0) t.passes) }
 {
-    let theory = Theory::new(alloc)?;
     let worker = Worker::new(alloc)?;
     let (board, pass, passes) = Board::new(alloc, workers)?;
     let desk = Desk {
@@ -60,7 +94,11 @@ fn open_board(
         pass,
         titles: Titles::new(alloc),
     };
-    Ok((board, desk, passes))
+    Ok(Table {
+        board,
+        desk,
+        passes,
+    })
 }
 
 // Does nothing, but this use of a returned reference is what ties it, for the borrow checker, to the one that was lent.
@@ -68,35 +106,41 @@ fn take_back<H>(shelf: &mut H)
     ensures { shelf.new ≡ shelf.old }
 {}
 
-// Reads the open book while workers check its commands, and gives the closed board's book with the titles of its jobs.
+// Reads the file, which is open, and what it needs while workers check the commands, and gives the closed board's book with
+// the titles of its jobs.
 fn checked_book<R: Threads + Wait + Sync, H: Shelf, G: Gate + Sync>(
     rt: &R,
     alloc: Global,
     shelf: &mut H,
     gate: &G,
-    board: Board<JobChecker>,
-    desk: Desk,
-    passes: Listed<WorkerPass<JobChecker>>,
+    opened: (Walker, Table),
 ) -> CheckedBook
-    requires own { desk.pass.seat.table_id ≡ board }
-    requires fresh { IsFresh desk }
-    requires some { 0 < length passes }
-    requires all { length passes + 1 ≡ desk.pass.seat.me.0.made }
-    requires idle { All (λ p. (p.seat.table_id ≡ board) × IsIdle p.seat.me.0) passes }
+    requires own { opened.1.desk.pass.seat.table_id ≡ opened.1.board }
+    requires begun { IsBegun (record { walker = opened.0; desk = opened.1.desk })
+        (shelf_of H.Shelf shelf.old) }
+    requires some { 0 < length opened.1.passes }
+    requires all { length opened.1.passes + 1 ≡ opened.1.desk.pass.seat.me.0.made }
+    requires idle { All (λ p. (p.seat.table_id ≡ opened.1.board) × IsIdle p.seat.me.0)
+        opened.1.passes }
     ensures legal { IsLegal due early result.book.jobs result.book.events }
     ensures finished { IsFinished (marks_of result.book.jobs) result.book.events }
-    ensures read { ReadsBook desk.limits desk.budget
-        (shelf_state H.books H.left H.faults H.missed shelf.old)
-        (shelf_state H.books H.left H.faults H.missed shelf.new)
+    ensures read { ReadsBooks opened.0.root opened.1.desk.budget
+        (shelf_of H.Shelf shelf.old) (shelf_of H.Shelf shelf.new)
         result.book.jobs (end_of result.book.events) result.titles }
 {
+    let (walker, table) = opened;
+    let Table {
+        board,
+        desk,
+        passes,
+    } = table;
     let checker = JobChecker { alloc };
     let reading = BookReading {
         rt,
         alloc,
         shelf,
         board: &board,
-        desk,
+        lectern: Lectern { walker, desk },
     };
     let (read, passes) = run_crew(rt, alloc, STACK, &board, passes, &checker, gate, reading);
     let BookRead {
@@ -111,30 +155,41 @@ fn checked_book<R: Threads + Wait + Sync, H: Shelf, G: Gate + Sync>(
     }
 }
 
-/// Reads the open book of the shelf within these limits, each command a job on a board, while so many workers check the
-/// jobs, each with this budget; gives the closed board's book. The clauses hold for every order of the threads' steps.
-/// `NoMemory` comes before anything is read.
-pub fn check_open_book<R: Threads + Wait + Sync, H: Shelf, G: Gate + Sync>(
+/// Opens the file on the shelf and reads it with all that it needs, each command a job on a board, while workers check the
+/// jobs; gives the closed board's book. The clauses hold for every order of the threads' steps.
+pub fn check_books<R: Threads + Wait + Sync, H: Shelf, G: Gate + Sync>(
     rt: &R,
     alloc: Global,
-    limits: Limits,
-    budget: u64,
-    workers: u32,
+    asked: Asked,
     shelf: &mut H,
     gate: &G,
-) -> Result<CheckedBook, NoMemory>
-    requires limit { limits.commands < 4294967294 }
-    requires some { (1 ≤ workers) × (workers ≤ 64) }
+) -> Result<CheckedBook, Unchecked>
+    requires limit { asked.root.limits.commands < 4294967294 }
+    requires files { (0 < asked.root.most.files) × (asked.root.most.files ≤ 64) }
+    requires some { (1 ≤ asked.workers) × (asked.workers ≤ 64) }
+    requires aside { H.aside shelf.old ≡ [] }
     ensures finished { IfOk result (λ c. IsFinished (marks_of c.book.jobs) c.book.events) }
     ensures titled { IfOk result (λ c. length c.titles ≡ length c.book.jobs) }
-    ensures checks { IfOk result (λ c. ChecksShelf limits budget
-        (shelf_state H.books H.left H.faults H.missed shelf.old)
-        (shelf_state H.books H.left H.faults H.missed shelf.new) c.titles c.book.events) }
-    ensures err { OnErr result (shelf.new ≡ shelf.old) }
+    ensures checks { IfOk result (λ c. ChecksShelf asked.root asked.budget
+        (shelf_of H.Shelf shelf.old) (shelf_of H.Shelf shelf.new) c.titles c.book.events) }
+    ensures err { IfErr result (IsUnchecked (string_bytes asked.root.file)
+        (shelf_of H.Shelf shelf.old) (shelf_of H.Shelf shelf.new)) }
 {
     history_has_report();
-    let Ok((board, desk, passes)) = open_board(alloc, limits, budget, workers) else {
-        return Err(NoMemory);
+    let Asked {
+        root,
+        budget,
+        workers,
+    } = asked;
+    let limits = root.limits;
+    let Ok(theory) = Theory::new(alloc, &root.own) else {
+        return Err(Unchecked::NoMemory);
     };
-    Ok(checked_book(rt, alloc, shelf, gate, board, desk, passes))
+    let Ok(walker) = Walker::begin(alloc, root, shelf) else {
+        return Err(Unchecked::Unopened);
+    };
+    let Ok(table) = open_table(alloc, limits, budget, workers, theory) else {
+        return Err(Unchecked::NoMemory);
+    };
+    Ok(checked_book(rt, alloc, shelf, gate, (walker, table)))
 }

@@ -1,26 +1,26 @@
-//! The desk of the reader: each command of a file becomes a job on the board.
+//! The desk of the reader: each command of a theory becomes a job on the board.
 ghost use Rattle.std.specs.Prelude.{◌≡◌, ◌<◌, Some, IfOk, length};
-ghost use Rattle.dk_parser.specs.RawViews.{written_command};
+ghost use Rattle.dk_parser.specs.RawViews.{written_form};
 ghost use Rattle.board_core.specs.Events.{end_of};
 ghost use Rattle.board_core.specs.Machine.{MayEnd, MaySettle};
 ghost use Rattle.task_board.specs.Histories.{events_in};
-ghost use Rattle.file_report.specs.Jobs.{title_of, titles_of};
+ghost use Rattle.file_report.specs.Jobs.{job_titles};
 ghost use Rattle.file_check.specs.Jobs.{due, early, job_of};
 ghost use Rattle.file_check.specs.Desks.{Enters, IsReady, IsSound, Puts, known_at, same_bounds, seen_at};
 
 use crate::checker::JobChecker;
+use crate::halt::{Located, NotPut};
 use crate::job::Worker;
 use crate::theory::{Prepared, Theory};
-use board_core::{End, Place, PutRefused};
+use board_core::{End, PutRefused};
 use dk_model::{Code, Limits, Verdict};
-use dk_parser::Raw;
 use std::alloc::Global;
 use std::mem::forget;
 use std::sync::{Arc, Wait};
 use task_board::{Board, ReaderPass, SealedPass};
 use verdict_book::Titles;
 
-/// What the reader keeps while it makes the commands of a file jobs.
+/// What the reader keeps while it makes the commands of a theory jobs.
 #[derive(Drop)]
 pub struct Desk {
     pub limits: Limits,
@@ -34,48 +34,47 @@ pub struct Desk {
 }
 
 impl Desk {
-    /// Makes the next command a job on the board; or says how the file ends at it.
+    /// Makes the next command a job on the board.
     pub fn enter<R: Wait>(
         &mut self,
         rt: &R,
         alloc: Global,
         board: &Board<JobChecker>,
-        raw: Raw,
-    ) -> Result<(), End>
+        command: Located,
+    ) -> Result<(), NotPut>
         requires own { self.old.pass.seat.table_id ≡ board.now }
         requires ready { IsReady self.old }
         ensures own { self.new.pass.seat.table_id ≡ board.now }
         ensures made { self.new.pass.seat.me.0.made ≡ self.old.pass.seat.me.0.made }
-        ensures enters { Enters self.old (written_command raw) self.new result }
+        ensures enters { Enters self.old (written_form command.raw.form) command.place
+            self.new result }
         ensures sound { IsSound self.new.limits self.new.titles (known_at self.new) }
         ensures bounds { same_bounds self.old self.new }
     {
-        let line = raw.line;
         if self.titles.len() >= self.limits.commands as usize {
-            let place = Place::in_file(alloc, line);
-            return Err(End::Fault(place, Verdict::Refused(Code::E08)));
+            return Err(NotPut::Verdict(Verdict::Refused(Code::E08)));
         }
         match self
             .theory
-            .prepare(alloc, &mut self.worker, self.budget, raw)
+            .prepare(alloc, &mut self.worker, self.budget, command)
         {
             Ok(prepared) => self.put(rt, alloc, board, prepared),
-            Err(verdict) => Err(End::Fault(Place::in_file(alloc, line), verdict)),
+            Err(verdict) => Err(NotPut::Verdict(verdict)),
         }
     }
 
-    // Puts a job; or says how the file ends at it.
+    // Puts a job.
     fn put<R: Wait>(
         &mut self,
         rt: &R,
         alloc: Global,
         board: &Board<JobChecker>,
         prepared: Prepared,
-    ) -> Result<(), End>
+    ) -> Result<(), NotPut>
         requires own { self.old.pass.seat.table_id ≡ board.now }
-        requires few { length self.old.titles < self.old.limits.commands }
         requires sound { IsSound self.old.limits self.old.titles (known_at self.old) }
-        requires title { prepared.title ≡ title_of (job_of prepared.job) }
+        requires few { length self.old.titles < self.old.limits.commands }
+        requires title { prepared.title ≡ (job_of prepared.job).title }
         requires settled { MaySettle due early (prepared.job, prepared.settled) }
         ensures own { self.new.pass.seat.table_id ≡ board.now }
         ensures made { self.new.pass.seat.me.0.made ≡ self.old.pass.seat.me.0.made }
@@ -89,23 +88,21 @@ impl Desk {
             settled,
             title,
         } = prepared;
-        let place = Place::in_file(alloc, title.place.line);
-        let memory = End::Fault(place, Verdict::Memory);
         let Ok(job) = Arc::new(alloc, job) else {
-            return Err(memory);
+            return Err(NotPut::Verdict(Verdict::Memory));
         };
         let Ok(()) = self.titles.push(&title) else {
-            return Err(memory);
+            return Err(NotPut::Verdict(Verdict::Memory));
         };
         match board.put(rt, &mut self.pass, job, settled) {
             Ok(_) => Ok(()),
             Err(PutRefused::Stopped { .. }) => {
                 self.titles.pop();
-                Err(End::Stopped)
+                Err(NotPut::Stopped)
             }
             Err(PutRefused::NoMemory { .. }) => {
                 self.titles.pop();
-                Err(memory)
+                Err(NotPut::Verdict(Verdict::Memory))
             }
         }
     }
@@ -125,7 +122,7 @@ impl Desk {
         ensures made { result.0.seat.me.0.made ≡ self.pass.seat.me.0.made }
         ensures jobs { result.0.seat.me.0.known ≡ known_at self }
         ensures end { end_of (events_in result.0.seat.me.0.mine) ≡ Some end }
-        ensures titles { result.1 ≡ titles_of job_of (known_at self) }
+        ensures titles { result.1 ≡ job_titles job_of (known_at self) }
     {
         let Desk {
             pass,

@@ -6,7 +6,7 @@ ghost use Rattle.dk_model.specs.Verdicts.{inferred_type, verdict_of};
 ghost use Rattle.dk_model.specs.declared.code.Verdict.TheVariants.{Memory};
 ghost use Rattle.shared_term.specs.Storage.{stored_term};
 ghost use Rattle.signature_log.specs.Versions.{entries_of};
-ghost use Rattle.file_report.specs.Jobs.{due_of};
+ghost use Rattle.file_report.specs.Jobs.{due_on};
 ghost use Rattle.file_check.specs.Jobs.{IsOtherVerdict, job_of};
 
 use board_core::Past;
@@ -46,7 +46,7 @@ impl Worker {
     /// The verdict of the job, by what stands in it and by nothing else, or `Memory`.
     #[tactic(auto, using(crate::proofs::Preparing::verdict_or_memory))]
     pub fn check(&mut self, job: &Job) -> Verdict
-        ensures { (result ≡ due_of (job_of job.now)) ⊎ (result ≡ Memory) }
+        ensures { (result ≡ due_on (job_of job.now)) ⊎ (result ≡ Memory) }
     {
         self.reducer.clear();
         check_stored(&mut self.reducer, &job.version, &job.command, job.budget)

@@ -1,12 +1,15 @@
-//! Checks the open book of a shelf: it is read while workers check its commands. Begin at `check_open_book`.
+//! Checks a file of a shelf with all that it needs: the books are read while workers check their commands. Begin at
+//! `check_books`.
 #![tactic(auto)]
 
 mod book_reading;
 mod checker;
 mod checking;
 mod desk;
+mod halt;
 mod job;
+mod lectern;
 mod theory;
 
-pub use checking::{CheckedBook, STACK, check_open_book};
+pub use checking::{Asked, CheckedBook, STACK, Unchecked, check_books};
 pub use job::Job;

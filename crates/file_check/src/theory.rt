@@ -1,29 +1,30 @@
 //! What the commands so far declare, and the job of the next one.
-ghost use Rattle.std.specs.Prelude.{◌≡◌, ◌<◌, ◌++◌, ◌∷◌, [], true, IfOk, IfErr, OnOk, map};
+ghost use Rattle.std.specs.Prelude.{◌≡◌, ◌<◌, ◌++◌, ◌∷◌, [], true, IfOk, IfErr, OnOk, length, map};
 ghost use Rattle.dk_model.specs.Scoping.{plain_command};
 ghost use Rattle.dk_model.specs.Signatures.{maybe_by};
 ghost use Rattle.dk_model.specs.Answering.{is_untyped};
 ghost use Rattle.dk_model.specs.Verdicts.{entry_of, inferred_type, verdict_of};
 ghost use Rattle.dk_parser.specs.Written.{written_rules};
-ghost use Rattle.dk_parser.specs.RawViews.{written_command, written_form, written_pattern, written_rule};
-ghost use Rattle.scope_terms.specs.Answers.{IsFaultOf};
+ghost use Rattle.dk_parser.specs.RawViews.{written_form, written_pattern, written_rule};
 ghost use Rattle.scope_terms.specs.Names.{reading};
-ghost use Rattle.scope_terms.specs.Scopes.{names_after, scope_of, scoped};
+ghost use Rattle.scope_terms.specs.Reading.{after_entering, after_leaving, no_reading};
 ghost use Rattle.shared_term.specs.Storage.{stored_term};
 ghost use Rattle.signature_log.specs.Versions.{entries_of, stored_entry};
-ghost use Rattle.file_report.specs.Outcomes.{head_name, no_theory, shown_name, verdict_after};
-ghost use Rattle.file_check.specs.Jobs.{IsOtherVerdict, IsUnentered, Prepares, theory_of};
+ghost use Rattle.file_report.specs.Outcomes.{head_name, no_theory, shown_name, spelt};
+ghost use Rattle.file_check.specs.Jobs.{IsOtherVerdict, KeepsModules, Prepares, theory_of, verdict_in};
 
+use crate::halt::Located;
 use crate::job::{Job, Worker};
-use board_core::{Past, Place};
+use board_core::Past;
 use command_check::{entry_of, is_untyped, store_command};
 use dk_model::{Entry, Fault, Listed, NoMemory, Scoped, TypeFault, Verdict};
-use dk_parser::{Raw, RawForm, RawPat, RawRule};
+use dk_parser::{RawForm, RawPat, RawRule};
 use scope_terms::Names;
 use shared_term::Stored;
 use signature_log::Version;
 use std::alloc::Global;
 use std::mem::replace;
+use std::str::from_utf8;
 use std::sync::Arc;
 use verdict_book::Title;
 
@@ -64,6 +65,16 @@ fn first_head(alloc: Global, rules: &[RawRule]) -> Result<Listed<u8>, NoMemory>
     }
 }
 
+// A qualified name as it is spelt.
+fn spelt(alloc: Global, part: &[u8], name: &[u8]) -> Result<Listed<u8>, NoMemory>
+    ensures { IfOk result (λ text. text ≡ spelt part.now name.now) }
+{
+    let mut text = part.to_vec(alloc)?;
+    text.extend_from_slice(b".")?;
+    text.extend_from_slice(name)?;
+    Ok(Listed::from_vec(text))
+}
+
 // The name at the head of a left side.
 fn head_name(alloc: Global, left: &RawPat) -> Result<Listed<u8>, NoMemory>
     ensures { IfOk result (λ name. name ≡ head_name (written_pattern left.now)) }
@@ -72,7 +83,7 @@ fn head_name(alloc: Global, left: &RawPat) -> Result<Listed<u8>, NoMemory>
         RawPat::Name(name) => name.copy(alloc),
         RawPat::App(f, _) => head_name(alloc, f),
         RawPat::Abs(_, _) => Ok(Listed::new(alloc)),
-        RawPat::Qualified(_, _) => Ok(Listed::new(alloc)),
+        RawPat::Qualified(part, name) => spelt(alloc, part.as_slice(), name.as_slice()),
         RawPat::Wild => Ok(Listed::new(alloc)),
         RawPat::Guard(_) => Ok(Listed::new(alloc)),
     }
@@ -130,31 +141,56 @@ fn entry_after(
     }
 }
 
-// The command, which stands in the module without a name, with its names as numbers; its name is added there.
-fn scope_in_file(alloc: Global, names: &mut Names, raw: &Raw) -> Result<Scoped, Fault>
-    requires few { (reading names.old).symbols.count < 4294967295 }
-    requires unentered { (reading names.old).entered ≡ [] }
-    ensures ok { IfOk result (λ c. scope_of (reading names.old).symbols None (written_form raw.now.form)
-        ≡ scoped (plain_command c)) }
-    ensures added { OnOk result ((reading names.new).symbols
-        ≡ names_after (reading names.old).symbols None (written_form raw.now.form)) }
-    ensures unentered { OnOk result ((reading names.new).entered ≡ []) }
-    ensures refused { IfErr result (IsFaultOf
-        (scope_of (reading names.old).symbols None (written_form raw.now.form))) }
+// Enters a module that is new.
+fn enter_module(
+    alloc: Global,
+    names: &mut Names,
+    module: &Option<Listed<u8>>,
+) -> Result<(), NoMemory>
+    ensures { OnOk result (reading names.new ≡ after_entering (reading names.old) «module».now) }
 {
-    names.scope(alloc, raw)
+    let Some(name) = module else {
+        names.enter(alloc, None)?;
+        return Ok(());
+    };
+    // A plain name is ASCII, so this is a text.
+    let Ok(text) = from_utf8(name.as_slice()) else {
+        return Err(NoMemory);
+    };
+    names.enter(alloc, Some(text))?;
+    Ok(())
 }
 
 impl Theory {
-    pub fn new(alloc: Global) -> Result<Theory, NoMemory>
+    /// That of no commands, with the file's module entered.
+    pub fn new(alloc: Global, own: &Option<Listed<u8>>) -> Result<Theory, NoMemory>
         ensures theory { IfOk result (λ t. theory_of t ≡ no_theory) }
-        ensures unentered { IfOk result IsUnentered }
+        ensures entered { IfOk result (λ t. reading t.names ≡ after_entering no_reading own.now) }
     {
-        let names = Names::new(alloc)?;
+        let mut names = Names::new(alloc)?;
+        enter_module(alloc, &mut names, own)?;
         Ok(Theory {
             names,
             version: Version::empty(alloc)?,
         })
+    }
+
+    /// Enters a module that is new: the next commands stand there.
+    pub fn enter(&mut self, alloc: Global, module: &Option<Listed<u8>>) -> Result<(), NoMemory>
+        ensures ok { OnOk result
+            (reading self.new.names ≡ after_entering (reading self.old.names) «module».now) }
+        ensures version { self.new.version ≡ self.old.version }
+    {
+        enter_module(alloc, &mut self.names, module)
+    }
+
+    /// Leaves the module that was entered last: the next commands stand in the one entered before it.
+    pub fn leave(&mut self)
+        requires { 0 < length (reading self.old.names).entered }
+        ensures left { reading self.new.names ≡ after_leaving (reading self.old.names) }
+        ensures version { self.new.version ≡ self.old.version }
+    {
+        self.names.leave();
     }
 
     /// The job of the next command, over the commands before it; the theory goes on as if it were accepted. Or, where the
@@ -164,34 +200,32 @@ impl Theory {
         alloc: Global,
         worker: &mut Worker,
         budget: u64,
-        raw: Raw,
+        command: Located,
     ) -> Result<Prepared, Verdict>
         requires few { (theory_of self.old).names.count < 4294967295 }
-        requires unentered { IsUnentered self.old }
-        ensures ok { IfOk result (λ p. Prepares budget (theory_of self.old) (written_command raw) p
-            (theory_of self.new)) }
-        ensures unentered { OnOk result (IsUnentered self.new) }
-        ensures err { IfErr result (IsOtherVerdict
-            (verdict_after (theory_of self.old) budget (written_form raw.form))) }
+        ensures ok { IfOk result (λ p.
+            Prepares budget self.old (written_form command.raw.form) command.place p self.new) }
+        ensures modules { OnOk result (KeepsModules self.old self.new) }
+        ensures err { IfErr result
+            (IsOtherVerdict (verdict_in budget self.old (written_form command.raw.form))) }
     {
-        let command = match scope_in_file(alloc, &mut self.names, &raw) {
-            Ok(command) => command,
+        let Located { raw, place } = command;
+        let scoped = match self.names.scope(alloc, &raw) {
+            Ok(scoped) => scoped,
             Err(Fault::Refused(code)) => return Err(Verdict::Refused(code)),
             Err(Fault::NoMemory) => return Err(Verdict::Memory),
         };
-        let entry = entry_after(alloc, worker, &self.version, &command, budget)?;
-        let settled = is_untyped(&command);
-        let Ok(command) = store_command(alloc, command, &entry) else {
+        let entry = entry_after(alloc, worker, &self.version, &scoped, budget)?;
+        let settled = is_untyped(&scoped);
+        let Ok(command) = store_command(alloc, scoped, &entry) else {
             return Err(Verdict::Memory);
         };
         let Ok(before) = self.advance(alloc, entry) else {
             return Err(Verdict::Memory);
         };
-        let Raw { line, form } = raw;
-        let Ok(name) = shown_name(alloc, form) else {
+        let Ok(name) = shown_name(alloc, raw.form) else {
             return Err(Verdict::Memory);
         };
-        let place = Place::in_file(alloc, line);
         let title = Title { name, place };
         let job = Job {
             version: before,

@@ -12,7 +12,7 @@ use Rattle.theory_walk.specs.declared.needs.Standing.TheVariants.{Current, Below
 use Rattle.theory_walk.specs.Libraries.{BookStep, BookTail, Key, Library, Opened, fault, need, opened, put, steps_in, unopened, unread, whole}
 use Rattle.theory_walk.specs.Walks.{Need, Placed, Reached, Spot, Walk, by_standing, ends, follow, goes_on, needs_in, refused_at, standing_of, stopped, walk_file, walk_new, walk_of, walk_opened, walk_steps, walk_tail}
 use Rattle.file_report.specs.Folds.{NeedFold, Progress, State, ended_by, fold_by, fold_file, fold_need, fold_new, fold_of, fold_opened, fold_steps, fold_tail, on, over, put_by, reported, then_fold, with_accepted, with_module}
-use Rattle.file_report.specs.Reports.{by_verdict, report_from}
+use Rattle.file_report.specs.TheoryReports.{by_verdict, report_from}
 
 -- what follows, the same at each state
 then_same : {T : Type 0} (p : Progress T) (f g : State T → Progress T) → ((s : State T) → f s ≡ g s) → then_fold p f ≡ then_fold p g

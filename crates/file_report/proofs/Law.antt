@@ -1,220 +1,232 @@
--- The report of a history is that of the file.
-use Rattle.std.proofs.Common.{◌≡◌, inl, inr, ℕ, zero, suc, ◌+◌, ◌-◌, ◌<◌, ◌≤◌, Bool, true, false, List, [], ◌∷◌, ◌++◌, length, map, take, drop, eqb, refl, sym, ap, ◌∙◌, subst, arith, append-nil, length-append, Some, None, Option}
+-- The report of a history is that of the theory.
+use Rattle.std.proofs.Common.{◌≡◌, inl, inr, ℕ, zero, suc, ◌+◌, ◌-◌, ◌<◌, ◌≤◌, Bool, true, false, List, [], ◌∷◌, ◌++◌, length, map, take, drop, eqb, refl, sym, ap, ◌∙◌, subst, arith, length-append, Some, None, Option}
 use Rattle.std.specs.Prelude.{slice_get, slice_index_or, if◌then◌else◌}
 use Rattle.std.specs.List.{list_any}
 use Rattle.std.proofs.lemmas.Bool.{eqb-true}
+use Rattle.dk_model.specs.Verdicts.{verdict_of}
+use Rattle.dk_model.specs.declared.code.Code.TheVariants.{E08}
 use Rattle.dk_model.specs.declared.code.Verdict.{Verdict}
 use Rattle.dk_model.specs.declared.code.Verdict.TheVariants as verdict
 use Rattle.dk_model.specs.declared.limits.Limits.{Limits}
-use Rattle.dk_lexer.specs.Tokens.{Ending, broken, tokens}
-use Rattle.dk_parser.specs.FileReading.{Tail, read}
-use Rattle.dk_parser.specs.FileReading as reading
-use Rattle.dk_parser.specs.Written.{WrittenCommand}
+use Rattle.theory_walk.specs.Walks.{Placed, Reached, Walk, ends, goes_on, not_opened, spot_of, unread_at}
 use Rattle.board_core.specs.declared.event.End.{End}
 use Rattle.board_core.specs.declared.event.End.TheVariants as end
 use Rattle.board_core.specs.declared.event.Event.{Event}
 use Rattle.board_core.specs.declared.event.Place.{Place}
 use Rattle.board_core.specs.Events.{end_of, faults, is_accepted, is_fault, IsFirstFault, puts}
-use Rattle.board_core.specs.Places.{in_file}
 use Rattle.board_core.specs.Machine.{IsDueTo}
 use Rattle.board_core.proofs.Histories.{fault_any}
 use Rattle.verdict_book.specs.Report.{FileReport, nowhere}
-use Rattle.verdict_book.specs.Books.{IsFirst, IsReportOf, end_outcome, fault_outcome, place_at, names_of, report_with}
+use Rattle.verdict_book.specs.Books.{IsFirst, IsReportOf, end_outcome, place_at, names_of, report_with}
 use Rattle.verdict_book.specs.declared.title.Title.{Title}
 use Rattle.verdict_book.specs.declared.outcome.Outcome.{Outcome}
 use Rattle.verdict_book.specs.declared.outcome.Outcome.TheVariants.{Stopped, Unread}
-use Rattle.file_report.specs.Outcomes.{by_verdict, no_theory, report_from, report_of_bytes, tail_outcome, theory_after, with_names}
-use Rattle.file_report.specs.Jobs.{Job, IsJobOf, AreJobsFrom, due_of, is_early, theory_over, titles_of}
-use Rattle.file_report.specs.Memory.{IsCutByMemory, IsNextLine, next_line, reading_at}
-use Rattle.file_report.specs.Ends.{IsReadersEnd, MemoryEnds, report_behind}
-use Rattle.file_report.specs.Histories.{ChecksFile, ChecksJobsOf, Reports}
-use Rattle.file_report.proofs.Walk.{Splits, split, verdict_is}
-use Rattle.file_report.proofs.Positive.{next_line_positive}
-use Rattle.file_report.proofs.Dues.{answered_due, below_accepted}
 use Rattle.verdict_book.proofs.Answered.{has_end, stopped_fault}
+use Rattle.file_report.specs.Outcomes.{Theory, no_theory, scoped_verdict}
+use Rattle.file_report.specs.TheoryReports.{with_names, by_verdict, report_from, report_of_walk}
+use Rattle.file_report.specs.Reports.{place_of, reached_outcome, shown_in, stopped_at}
+use Rattle.file_report.specs.Jobs.{AreJobsBehind, IsJobAt, TheoryJob, due_on, is_early_on, job_titles, theory_behind}
+use Rattle.file_report.specs.Theories.{scoped_at, theory_with, verdict_on}
+use Rattle.file_report.specs.Histories.{ChecksJobsIn, ChecksTheory, DueAt, EndsReading, IsCut, ReportsTheory, behind}
+use Rattle.file_report.proofs.Dues.{answered_due, below_accepted}
+use Rattle.file_report.proofs.Fronts.{all_taken, at_index, front_dropped, front_taken, with_no_more, within_limit}
 
--- ---- lists
-
--- the element of that index, with those behind it
-pub at_index : {X : Type 0} (xs : List X) (k : ℕ) → k < length xs → (x : X) × (more : List X) × (slice_get xs k ≡ Some x) × (drop k xs ≡ x ∷ more)
-at_index [] k lt = absurd (let l : k < 0 = lt in omega arith)
-at_index (x ∷ xs) zero lt = (x, xs, refl, refl)
-at_index (x ∷ xs) (suc k) lt = at_index xs k (omega arith)
-
-place_of_title : {J : Type 0} (job_of : J → Job) (jobs : List (J × Bool)) (k : ℕ) (j : J × Bool) → slice_get jobs k ≡ Some j
-    → slice_index_or (map (λ (t : Title). t.place) (titles_of job_of jobs)) k nowhere ≡ in_file (job_of j.0).line
+place_of_title : {J : Type 0} (job_of : J → TheoryJob) (jobs : List (J × Bool)) (k : ℕ) (j : J × Bool) → slice_get jobs k ≡ Some j
+    → slice_index_or (map (λ (t : Title). t.place) (job_titles job_of jobs)) k nowhere ≡ (job_of j.0).title.place
 place_of_title job_of [] k j e = cc
-place_of_title job_of (y ∷ xs) zero j e = let same : y ≡ j = (let s : Some y ≡ Some j = e in cc) in ap (λ x. in_file (job_of x.0).line) same
+place_of_title job_of (y ∷ xs) zero j e = let same : y ≡ j = (let s : Some y ≡ Some j = e in cc) in ap (λ x. (job_of x.0).title.place) same
 place_of_title job_of (y ∷ xs) (suc k) j e = place_of_title job_of xs k j e
 
-pub front_taken : {X : Type 0} (xs ys : List X) → take (length xs) (xs ++ ys) ≡ xs
-front_taken [] ys = refl
-front_taken (x ∷ xs) ys = ap (λ l. x ∷ l) (front_taken xs ys)
-
-pub front_dropped : {X : Type 0} (xs ys : List X) → drop (length xs) (xs ++ ys) ≡ ys
-front_dropped [] ys = refl
-front_dropped (x ∷ xs) ys = front_dropped xs ys
-
-pub all_taken : {X : Type 0} (xs : List X) → take (length xs) xs ≡ xs
-all_taken [] = refl
-all_taken (x ∷ xs) = ap (λ l. x ∷ l) (all_taken xs)
-
-as_many_names : {X Y : Type 0} (f : X → Y) (xs : List X) (k : ℕ) → k ≤ length xs → length (map f (take k xs)) ≡ k
-as_many_names f xs zero le = refl
-as_many_names f [] (suc k) le = absurd (let l : suc k ≤ 0 = le in omega arith)
-as_many_names f (x ∷ xs) (suc k) le = ap suc (as_many_names f xs k (omega arith))
-
-no_elements : {X Y : Type 0} (f : X → Y) (xs : List X) → length xs ≡ 0 → map f xs ≡ []
-no_elements f [] e = refl
-no_elements f (x ∷ xs) e = absurd (let l : suc (length xs) ≡ 0 = e in omega arith)
-
--- ---- reports
-
-pub with_no_more : (xs : List (List ℕ)) (o : Outcome) → with_names xs (record { names = []; outcome = o }) ≡ (let r : FileReport = record { names = xs; outcome = o } in r)
-with_no_more xs o = ap (λ ns. let f : FileReport = record { names = ns; outcome = o } in f) (append-nil xs)
-
-pub other_ends : (v : Verdict) (n : ℕ) (c : WrittenCommand) (rest : FileReport) → is_accepted v ≡ false → by_verdict v n c rest ≡ (let r : FileReport = record { names = []; outcome = Stopped (n + 1) (in_file c.line) v } in r)
+pub other_ends : (v : Verdict) (n : ℕ) (c : Placed) (rest : FileReport) → is_accepted v ≡ false → by_verdict v n c rest ≡ (let r : FileReport = record { names = []; outcome = stopped_at (n + 1) (spot_of c) v } in r)
 other_ends verdict.Accepted n c rest other = cc
 other_ends (verdict.Refused code) n c rest other = refl
 other_ends verdict.Ended n c rest other = refl
 other_ends verdict.Memory n c rest other = refl
 
--- the names of these jobs
-abbrev named : {J : Type 0} → (J → Job) → List (J × Bool) → List (List ℕ)
-named job_of jobs = map (λ j. (job_of j.0).name) jobs
+-- the names in the `ok` lines of these jobs
+abbrev named : {J : Type 0} → (J → TheoryJob) → List (J × Bool) → List (List ℕ)
+named job_of jobs = names_of (job_titles job_of jobs)
 
--- the place of the job of this number
-abbrev placed : {J : Type 0} → (J → Job) → List (J × Bool) → ℕ → Place
-placed job_of jobs n = place_at (titles_of job_of jobs) n
-
-names_taken : {J : Type 0} (job_of : J → Job) (jobs : List (J × Bool)) (k : ℕ) → names_of (take k (titles_of job_of jobs)) ≡ named job_of (take k jobs)
+names_taken : {J : Type 0} (job_of : J → TheoryJob) (jobs : List (J × Bool)) (k : ℕ) → names_of (take k (job_titles job_of jobs)) ≡ named job_of (take k jobs)
 names_taken job_of jobs zero = refl
 names_taken job_of [] (suc k) = refl
-names_taken job_of (j ∷ jobs) (suc k) = ap (λ ns. (job_of j.0).name ∷ ns) (names_taken job_of jobs k)
+names_taken job_of (j ∷ jobs) (suc k) = ap (λ ns. names_of ((job_of j.0).title ∷ []) ++ ns) (names_taken job_of jobs k)
 
-all_names : {J : Type 0} (job_of : J → Job) (jobs : List (J × Bool)) → names_of (titles_of job_of jobs) ≡ named job_of jobs
-all_names job_of [] = refl
-all_names job_of (j ∷ jobs) = ap (λ ns. (job_of j.0).name ∷ ns) (all_names job_of jobs)
+as_many_names : {J : Type 0} (job_of : J → TheoryJob) (jobs : List (J × Bool)) (k : ℕ) → k ≤ length jobs → length (named job_of (take k jobs)) ≡ k
+as_many_names job_of jobs zero le = refl
+as_many_names job_of [] (suc k) le = absurd (let l : suc k ≤ 0 = le in omega arith)
+as_many_names job_of (j ∷ jobs) (suc k) le = ap suc (as_many_names job_of jobs k (omega arith))
 
-all_titles : {J : Type 0} (job_of : J → Job) (jobs : List (J × Bool)) → length (titles_of job_of jobs) ≡ length jobs
+no_names : {J : Type 0} (job_of : J → TheoryJob) (jobs : List (J × Bool)) → length jobs ≡ 0 → named job_of jobs ≡ []
+no_names job_of [] e = refl
+no_names job_of (j ∷ jobs) e = absurd (let l : suc (length jobs) ≡ 0 = e in omega arith)
+
+all_titles : {J : Type 0} (job_of : J → TheoryJob) (jobs : List (J × Bool)) → length (job_titles job_of jobs) ≡ length jobs
 all_titles job_of [] = refl
 all_titles job_of (j ∷ jobs) = ap suc (all_titles job_of jobs)
 
-module _ {J : Type 0} (job_of : J → Job) (limits : Limits) (budget : ℕ) (bytes : List ℕ) (ending : Ending) (jobs : List (J × Bool)) (es : List Event) where
-  accepts : ChecksJobsOf job_of limits budget bytes ending jobs es → (k : ℕ) → k ≤ length jobs → ((m : ℕ) → list_any (faults m) es ≡ true → k < m)
-      → (i : ℕ) → i < k → (j : J × Bool) → slice_get jobs i ≡ Some j → due_of (job_of j.0) ≡ verdict.Accepted
+module _ (limits : Limits) (budget : ℕ) (own : Option (List ℕ)) where
+  abbrev reports : Theory → ℕ → List Placed → Reached → FileReport
+  reports T count cs r = report_from (verdict_on limits budget own) (theory_with limits budget own) T count cs r
+
+  abbrev over : List Placed → Theory
+  over cs = theory_behind limits budget own no_theory cs
+
+  -- within the limit a job's due is the verdict that the theory gives its command
+  verdict_is : (T : Theory) (count : ℕ) (c : Placed) (j : TheoryJob) → count < limits.commands → IsJobAt limits budget own T c j → verdict_on limits budget own T count c ≡ due_on j
+  verdict_is T count c j lt is =
+      ap (λ b. if b then verdict.Refused E08 else scoped_verdict T.signature budget (scoped_at limits budget own T c)) (within_limit limits count lt)
+      ∙ ap (scoped_verdict T.signature budget) is.command
+      ∙ ap (λ S. verdict_of S j.command budget) (sym is.signature)
+      ∙ ap (verdict_of j.signature j.command) (sym is.budget_is)
+
+  -- the commands behind a theory of so many, in front of which stand the commands of the first k jobs, all accepted
+  record Splits {J : Type 0} (job_of : J → TheoryJob) (T : Theory) (count : ℕ) (cs : List Placed) (jobs : List (J × Bool)) (k : ℕ) : Type 0 where
+    pub done : List Placed
+    pub rest : List Placed
+    pub commands : cs ≡ done ++ rest
+    pub as_many : length done ≡ k
+    pub leads : (more : List Placed) (r : Reached) → reports T count (done ++ more) r
+        ≡ with_names (named job_of (take k jobs)) (reports (theory_behind limits budget own T done) (count + k) more r)
+    pub later : AreJobsBehind limits budget own (theory_behind limits budget own T done) rest (map (λ (j : J × Bool). job_of j.0) (drop k jobs))
+
+  split : {J : Type 0} (job_of : J → TheoryJob) (T : Theory) (count : ℕ) (cs : List Placed) (jobs : List (J × Bool)) (k : ℕ)
+      → AreJobsBehind limits budget own T cs (map (λ (j : J × Bool). job_of j.0) jobs) → count + k ≤ limits.commands → k ≤ length jobs
+      → ((i : ℕ) → i < k → (j : J × Bool) → slice_get jobs i ≡ Some j → due_on (job_of j.0) ≡ verdict.Accepted)
+      → Splits job_of T count cs jobs k
+  split job_of T count cs jobs zero are few within accepted = record {
+    done = [];
+    rest = cs;
+    commands = refl;
+    as_many = refl;
+    leads = λ more r. ap (λ n. reports T n more r) (let e : count ≡ count + 0 = omega arith in e);
+    later = are;
+  }
+  split job_of T count cs [] (suc k) are few within accepted = absurd (let w : suc k ≤ 0 = within in omega arith)
+  split job_of T count [] (j ∷ jobs) (suc k) are few within accepted = absurd are
+  split job_of T count (c ∷ cs) (j ∷ jobs) (suc k) are few within accepted =
+      let next = theory_with limits budget own T c in
+      let s = split job_of next (count + 1) cs jobs k are.1 (omega arith) (omega arith) (λ i lt j' at. accepted (suc i) (omega arith) j' at) in
+      let names = named job_of (take k jobs) in
+      record {
+        done = c ∷ s.done;
+        rest = s.rest;
+        commands = ap (λ l. c ∷ l) s.commands;
+        as_many = ap suc s.as_many;
+        leads = λ more r.
+            ap (λ v. by_verdict v count c (reports next (count + 1) (s.done ++ more) r)) (verdict_is T count c (job_of j.0) (omega arith) are.0 ∙ accepted 0 (omega arith) j refl)
+            ∙ ap (with_names (shown_in c ∷ [])) (s.leads more r)
+            ∙ ap (λ (t : Title). with_names (names_of (t ∷ []) ++ names) (reports (theory_behind limits budget own next s.done) (count + 1 + k) more r)) (sym are.0.title)
+            ∙ ap (λ n. with_names (names_of ((job_of j.0).title ∷ []) ++ names) (reports (theory_behind limits budget own next s.done) n more r)) (let e : count + 1 + k ≡ count + suc k = omega arith in e);
+        later = s.later;
+      }
+
+module _ {J : Type 0} (limits : Limits) (budget : ℕ) (own : Option (List ℕ)) (job_of : J → TheoryJob) (w : Walk) (jobs : List (J × Bool)) (es : List Event) where
+  abbrev S : ℕ → Type 0
+  S k = Splits limits budget own job_of no_theory 0 w.commands jobs k
+
+  abbrev from : Theory → ℕ → List Placed → Reached → FileReport
+  from T count cs r = reports limits budget own T count cs r
+
+  -- where memory may have ended behind so many
+  abbrev Due : ℕ → Place → Type 0
+  Due count place = DueAt w (end_of es) (length jobs) count place
+
+  accepts : ChecksJobsIn limits budget own job_of w jobs es → (k : ℕ) → k ≤ length jobs → ((m : ℕ) → list_any (faults m) es ≡ true → k < m)
+      → (i : ℕ) → i < k → (j : J × Bool) → slice_get jobs i ≡ Some j → due_on (job_of j.0) ≡ verdict.Accepted
   accepts checks k within below i lt j at =
       let put : puts es ≡ length jobs = checks.legal.all_put in
       let index : i + 1 - 1 ≡ i = omega arith in
-      below_accepted (λ x. due_of (job_of x)) (λ x. is_early (job_of x)) jobs es checks.legal checks.finished (i + 1) (omega arith) (omega arith)
+      below_accepted (λ x. due_on (job_of x)) (λ x. is_early_on (job_of x)) jobs es checks.legal checks.finished (i + 1) (omega arith) (omega arith)
       (λ m bad. let far : k < m = below m bad in omega arith)
       j (ap (slice_get jobs) index ∙ at)
 
-  splits : ChecksJobsOf job_of limits budget bytes ending jobs es → (k : ℕ) → k ≤ length jobs → ((m : ℕ) → list_any (faults m) es ≡ true → k < m)
-      → Splits job_of limits budget no_theory 0 (read limits bytes ending).commands jobs k
+  splits : ChecksJobsIn limits budget own job_of w jobs es → (k : ℕ) → k ≤ length jobs → ((m : ℕ) → list_any (faults m) es ≡ true → k < m) → S k
   splits checks k within below =
       let few : length jobs ≤ limits.commands = checks.few in
-      split job_of limits budget no_theory 0 (read limits bytes ending).commands jobs k checks.jobs_are (omega arith) within (accepts checks k within below)
+      split limits budget own job_of no_theory 0 w.commands jobs k checks.jobs_are (omega arith) within (accepts checks k within below)
 
   -- behind the first commands, which are those of accepted jobs
-  module _ (k : ℕ) (within : k ≤ length jobs) (s : Splits job_of limits budget no_theory 0 (read limits bytes ending).commands jobs k) where
+  module _ (k : ℕ) (within : k ≤ length jobs) (s : S k) where
     -- the report begins with the names of the jobs
-    shown : report_of_bytes limits budget bytes ending
-        ≡ with_names (named job_of (take k jobs)) (report_from limits budget (theory_over no_theory budget s.done) k s.rest (read limits bytes ending).tail)
+    shown : report_of_walk limits budget own w ≡ with_names (named job_of (take k jobs)) (from (over limits budget own s.done) k s.rest w.reached)
     shown =
-        ap (λ l. report_from limits budget no_theory 0 l (read limits bytes ending).tail) s.commands
-        ∙ s.leads s.rest (read limits bytes ending).tail
-        ∙ ap (λ m. with_names (named job_of (take k jobs)) (report_from limits budget (theory_over no_theory budget s.done) m s.rest (read limits bytes ending).tail)) (let none : 0 + k ≡ k = omega arith in none)
+        ap (λ l. from no_theory 0 l w.reached) s.commands
+        ∙ s.leads s.rest w.reached
+        ∙ ap (λ m. with_names (named job_of (take k jobs)) (from (over limits budget own s.done) m s.rest w.reached)) (let none : 0 + k ≡ k = omega arith in none)
 
-    done_is : take k (read limits bytes ending).commands ≡ s.done
-    done_is =
-        ap (λ m. take m (read limits bytes ending).commands) (sym s.as_many)
-        ∙ ap (take (length s.done)) s.commands
-        ∙ front_taken s.done s.rest
+    done_is : take k w.commands ≡ s.done
+    done_is = ap (λ m. take m w.commands) (sym s.as_many) ∙ ap (take (length s.done)) s.commands ∙ front_taken s.done s.rest
 
-    rest_is : drop k (read limits bytes ending).commands ≡ s.rest
-    rest_is =
-        ap (λ m. drop m (read limits bytes ending).commands) (sym s.as_many)
-        ∙ ap (drop (length s.done)) s.commands
-        ∙ front_dropped s.done s.rest
-
-    enough : k ≤ length (read limits bytes ending).commands
-    enough = let e : length (read limits bytes ending).commands ≡ length s.done + length s.rest = ap length s.commands ∙ length-append s.done s.rest in omega (arith, e, s.as_many)
+    rest_is : drop k w.commands ≡ s.rest
+    rest_is = ap (λ m. drop m w.commands) (sym s.as_many) ∙ ap (drop (length s.done)) s.commands ∙ front_dropped s.done s.rest
 
     -- memory ended at the next command
-    cut : (line : ℕ) → IsNextLine limits bytes ending k line → IsCutByMemory limits budget bytes ending (named job_of (take k jobs)) (k + 1) line
-    cut line next = record {
+    cut : (place : Place) → Due k place → IsCut limits budget own w (end_of es) (length jobs) (named job_of (take k jobs)) (k + 1) place
+    cut place at = record {
       names_are = sym (ap (take (length names)) begins ∙ front_taken names later);
+      within = let e : length (report_of_walk limits budget own w).names ≡ length names + length later = ap length begins ∙ length-append names later in omega (arith, e);
       number_is = ap (λ m. m + 1) (sym as_many);
-      memory = record {
-        accepted_are = let e : length (report_of_bytes limits budget bytes ending).names ≡ length names + length later = ap length begins ∙ length-append names later in omega (arith, e);
-        next = subst (λ m. IsNextLine limits bytes ending m line) (sym as_many) next;
-      };
+      memory = subst (λ m. Due m place) (sym as_many) at;
     }
       where
         names : List (List ℕ)
         names = named job_of (take k jobs)
 
         later : List (List ℕ)
-        later = (report_from limits budget (theory_over no_theory budget s.done) k s.rest (read limits bytes ending).tail).names
+        later = (from (over limits budget own s.done) k s.rest w.reached).names
 
-        begins : (report_of_bytes limits budget bytes ending).names ≡ names ++ later
+        begins : (report_of_walk limits budget own w).names ≡ names ++ later
         begins = ap (λ (r : FileReport). r.names) shown
 
         as_many : length names ≡ k
-        as_many = as_many_names (λ (j : J × Bool). (job_of j.0).name) jobs k within
+        as_many = as_many_names job_of jobs k within
 
   -- a job is at fault with this verdict, and those before it are due to be accepted
-  module _ (k : ℕ) (within : k < length jobs) (s : Splits job_of limits budget no_theory 0 (read limits bytes ending).commands jobs k)
-      (j : J × Bool) (more : List (J × Bool)) (at : slice_get jobs k ≡ Some j) (later : drop k jobs ≡ j ∷ more) (few : length jobs ≤ limits.commands) where
-    next_of : (rest : List WrittenCommand) → AreJobsFrom budget (theory_over no_theory budget s.done) rest (map (λ (x : J × Bool). job_of x.0) (j ∷ more))
-        → (c : WrittenCommand) × (cs : List WrittenCommand) × (rest ≡ c ∷ cs) × IsJobOf budget (theory_over no_theory budget s.done) c (job_of j.0)
+  module _ (k : ℕ) (within : k < length jobs) (s : S k) (j : J × Bool) (more : List (J × Bool)) (later : drop k jobs ≡ j ∷ more) (few : length jobs ≤ limits.commands) where
+    next_of : (rest : List Placed) → AreJobsBehind limits budget own (over limits budget own s.done) rest (map (λ (x : J × Bool). job_of x.0) (j ∷ more))
+        → (c : Placed) × (cs : List Placed) × (rest ≡ c ∷ cs) × IsJobAt limits budget own (over limits budget own s.done) c (job_of j.0)
     next_of [] are = absurd are
     next_of (c ∷ cs) are = (c, cs, refl, are.0)
 
-    next : (c : WrittenCommand) × (cs : List WrittenCommand) × (s.rest ≡ c ∷ cs) × IsJobOf budget (theory_over no_theory budget s.done) c (job_of j.0)
-    next = next_of s.rest (subst (λ (l : List (J × Bool)). AreJobsFrom budget (theory_over no_theory budget s.done) s.rest (map (λ (x : J × Bool). job_of x.0) l)) later s.behind)
+    next : (c : Placed) × (cs : List Placed) × (s.rest ≡ c ∷ cs) × IsJobAt limits budget own (over limits budget own s.done) c (job_of j.0)
+    next = next_of s.rest (subst (λ (l : List (J × Bool)). AreJobsBehind limits budget own (over limits budget own s.done) s.rest (map (λ (x : J × Bool). job_of x.0) l)) later s.later)
 
-    stops : (v : Verdict) → is_accepted v ≡ false → v ≡ due_of (job_of j.0)
-        → report_of_bytes limits budget bytes ending ≡ record { names = named job_of (take k jobs); outcome = Stopped (k + 1) (in_file (job_of j.0).line) v }
+    place_is : (job_of j.0).title.place ≡ place_of (spot_of next.0)
+    place_is = ap (λ (t : Title). t.place) next.3.title
+
+    stops : (v : Verdict) → is_accepted v ≡ false → v ≡ due_on (job_of j.0)
+        → report_of_walk limits budget own w ≡ record { names = named job_of (take k jobs); outcome = Stopped (k + 1) (job_of j.0).title.place v }
     stops v other is =
-        let T = theory_over no_theory budget s.done in
+        let T = over limits budget own s.done in
         let ns = named job_of (take k jobs) in
-        let tail = (read limits bytes ending).tail in
         let n = next in
         let c = n.0 in
+        let rest = from (theory_with limits budget own T c) (k + 1) n.1 w.reached in
         shown k (omega arith) s
-        ∙ ap (λ l. with_names ns (report_from limits budget T k l tail)) n.2
-        ∙ ap (λ u. with_names ns (by_verdict u k c (report_from limits budget (theory_after T budget c.form) (k + 1) n.1 tail)))
-        (verdict_is limits budget T k c (job_of j.0) (omega arith) n.3 ∙ sym is)
-        ∙ ap (with_names ns) (other_ends v k c (report_from limits budget (theory_after T budget c.form) (k + 1) n.1 tail) other)
-        ∙ with_no_more ns (Stopped (k + 1) (in_file c.line) v)
-        ∙ ap (λ l. let r : FileReport = record { names = ns; outcome = Stopped (k + 1) (in_file l) v } in r) (sym n.3.line)
+        ∙ ap (λ l. with_names ns (from T k l w.reached)) n.2
+        ∙ ap (λ u. with_names ns (by_verdict u k c rest)) (verdict_is limits budget own T k c (job_of j.0) (omega arith) n.3 ∙ sym is)
+        ∙ ap (with_names ns) (other_ends v k c rest other)
+        ∙ with_no_more ns (stopped_at (k + 1) (spot_of c) v)
+        ∙ ap (λ p. let r : FileReport = record { names = ns; outcome = Stopped (k + 1) p v } in r) (sym place_is)
 
-    -- seen from the whole file, the line is the job's
-    job_line : IsNextLine limits bytes ending k (job_of j.0).line
-    job_line = record {
-      given = bytes;
-      rest = [];
-      bytes_are = sym (append-nil bytes);
-      ending = ending;
-      last = λ e. (refl, e);
-      read_are = enough k (omega arith) s;
-      line_is =
-          next.3.line
-          ∙ ap (λ cs. next_line cs (reading_at limits bytes ending).begun (tokens limits bytes broken).line) (sym (rest_is k (omega arith) s ∙ next.2));
-    }
+    -- memory may have ended at its command
+    due_here : Due k (job_of j.0).title.place
+    due_here = inl (next.0, next.1, rest_is k (omega arith) s ∙ next.2, place_is)
+
+  abbrev Says : List (List ℕ) → Outcome → Type 0
+  Says names outcome = ReportsTheory limits budget own w (end_of es) (length jobs) names outcome
 
   -- the report where a job is at fault
-  fault_report : ChecksJobsOf job_of limits budget bytes ending jobs es → (n : ℕ) (v : Verdict) → IsFirstFault es n v
-      → Reports limits budget bytes ending (named job_of (take (n - 1) jobs)) (Stopped n (placed job_of jobs n) v)
-  fault_report checks n v first = by_cause v first.1 due
+  fault_report : ChecksJobsIn limits budget own job_of w jobs es → (n : ℕ) (v : Verdict) → IsFirstFault es n v
+      → Says (named job_of (take (n - 1) jobs)) (Stopped n (place_at (job_titles job_of jobs) n) v)
+  fault_report checks n v first = by_cause v first.1 due_so
     where
-      due_all : (0 < n) × (n ≤ puts es) × IsDueTo (λ x. due_of (job_of x)) jobs n v
-      due_all = answered_due (λ x. due_of (job_of x)) (λ x. is_early (job_of x)) jobs es checks.legal n v first.0
+      due_all : (0 < n) × (n ≤ puts es) × IsDueTo (λ x. due_on (job_of x)) jobs n v
+      due_all = answered_due (λ x. due_on (job_of x)) (λ x. is_early_on (job_of x)) jobs es checks.legal n v first.0
 
-      due : IsDueTo (λ x. due_of (job_of x)) jobs n v
-      due = due_all.2
+      due_so : IsDueTo (λ x. due_on (job_of x)) jobs n v
+      due_so = due_all.2
 
       some : 0 < n
       some = due_all.0
@@ -228,126 +240,110 @@ module _ {J : Type 0} (job_of : J → Job) (limits : Limits) (budget : ℕ) (byt
       here : (j : J × Bool) × (more : List (J × Bool)) × (slice_get jobs (n - 1) ≡ Some j) × (drop (n - 1) jobs ≡ j ∷ more)
       here = at_index jobs (n - 1) within
 
-      s : Splits job_of limits budget no_theory 0 (read limits bytes ending).commands jobs (n - 1)
+      s : S (n - 1)
       s = splits checks (n - 1) (omega (arith, within)) (λ m bad. let le : n ≤ m = first.2 m bad in omega (arith, some))
 
-      place_is : in_file (job_of here.0.0).line ≡ placed job_of jobs n
-      place_is = sym (place_of_title job_of jobs (n - 1) here.0 here.2)
+      placed_so : (job_of here.0.0).title.place ≡ place_at (job_titles job_of jobs) n
+      placed_so = sym (place_of_title job_of jobs (n - 1) here.0 here.2)
 
-      stopped : (u : Verdict) → is_accepted u ≡ false → u ≡ due_of (job_of here.0.0)
-          → report_of_bytes limits budget bytes ending ≡ record { names = named job_of (take (n - 1) jobs); outcome = Stopped n (placed job_of jobs n) u }
+      stopped : (u : Verdict) → is_accepted u ≡ false → u ≡ due_on (job_of here.0.0)
+          → report_of_walk limits budget own w ≡ record { names = named job_of (take (n - 1) jobs); outcome = Stopped n (place_at (job_titles job_of jobs) n) u }
       stopped u other is =
-          stops (n - 1) within s here.0 here.1 here.2 here.3 checks.few u other is
-          ∙ ap (λ m. let r : FileReport = record { names = named job_of (take (n - 1) jobs); outcome = Stopped m (in_file (job_of here.0.0).line) u } in r) number
-          ∙ ap (λ p. let r : FileReport = record { names = named job_of (take (n - 1) jobs); outcome = Stopped n p u } in r) place_is
+          stops (n - 1) within s here.0 here.1 here.3 checks.few u other is
+          ∙ ap (λ m. let r : FileReport = record { names = named job_of (take (n - 1) jobs); outcome = Stopped m (job_of here.0.0).title.place u } in r) number
+          ∙ ap (λ p. let r : FileReport = record { names = named job_of (take (n - 1) jobs); outcome = Stopped n p u } in r) placed_so
 
-      ended : IsCutByMemory limits budget bytes ending (named job_of (take (n - 1) jobs)) n (job_of here.0.0).line
+      ended : IsCut limits budget own w (end_of es) (length jobs) (named job_of (take (n - 1) jobs)) n (place_at (job_titles job_of jobs) n)
       ended =
-          subst (λ m. IsCutByMemory limits budget bytes ending (named job_of (take (n - 1) jobs)) m (job_of here.0.0).line) number
-          (cut (n - 1) (omega (arith, within)) s (job_of here.0.0).line (job_line (n - 1) within s here.0 here.1 here.2 here.3 checks.few))
+          subst (λ p. IsCut limits budget own w (end_of es) (length jobs) (named job_of (take (n - 1) jobs)) n p) placed_so
+          (subst (λ m. IsCut limits budget own w (end_of es) (length jobs) (named job_of (take (n - 1) jobs)) m (job_of here.0.0).title.place) number
+          (cut (n - 1) (omega (arith, within)) s (job_of here.0.0).title.place (due_here (n - 1) within s here.0 here.1 here.3 checks.few)))
 
-      due_is : (u : Verdict) → (j : J × Bool) × (slice_get jobs (n - 1) ≡ Some j) × (u ≡ due_of (job_of j.0)) → u ≡ due_of (job_of here.0.0)
-      due_is u r = let same : r.0 ≡ here.0 = (let t : Some r.0 ≡ Some here.0 = sym r.1 ∙ here.2 in cc) in r.2 ∙ ap (λ (x : J × Bool). due_of (job_of x.0)) same
+      due_is : (u : Verdict) → (j : J × Bool) × (slice_get jobs (n - 1) ≡ Some j) × (u ≡ due_on (job_of j.0)) → u ≡ due_on (job_of here.0.0)
+      due_is u r = let same : r.0 ≡ here.0 = (let t : Some r.0 ≡ Some here.0 = sym r.1 ∙ here.2 in cc) in r.2 ∙ ap (λ (x : J × Bool). due_on (job_of x.0)) same
 
-      by_cause : (u : Verdict) → is_accepted u ≡ false → IsDueTo (λ x. due_of (job_of x)) jobs n u
-          → Reports limits budget bytes ending (named job_of (take (n - 1) jobs)) (Stopped n (placed job_of jobs n) u)
+      by_cause : (u : Verdict) → is_accepted u ≡ false → IsDueTo (λ x. due_on (job_of x)) jobs n u → Says (named job_of (take (n - 1) jobs)) (Stopped n (place_at (job_titles job_of jobs) n) u)
       by_cause verdict.Accepted other d = cc
-      by_cause verdict.Memory other d = inr ((job_of here.0.0).line, sym place_is, ended)
+      by_cause verdict.Memory other d = inr ended
       by_cause (verdict.Refused code) other (inl e) = cc
       by_cause (verdict.Refused code) other (inr r) = stopped (verdict.Refused code) refl (due_is (verdict.Refused code) r)
       by_cause verdict.Ended other (inl e) = cc
       by_cause verdict.Ended other (inr r) = stopped verdict.Ended refl (due_is verdict.Ended r)
 
   -- the report goes on behind the jobs, where none of them is at fault
-  module _ (s : Splits job_of limits budget no_theory 0 (read limits bytes ending).commands jobs (length jobs)) where
+  module _ (s : S (length jobs)) where
     -- the report is that behind the jobs, with their names
-    goes_on : report_of_bytes limits budget bytes ending ≡ with_names (named job_of jobs) (report_behind limits budget (read limits bytes ending) (length jobs))
-    goes_on =
-        let tail = (read limits bytes ending).tail in
+    on_behind : report_of_walk limits budget own w ≡ with_names (named job_of jobs) (behind limits budget own w (length jobs))
+    on_behind =
         let le : length jobs ≤ length jobs = omega arith in
         shown (length jobs) le s
-        ∙ ap (λ (l : List (J × Bool)). with_names (named job_of l) (report_from limits budget (theory_over no_theory budget s.done) (length jobs) s.rest tail)) (all_taken jobs)
-        ∙ ap (λ l. with_names (named job_of jobs) (report_from limits budget (theory_over no_theory budget l) (length jobs) s.rest tail)) (sym (done_is (length jobs) le s))
-        ∙ ap (λ l. with_names (named job_of jobs) (report_from limits budget (theory_over no_theory budget (take (length jobs) (read limits bytes ending).commands)) (length jobs) l tail))
-        (sym (rest_is (length jobs) le s))
+        ∙ ap (λ (l : List (J × Bool)). with_names (named job_of l) (from (over limits budget own s.done) (length jobs) s.rest w.reached)) (all_taken jobs)
+        ∙ ap (λ l. with_names (named job_of jobs) (from (over limits budget own l) (length jobs) s.rest w.reached)) (sym (done_is (length jobs) le s))
+        ∙ ap (λ l. with_names (named job_of jobs) (from (over limits budget own (take (length jobs) w.commands)) (length jobs) l w.reached)) (sym (rest_is (length jobs) le s))
 
-    -- where nothing is behind the jobs, the report ends with the tail
-    tail_ends : (t : Tail) → drop (length jobs) (read limits bytes ending).commands ≡ [] → (read limits bytes ending).tail ≡ t
-        → report_of_bytes limits budget bytes ending ≡ record { names = named job_of jobs; outcome = tail_outcome (length jobs) t }
-    tail_ends t nothing is =
-        let T = theory_over no_theory budget (take (length jobs) (read limits bytes ending).commands) in
-        goes_on
-        ∙ ap (λ l. with_names (named job_of jobs) (report_from limits budget T (length jobs) l (read limits bytes ending).tail)) nothing
-        ∙ ap (λ u. with_names (named job_of jobs) (report_from limits budget T (length jobs) [] u)) is
-        ∙ with_no_more (named job_of jobs) (tail_outcome (length jobs) t)
+    -- where nothing is behind the jobs, the report ends as the walk does
+    tail_ends : (r : Reached) → drop (length jobs) w.commands ≡ [] → w.reached ≡ r
+        → report_of_walk limits budget own w ≡ record { names = named job_of jobs; outcome = reached_outcome (length jobs) r }
+    tail_ends r nothing is =
+        let T = over limits budget own (take (length jobs) w.commands) in
+        on_behind
+        ∙ ap (λ l. with_names (named job_of jobs) (from T (length jobs) l w.reached)) nothing
+        ∙ ap (λ u. with_names (named job_of jobs) (from T (length jobs) [] u)) is
+        ∙ with_no_more (named job_of jobs) (reached_outcome (length jobs) r)
 
     -- where the next command has another verdict
-    next_ends : (o : Outcome) → report_behind limits budget (read limits bytes ending) (length jobs) ≡ record { names = []; outcome = o }
-        → report_of_bytes limits budget bytes ending ≡ record { names = named job_of jobs; outcome = o }
-    next_ends o is = goes_on ∙ ap (with_names (named job_of jobs)) is ∙ with_no_more (named job_of jobs) o
+    next_ends : (o : Outcome) → behind limits budget own w (length jobs) ≡ record { names = []; outcome = o } → report_of_walk limits budget own w ≡ record { names = named job_of jobs; outcome = o }
+    next_ends o is = on_behind ∙ ap (with_names (named job_of jobs)) is ∙ with_no_more (named job_of jobs) o
 
-    memory_ends : (line : ℕ) → MemoryEnds limits bytes ending (length jobs) line → (b : Bool) → eqb line 0 ≡ b
-        → Reports limits budget bytes ending (named job_of jobs) (if b then Stopped 0 nowhere verdict.Memory else Stopped (length jobs + 1) (in_file line) verdict.Memory)
-    memory_ends line (inl none) true e = inl (no_elements (λ (j : J × Bool). (job_of j.0).name) jobs none.0, refl, refl)
-    memory_ends line (inl none) false e = absurd (let z : line ≡ 0 = none.1 in let f : eqb 0 0 ≡ false = sym (ap (λ l. eqb l 0) z) ∙ e in cc)
-    memory_ends line (inr due) true e = absurd (let z : line ≡ 0 = eqb-true line 0 e in let lt : 0 < line = next_line_positive limits bytes ending (length jobs) line due in omega (arith, z, lt))
-    memory_ends line (inr due) false e =
-        inr (
-          line,
-          refl,
-          subst (λ (l : List (J × Bool)). IsCutByMemory limits budget bytes ending (named job_of l) (length jobs + 1) line) (all_taken jobs)
-              (cut (length jobs) (omega arith) s line due),
-        )
+    memory_ends : (place : Place) → end_of es ≡ Some (end.Fault place verdict.Memory) → EndsReading limits budget own w (length jobs) (end.Fault place verdict.Memory) → (b : Bool) → eqb place.line 0 ≡ b
+        → Says (named job_of jobs) (if b then Stopped 0 nowhere verdict.Memory else Stopped (length jobs + 1) place verdict.Memory)
+    memory_ends place at (inl none) true e = inl (no_names job_of jobs none.0, refl, refl)
+    memory_ends place at (inl none) false e = absurd (let f : eqb 0 0 ≡ false = sym (ap (λ (p : Place). eqb p.line 0) none.1) ∙ e in cc)
+    memory_ends place at (inr some) true e = absurd (let z : place.line ≡ 0 = eqb-true place.line 0 e in omega (arith, z, some))
+    memory_ends place at (inr some) false e =
+        inr (subst (λ (l : List (J × Bool)). IsCut limits budget own w (end_of es) (length jobs) (named job_of l) (length jobs + 1) place) (all_taken jobs) (cut (length jobs) (omega arith) s place (inr (refl, at))))
 
-    ends_by : (x : End) → (x ≡ end.Stopped → ⊥) → IsReadersEnd limits budget bytes ending (length jobs) x
-        → Reports limits budget bytes ending (named job_of jobs) (end_outcome (length jobs) (Some x))
-    ends_by end.Whole open_end is = tail_ends reading.whole is.0 is.1
-    ends_by (end.Unread place) open_end is =
-        subst (λ p. Reports limits budget bytes ending (named job_of jobs) (Unread (length jobs + 1) p)) (sym is.2) (tail_ends reading.unread is.0 is.1)
-    ends_by (end.Unopened name) open_end is = absurd is
-    ends_by end.Stopped open_end is = absurd (open_end refl)
-    ends_by (end.Fault place verdict.Memory) open_end is =
-        subst (λ p. Reports limits budget bytes ending (named job_of jobs) (fault_outcome (length jobs) p verdict.Memory)) (sym is.1) (memory_ends is.0 is.2 (eqb is.0 0) refl)
-    ends_by (end.Fault place verdict.Accepted) open_end is = next_ends (Stopped (length jobs + 1) place verdict.Accepted) is
-    ends_by (end.Fault place (verdict.Refused code)) open_end is = next_ends (Stopped (length jobs + 1) place (verdict.Refused code)) is
-    ends_by (end.Fault place verdict.Ended) open_end is = next_ends (Stopped (length jobs + 1) place verdict.Ended) is
+    ends_by : (x : End) → end_of es ≡ Some x → (x ≡ end.Stopped → ⊥) → EndsReading limits budget own w (length jobs) x → Says (named job_of jobs) (end_outcome (length jobs) (Some x))
+    ends_by end.Whole at open_end is = tail_ends (goes_on is.1.0) is.0 is.1.1
+    ends_by (end.Unread place) at open_end is =
+        subst (λ p. Says (named job_of jobs) (Unread (length jobs + 1) p)) (sym is.1.2) (tail_ends (ends (unread_at is.1.0)) is.0 is.1.1)
+    ends_by (end.Unopened m) at open_end is = tail_ends (ends (not_opened is.1.0 m)) is.0 is.1.1
+    ends_by end.Stopped at open_end is = absurd (open_end refl)
+    ends_by (end.Fault place verdict.Memory) at open_end is = memory_ends place at is (eqb place.line 0) refl
+    ends_by (end.Fault place verdict.Accepted) at open_end is = next_ends (Stopped (length jobs + 1) place verdict.Accepted) is
+    ends_by (end.Fault place (verdict.Refused code)) at open_end is = next_ends (Stopped (length jobs + 1) place (verdict.Refused code)) is
+    ends_by (end.Fault place verdict.Ended) at open_end is = next_ends (Stopped (length jobs + 1) place verdict.Ended) is
 
   -- the report where no job is at fault
-  end_report : ChecksFile job_of limits budget bytes ending jobs es → list_any is_fault es ≡ false
-      → Reports limits budget bytes ending (named job_of jobs) (end_outcome (length jobs) (end_of es))
+  end_report : ChecksTheory limits budget own job_of w jobs es → list_any is_fault es ≡ false → Says (named job_of jobs) (end_outcome (length jobs) (end_of es))
   end_report checks clean =
       let e = has_end es checks.checks.finished.sealed in
       let s = splits checks.checks (length jobs) (omega arith) (λ m bad. absurd (let t : list_any is_fault es ≡ true = fault_any m es bad in cc)) in
-      subst (λ o. Reports limits budget bytes ending (named job_of jobs) (end_outcome (length jobs) o)) (sym e.1)
-      (ends_by s e.0
+      subst (λ o. Says (named job_of jobs) (end_outcome (length jobs) o)) (sym e.1)
+      (ends_by s e.0 e.1
       (λ is. let t = stopped_fault _ es checks.checks.legal.lawful (e.1 ∙ ap Some is) in cc)
       (checks.ends e.0 e.1))
 
   -- the report by the first fault, if there is one
-  report_by_fault : ChecksJobsOf job_of limits budget bytes ending jobs es
-      → (list_any is_fault es ≡ false → Reports limits budget bytes ending (named job_of jobs) (end_outcome (length jobs) (end_of es)))
-      → (f : Option (ℕ × Verdict)) → IsFirst es f → (report : FileReport) → report ≡ report_with (titles_of job_of jobs) f (end_of es)
-      → Reports limits budget bytes ending report.names report.outcome
+  report_by_fault : ChecksJobsIn limits budget own job_of w jobs es
+      → (list_any is_fault es ≡ false → Says (named job_of jobs) (end_outcome (length jobs) (end_of es)))
+      → (f : Option (ℕ × Verdict)) → IsFirst es f → (report : FileReport) → report ≡ report_with (job_titles job_of jobs) f (end_of es)
+      → Says report.names report.outcome
   report_by_fault checks clean None f report is =
-      subst (λ (r : FileReport). Reports limits budget bytes ending r.names r.outcome) (sym is)
-      (subst (λ ns. Reports limits budget bytes ending ns (end_outcome (length (titles_of job_of jobs)) (end_of es))) (sym (all_names job_of jobs))
-      (subst (λ n. Reports limits budget bytes ending (named job_of jobs) (end_outcome n (end_of es))) (sym (all_titles job_of jobs)) (clean f)))
+      subst (λ (r : FileReport). Says r.names r.outcome) (sym is)
+      (subst (λ n. Says (named job_of jobs) (end_outcome n (end_of es))) (sym (all_titles job_of jobs)) (clean f))
   report_by_fault checks clean (Some f) first report is =
-      subst (λ (r : FileReport). Reports limits budget bytes ending r.names r.outcome) (sym is)
-      (subst (λ ns. Reports limits budget bytes ending ns (Stopped f.0 (placed job_of jobs f.0) f.1)) (sym (names_taken job_of jobs (f.0 - 1)))
+      subst (λ (r : FileReport). Says r.names r.outcome) (sym is)
+      (subst (λ ns. Says ns (Stopped f.0 (place_at (job_titles job_of jobs) f.0) f.1)) (sym (names_taken job_of jobs (f.0 - 1)))
       (fault_report checks f.0 f.1 first))
 
--- the law
-pub history_reports : {J : Type 0} (job_of : J → Job) (limits : Limits) (budget : ℕ) (bytes : List ℕ) (ending : Ending) (jobs : List (J × Bool)) (es : List Event) (report : FileReport)
-    → ChecksFile job_of limits budget bytes ending jobs es
-    → IsReportOf (titles_of job_of jobs) es report
-    → Reports limits budget bytes ending report.names report.outcome
-history_reports job_of limits budget bytes ending jobs es report checks r =
-    report_by_fault job_of limits budget bytes ending jobs es checks.checks (end_report job_of limits budget bytes ending jobs es checks) r.0 r.1 report r.2
+-- the laws
+pub theory_reports : {J : Type 0} (limits : Limits) (budget : ℕ) (own : Option (List ℕ)) (job_of : J → TheoryJob) (w : Walk) (jobs : List (J × Bool)) (es : List Event) (report : FileReport)
+    → ChecksTheory limits budget own job_of w jobs es → IsReportOf (job_titles job_of jobs) es report → ReportsTheory limits budget own w (end_of es) (length jobs) report.names report.outcome
+theory_reports limits budget own job_of w jobs es report checks r =
+    report_by_fault limits budget own job_of w jobs es checks.checks (end_report limits budget own job_of w jobs es checks) r.0 r.1 report r.2
 
-pub fault_reports : {J : Type 0} (job_of : J → Job) (limits : Limits) (budget : ℕ) (bytes : List ℕ) (ending : Ending) (jobs : List (J × Bool)) (es : List Event) (report : FileReport)
-    → ChecksJobsOf job_of limits budget bytes ending jobs es → list_any is_fault es ≡ true
-    → IsReportOf (titles_of job_of jobs) es report
-    → Reports limits budget bytes ending report.names report.outcome
-fault_reports job_of limits budget bytes ending jobs es report checks faulty r =
-    report_by_fault job_of limits budget bytes ending jobs es checks (λ clean. absurd (let e : true ≡ false = sym faulty ∙ clean in cc)) r.0 r.1 report r.2
+pub theory_faults : {J : Type 0} (limits : Limits) (budget : ℕ) (own : Option (List ℕ)) (job_of : J → TheoryJob) (w : Walk) (jobs : List (J × Bool)) (es : List Event) (report : FileReport)
+    → ChecksJobsIn limits budget own job_of w jobs es → list_any is_fault es ≡ true → IsReportOf (job_titles job_of jobs) es report → ReportsTheory limits budget own w (end_of es) (length jobs) report.names report.outcome
+theory_faults limits budget own job_of w jobs es report checks faulty r =
+    report_by_fault limits budget own job_of w jobs es checks (λ clean. absurd (let e : true ≡ false = sym faulty ∙ clean in cc)) r.0 r.1 report r.2

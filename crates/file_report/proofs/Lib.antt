@@ -1,8 +1,8 @@
 pub mod Dues
 pub mod Examples
 pub mod Folding
+pub mod Fronts
 pub mod Law
 pub mod Positive
 pub mod Putting
-pub mod TheoryLaw
-pub mod Walk
+pub mod WalkLines

@@ -8,12 +8,15 @@ use Rattle.dk_lexer.specs.declared.place.Place.{Place}
 use Rattle.dk_lexer.specs.declared.token.Token.{Token}
 use Rattle.dk_lexer.specs.Spelling.{Spelling, blank, token, run_and_dot, wrong, comment_open, unsettled, late, kind_of, spelled}
 use Rattle.dk_lexer.specs.Tokens.{Bound, Ending, Lexed, Setting, at_end, behind, begin_of, bound, broken, by_bound, command_after, dot_at, fault_at, gives, input_limit, late_bound, next_line as line_after, nothing_at, outcome, outcome_at, token_at, tokens, tokens_from, whole, within}
+use Rattle.dk_parser.specs.FileReading.{Tail, read, tail_by_bytes, tail_by_ending, tail_by_tokens}
+use Rattle.dk_parser.specs.FileReading as tail
 use Rattle.dk_parser.specs.Groups.{load}
 use Rattle.dk_parser.specs.Levels.{standing_behind}
 use Rattle.dk_parser.specs.Parsing.{Answer, Advance, Parsing, answered, begun_by, begun_line, commands_from, ends, goes, parsing_from, advanced, refusal, refuses, started, turn, turn_by_fault, turn_by_step}
 use Rattle.dk_terms.specs.Terminals.{terminal_of}
 use Rattle.dk_parser.specs.Written.{WrittenCommand}
-use Rattle.file_report.specs.Memory.{IsNextLine, next_line, reading_at}
+use Rattle.theory_walk.specs.BookReadings.{due_line}
+use Rattle.theory_walk.specs.Lines.{IsNextLine, next_line, reading_at}
 
 -- ---- tokens
 
@@ -83,7 +86,7 @@ all_lines limits bytes ending = tokens_lines limits ending (length bytes) (recor
 
 -- ---- commands
 
-abbrev CommandsHaveLines : List WrittenCommand → Type 0
+abbrev pub CommandsHaveLines : List WrittenCommand → Type 0
 CommandsHaveLines [] = Unit {0}
 CommandsHaveLines (c ∷ cs) = (0 < c.line) × CommandsHaveLines cs
 
@@ -134,6 +137,10 @@ by_begun : (f : Option (ℕ × Code)) (begun : Option ℕ) → BegunHasLine begu
 by_begun None begun h k = h
 by_begun (Some (line, code)) begun h k = k
 
+parsing_lines : (s : Parsing) (ts : List Token) → HasLine s → HaveLines ts → HasLine (parsing_from s ts)
+parsing_lines s [] has h = has
+parsing_lines s (t ∷ ts) has h = parsing_lines (turn s t).state ts (by_fault s.fault s t has h.0).state h.1
+
 begun_lines : (s : Parsing) (ts : List Token) → HasLine s → HaveLines ts → BegunHasLine (begun_line (parsing_from s ts))
 begun_lines s [] has h = by_begun s.fault s.begun has.0 has.1
 begun_lines s (t ∷ ts) has h = begun_lines (turn s t).state ts (by_fault s.fault s t has h.0).state h.1
@@ -158,3 +165,40 @@ next_line_positive limits bytes ending count line next =
     (dropped count (reading_at limits next.given next.ending).commands (commands_lines (started limits) ts (tt, tt) lines.0))
     (begun_lines (started limits) ts (tt, tt) lines.0)
     (all_lines limits next.given broken).1)
+
+-- ---- what a book is read as
+
+abbrev pub TailHasLine : Tail → Type 0
+TailHasLine tail.whole = Unit {0}
+TailHasLine (tail.fault line code) = 0 < line
+TailHasLine tail.unread = Unit {0}
+
+by_ending_line : (e : Ending) (begun : Option ℕ) → BegunHasLine begun → TailHasLine (tail_by_ending e begun)
+by_ending_line broken begun h = tt
+by_ending_line whole None h = tt
+by_ending_line whole (Some line) h = h
+
+by_bytes_line : (f : Option Code) (line : ℕ) (e : Ending) (begun : Option ℕ) → 0 < line → BegunHasLine begun → TailHasLine (tail_by_bytes f line e begun)
+by_bytes_line None line e begun some h = by_ending_line e begun h
+by_bytes_line (Some code) line e begun some h = unwrapped begun line h some
+
+by_tokens_line : (f : Option (ℕ × Code)) (lexed : Lexed) (e : Ending) (begun : Option ℕ) → FaultHasLine f → 0 < lexed.line → BegunHasLine begun → TailHasLine (tail_by_tokens f lexed e begun)
+by_tokens_line None lexed e begun h some k = by_bytes_line lexed.fault lexed.line e begun some k
+by_tokens_line (Some (line, code)) lexed e begun h some k = h
+
+-- the commands of a book, and its tail
+pub read_commands_lines : (limits : Limits) (bytes : List ℕ) (ending : Ending) → CommandsHaveLines (read limits bytes ending).commands
+read_commands_lines limits bytes ending = commands_lines (started limits) (tokens limits bytes ending).tokens (tt, tt) (all_lines limits bytes ending).0
+
+pub read_tail_line : (limits : Limits) (bytes : List ℕ) (ending : Ending) → TailHasLine (read limits bytes ending).tail
+read_tail_line limits bytes ending =
+    let lines = all_lines limits bytes ending in
+    let ts = (tokens limits bytes ending).tokens in
+    by_tokens_line (parsing_from (started limits) ts).fault (tokens limits bytes ending) ending (begun_line (parsing_from (started limits) ts))
+    (parsing_lines (started limits) ts (tt, tt) lines.0).1 lines.1 (begun_lines (started limits) ts (tt, tt) lines.0)
+
+-- the line that is due behind bytes that were given
+pub line_due_positive : (limits : Limits) (bytes : List ℕ) → 0 < due_line limits bytes
+line_due_positive limits bytes =
+    let lines = all_lines limits bytes broken in
+    unwrapped (reading_at limits bytes broken).begun (tokens limits bytes broken).line (begun_lines (started limits) (tokens limits bytes broken).tokens (tt, tt) lines.0) lines.1

@@ -1,4 +1,4 @@
--- For callers: the fold of a file and of the modules that it needs, step by step as the rules have it: each command is checked where it stands,
+-- Trusted: the fold of a file and of the modules that it needs, step by step as the rules have it: each command is checked where it stands,
 -- on what those before it left, up to the first that isn't accepted (docs/modules.md).
 use Rattle.std.specs.Prelude.{ℕ, zero, suc, ◌+◌, ◌-◌, Bool, true, false, nat_le, List, [], ◌∷◌, ◌++◌, length, if◌then◌else◌, Option, Some, None}
 use Rattle.dk_model.specs.declared.code.Code.TheVariants.{E14, E15, E16}

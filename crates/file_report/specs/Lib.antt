@@ -1,9 +1,7 @@
-pub mod Ends
 pub mod Folds
 pub mod Histories
 pub mod Jobs
-pub mod Memory
 pub mod Outcomes
 pub mod Reports
 pub mod Theories
-pub mod TheoryHistories
+pub mod TheoryReports

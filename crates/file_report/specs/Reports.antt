@@ -1,15 +1,14 @@
--- For callers: the report of a theory's commands, one after the other, up to the first that isn't accepted (docs/modules.md, docs/report.md).
-use Rattle.std.specs.Prelude.{ℕ, ◌+◌, List, [], ◌∷◌, Some, None}
+-- Trusted: the places, the names of the `ok` lines and the outcomes in the report of a theory (docs/modules.md, docs/report.md).
+use Rattle.std.specs.Prelude.{ℕ, ◌+◌, List, [], Some, None}
 use Rattle.dk_model.specs.declared.code.Verdict.{Verdict}
 use Rattle.dk_model.specs.declared.code.Verdict.TheVariants as verdict
 use Rattle.board_core.specs.declared.event.Place.{Place}
-use Rattle.verdict_book.specs.Books.{name_in}
-use Rattle.verdict_book.specs.Report.{FileReport}
+use Rattle.verdict_book.specs.Report.{name_in}
 use Rattle.verdict_book.specs.declared.outcome.Outcome.{Outcome}
 use Rattle.verdict_book.specs.declared.outcome.Outcome.TheVariants.{Accepted, Stopped, Unopened, Unread}
 use Rattle.theory_walk.specs.Libraries.{Key}
-use Rattle.file_report.specs.Outcomes.{shown_name, with_names}
-use Rattle.theory_walk.specs.Walks.{End, Placed, Reached, Spot, ends, goes_on, no_file, not_opened, refused_at, spot_of, unread_at}
+use Rattle.file_report.specs.Outcomes.{shown_name}
+use Rattle.theory_walk.specs.Walks.{End, Placed, Reached, Spot, ends, goes_on, no_file, not_opened, refused_at, unread_at}
 
 -- the module of a book, as reports have it: none for the file
 abbrev pub module_shown : Key → List ℕ
@@ -18,6 +17,10 @@ module_shown (Some m) = m
 
 abbrev pub place_of : Spot → Place
 place_of spot = record { line = spot.line; «module» = module_shown spot.book }
+
+-- a failed read is told of its book, and of no line
+abbrev pub book_place : Key → Place
+book_place book = place_of (record { book = book; line = 0 })
 
 abbrev pub stopped_at : ℕ → Spot → Verdict → Outcome
 stopped_at number spot v = Stopped number (place_of spot) v
@@ -29,21 +32,10 @@ shown_in c = name_in (module_shown c.book) (shown_name c.command.form)
 -- the outcome where so many commands were accepted and the theory ends so; the file's own book has no module
 abbrev pub end_outcome : ℕ → End → Outcome
 end_outcome count (refused_at spot code) = stopped_at (count + 1) spot (verdict.Refused code)
-end_outcome count (unread_at spot) = Unread (count + 1) (place_of spot)
+end_outcome count (unread_at spot) = Unread (count + 1) (book_place spot.book)
 end_outcome count (not_opened spot m) = Unopened m
 end_outcome count no_file = Unopened []
 
 abbrev pub reached_outcome : ℕ → Reached → Outcome
 reached_outcome count (goes_on known) = Accepted count
 reached_outcome count (ends e) = end_outcome count e
-
--- an accepted command has its `ok` line, and the others follow; any other verdict ends the theory
-abbrev pub by_verdict : Verdict → ℕ → Placed → FileReport → FileReport
-by_verdict verdict.Accepted count c rest = with_names (shown_in c ∷ []) rest
-by_verdict v count c rest = record { names = []; outcome = stopped_at (count + 1) (spot_of c) v }
-
--- a theory of any kind, the verdict on a command behind so many accepted ones, and the theory with an accepted one
-module _ {T : Type 0} (verdict_on : T → ℕ → Placed → Verdict) (after : T → Placed → T) where
-  abbrev pub report_from : T → ℕ → List Placed → Reached → FileReport
-  report_from t count [] r = record { names = []; outcome = reached_outcome count r }
-  report_from t count (c ∷ cs) r = by_verdict (verdict_on t count c) count c (report_from (after t c) (count + 1) cs r)

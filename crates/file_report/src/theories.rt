@@ -4,7 +4,7 @@ ghost use Rattle.dk_model.specs.declared.code.Verdict.{Verdict};
 ghost use Rattle.theory_walk.specs.declared.needs.ModuleLimits.{ModuleLimits};
 ghost use Rattle.file_report.specs.Folds.{fold_of};
 ghost use Rattle.theory_walk.specs.Libraries.{Library};
-ghost use Rattle.file_report.specs.Reports.{report_from};
+ghost use Rattle.file_report.specs.TheoryReports.{report_from};
 ghost use Rattle.theory_walk.specs.Walks.{Placed, walk_of};
 
 /// The fold of a file and of the modules that it needs, each command checked where it stands, is the report of the commands in

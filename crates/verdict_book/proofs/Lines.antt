@@ -4,8 +4,7 @@ use Rattle.std.proofs.lemmas.List.{append-nil, append_assoc}
 use Rattle.std.specs.Prelude.{Option, Err, codes, decimal}
 use Rattle.dk_io.specs.Gathered.{Gathers, Moves}
 use Rattle.dk_io.proofs.Gather.{gathers_stop, gathers_then}
-use Rattle.verdict_book.specs.Report.{in_book, last_line, ok_line, ok_lines, stop_text}
-use Rattle.verdict_book.specs.Books.{name_in}
+use Rattle.verdict_book.specs.Report.{in_book, last_line, ok_line, ok_lines, stop_text, name_in}
 use Rattle.verdict_book.specs.Books.{names_of}
 use Rattle.verdict_book.specs.Places.{titled}
 use Rattle.verdict_book.specs.declared.title.Spot.{Spot}

@@ -8,15 +8,10 @@ use Rattle.board_core.specs.declared.event.End.TheVariants as end
 use Rattle.board_core.specs.declared.event.Event.{Event}
 use Rattle.board_core.specs.declared.event.Place.{Place}
 use Rattle.board_core.specs.Events.{end_of, is_fault, IsFirstFault}
-use Rattle.verdict_book.specs.Report.{FileReport, concat, nowhere}
+use Rattle.verdict_book.specs.Report.{FileReport, name_in, nowhere}
 use Rattle.verdict_book.specs.declared.outcome.Outcome.{Outcome}
 use Rattle.verdict_book.specs.declared.outcome.Outcome.TheVariants.{Accepted, Stopped, Unread, Unopened}
 use Rattle.verdict_book.specs.declared.title.Title.{Title}
-
--- the name in the `ok` line of a command of this module, which is empty for the file that is checked
-abbrev pub name_in : List ℕ → List ℕ → List ℕ
-name_in [] name = name
-name_in (letter ∷ letters) name = concat ((letter ∷ letters) ∷ codes "." ∷ name ∷ [])
 
 -- the reader's own verdict on the command behind so many jobs; at line 0 memory ended before the first command was begun
 abbrev pub fault_outcome : ℕ → Place → Verdict → Outcome

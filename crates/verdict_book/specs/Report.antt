@@ -81,3 +81,8 @@ status_of (Accepted count) = 0
 status_of (Stopped number place v) = stop_status v
 status_of (Unread number place) = 3
 status_of (Unopened name) = 3
+
+-- the name in the `ok` line of a command of this module, which is empty for the file that is checked
+abbrev pub name_in : List ℕ → List ℕ → List ℕ
+name_in [] name = name
+name_in (letter ∷ letters) name = concat ((letter ∷ letters) ∷ codes "." ∷ name ∷ [])

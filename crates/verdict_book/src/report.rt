@@ -2,8 +2,7 @@
 ghost use Rattle.std.specs.Prelude.{◌++◌, codes};
 ghost use Rattle.dk_io.specs.Causes.{HasCause};
 ghost use Rattle.dk_io.specs.Gathered.{Gathers};
-ghost use Rattle.verdict_book.specs.Report.{in_book, last_line, ok_line, stop_text};
-ghost use Rattle.verdict_book.specs.Books.{name_in};
+ghost use Rattle.verdict_book.specs.Report.{in_book, last_line, ok_line, stop_text, name_in};
 ghost use Rattle.verdict_book.specs.Stops.{IsFault, StopsAtFault};
 
 use crate::{Outcome, Piece, put_pieces};

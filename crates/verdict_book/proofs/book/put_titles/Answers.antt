@@ -1,8 +1,7 @@
 use Rattle.std.proofs.Common.{◌≡◌, ◌≤◌, ◌<◌, ◌∙◌, ◌++◌, ◌+◌, ℕ, List, [], arith, ap, sym, drop, get_or, length, take}
 use Rattle.dk_io.proofs.Gather.{moves_then}
 use Rattle.verdict_book.specs.Places.{total}
-use Rattle.verdict_book.specs.Report.{ok_line}
-use Rattle.verdict_book.specs.Books.{name_in}
+use Rattle.verdict_book.specs.Report.{ok_line, name_in}
 use Rattle.verdict_book.specs.declared.title.Spot.{Spot}
 use Rattle.verdict_book.proofs.Lines.{names_next, oks_cut}
 use Rattle.verdict_book.proofs.Naming.{known_there, read_own, total_next}

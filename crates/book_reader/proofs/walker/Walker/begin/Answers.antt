@@ -3,7 +3,7 @@ use Rattle.std.specs.Prelude.{reverse}
 use Rattle.dk_io.specs.Bytes.{Opens}
 use Rattle.book_reader.specs.Ends.{AreBegun}
 use Rattle.book_reader.specs.Shelves.{shelf_of}
-use Rattle.book_reader.specs.Walkers.{Open, open_of, setting_of}
+use Rattle.book_reader.specs.Walkers.{Open, books_in, open_of, setting_of}
 use Rattle.book_reader.proofs.Openings.{aside_one}
 use Rattle.book_reader.proofs.Turning.{among_at, begins_walk}
 use Rattle.book_reader.proofs.walker.Walker.begin.Goals as goal
@@ -32,3 +32,6 @@ returns-clause-walks g c = λ books told.
     (begins_walk s o (shelf_of g.H.Shelf c.open_book.new.self) refl refl c.new.ensures.behind
     (subst (λ b. Opens b (s.named None) (g.H.Shelf.left c.open_book.new.self)) told
     (subst (λ x. Opens (g.H.Shelf.books c.args.shelf.now) x (g.H.Shelf.left c.open_book.new.self)) c.deref.ensures c.in-Ok.ensures.opened)))
+
+pub returns-clause-opens : goal.returns-clause-opens
+returns-clause-opens g c = (ap (λ (l : List _). None ∷ books_in (map open_of (reverse l))) c.new-2.ensures.items, c.new-3.ensures)

@@ -7,13 +7,14 @@ use Rattle.theory_walk.specs.BookNames.{book_named}
 use Rattle.file_reader.specs.Progress.{HasBegun}
 use Rattle.book_reader.specs.declared.walker.Frame.{Frame}
 use Rattle.book_reader.specs.Ends.{AreBegun}
+use Rattle.book_reader.specs.Shelved.{MemoryDue}
 use Rattle.book_reader.specs.Shelves.{shelf_of}
 use Rattle.book_reader.specs.Turns.{with_need}
 use Rattle.book_reader.specs.Walkers.{Open, books_in, has, open_of, opens_below, setting_of}
 use Rattle.book_reader.proofs.Keys.{is_new}
 use Rattle.book_reader.proofs.Openings.{at_limit, begun_more, below_count, below_limit, below_more}
 use Rattle.book_reader.proofs.Turning.{among_at, opened_new}
-use Rattle.book_reader.proofs.Ending.{begins_so, memory_at_need, opening_failed, too_many_files, too_many_modules}
+use Rattle.book_reader.proofs.Ending.{begins_so, memory_at_need, newly_opened, opening_failed, too_many_files, too_many_modules}
 use Rattle.book_reader.proofs.walker.Walker.open.Goals as goal
 
 pub add-requires : goal.add-requires
@@ -131,12 +132,7 @@ returns-clause-walks g c = λ books done d told st.
     let n : Open = record { book = Some c.args.name; reader = c.new.result; pending = [] } in
     let name_is : c.deref.result.now ≡ book_named (string_bytes w.root.file) (Some c.args.name) =
     c.deref.ensures ∙ c.in-Ok.ensures ∙ ap (λ f. book_named f (Some c.as_slice.result.now)) c.as_bytes.ensures.value ∙ ap (λ m. book_named (string_bytes w.root.file) (Some m)) c.as_slice.ensures in
-    among_at s done (n ∷ open_of w.top ∷ opens_below w) _ (w.opened ++ c.args.name ∷ []) _ (shelf_of g.H.Shelf c.open_book.new.self)
-    (ap (λ o. o ∷ map open_of (reverse c.push_reserved.new.self.items)) (ap open_of c.replace-below.ensures.after)
-    ∙ ap (λ l. n ∷ l) (below_more c.push_reserved.new.self.items c.reserve.new.self.items c.replace-below.result c.push_reserved.ensures.items
-    ∙ ap (λ f. open_of f ∷ map open_of (reverse c.reserve.new.self.items)) c.replace-below.ensures.value
-    ∙ ap (λ l. open_of w.top ∷ map open_of (reverse l)) c.in-Ok-reserve.ensures.items))
-    (c.in-Ok-add.ensures.ok ∙ ap (λ m. w.opened ++ m ∷ []) c.as_slice-2.ensures)
+    let both = newly_opened s n (open_of w.top ∷ opens_below w) (w.opened ++ c.args.name ∷ []) (shelf_of g.H.Shelf c.open_book.new.self) done refl
     (opened_new s o (open_of w.top) n (opens_below w) w.opened (shelf_of g.H.Shelf c.args.shelf.now) (shelf_of g.H.Shelf c.open_book.new.self) done d c.args.line c.args.name
     c.requires.standing few
     (below_limit w.root.most.modules (length w.opened) (omega (arith, c.if-len-self-2.false, c.len-2.ensures)))
@@ -144,4 +140,13 @@ returns-clause-walks g c = λ books done d told st.
     (subst (λ b. Opens b (s.named (Some c.args.name)) (g.H.Shelf.left c.open_book.new.self)) told
     (subst (λ x. Opens (g.H.Shelf.books c.args.shelf.now) x (g.H.Shelf.left c.open_book.new.self)) name_is c.in-Ok-open_book.ensures.opened))
     (c.in-Ok-open_book.ensures.aside ∙ ap (λ b. put_aside b (g.H.Shelf.left c.args.shelf.now) (g.H.Shelf.aside c.args.shelf.now)) c.requires.ready.room.is_open)
-    st)
+    st) in (
+      among_at s done (n ∷ open_of w.top ∷ opens_below w) _ (w.opened ++ c.args.name ∷ []) _ (shelf_of g.H.Shelf c.open_book.new.self)
+      (ap (λ o. o ∷ map open_of (reverse c.push_reserved.new.self.items)) (ap open_of c.replace-below.ensures.after)
+      ∙ ap (λ l. n ∷ l) (below_more c.push_reserved.new.self.items c.reserve.new.self.items c.replace-below.result c.push_reserved.ensures.items
+      ∙ ap (λ f. open_of f ∷ map open_of (reverse c.reserve.new.self.items)) c.replace-below.ensures.value
+      ∙ ap (λ l. open_of w.top ∷ map open_of (reverse l)) c.in-Ok-reserve.ensures.items))
+      (c.in-Ok-add.ensures.ok ∙ ap (λ m. w.opened ++ m ∷ []) c.as_slice-2.ensures)
+      both.0,
+      subst (λ k. MemoryDue s (length done) (record { book = k; line = 1 })) (sym (ap (λ (f : Frame). f.«module») c.replace-below.ensures.after)) both.1,
+    )

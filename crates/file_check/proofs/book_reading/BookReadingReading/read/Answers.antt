@@ -1,29 +1,47 @@
-use Rattle.std.proofs.Common.{◌≤◌, ◌∙◌, Bool, List, length, refl, ap, subst, sym}
+use Rattle.std.proofs.Common.{◌≤◌, ◌∙◌, Bool, List, length, refl, ap, subst, sym, Some}
+use Rattle.dk_io.specs.Bytes.{Books}
 use Rattle.dk_model.specs.declared.limits.Limits.{Limits}
-use Rattle.file_report.specs.Jobs.{titles_of}
+use Rattle.board_core.specs.Machine.{MayEnd}
+use Rattle.file_report.specs.Jobs.{job_titles}
+use Rattle.book_reader.specs.declared.walker.Root.{Root}
+use Rattle.book_reader.specs.Shelves.{shelf_of}
+use Rattle.book_reader.specs.Walkers.{setting_of}
 use Rattle.file_check.specs.declared.job.Job.{Job}
+use Rattle.file_check.specs.Desks.{known_at, seen_at}
+use Rattle.file_check.specs.Halts.{end_at}
 use Rattle.file_check.specs.Jobs.{job_of}
-use Rattle.file_check.specs.Desks.{EndsBook, known_at}
+use Rattle.file_check.specs.Lecterns.{EndsBooks}
 use Rattle.file_check.proofs.book_reading.BookReadingReading.read.Goals as goal
+
+pub seal-sealed-requires-clause-may_end : goal.seal-sealed-requires-clause-may_end
+seal-sealed-requires-clause-may_end g c =
+    let new = c.read-halt.new.self in
+    subst (MayEnd (seen_at new.desk)) (sym (c.end_at-end.ensures ∙ ap (λ m. end_at m c.read-halt.result) c.into_module.ensures)) c.read-halt.ensures.may_end
 
 pub returns : goal.returns
 returns g c =
-    let old = c.args.self.desk in
-    let desk = c.enter_book-end.new.desk in
-    let read = c.enter_book-end.ensures in
-    let e = c.enter_book-end.result in
+    let old = c.args.self.lectern in
+    let new = c.read-halt.new.self in
+    let read = c.read-halt.ensures in
+    let why = c.read-halt.result in
+    let shelf = shelf_of g.H.Shelf c.read-halt.new.shelf in
+    let book = new.walker.top.«module» in
     let sealed = c.seal-sealed.ensures in (
       refl,
       sealed.own,
-      sealed.made ∙ read.made,
+      sealed.made ∙ read.keeps.made,
       record {
-        end = e;
-        few = subst (λ (js : List (Job × Bool)). length js ≤ old.limits.commands) (sym sealed.jobs) (subst (λ (l : Limits). length (known_at desk) ≤ l.commands) read.limits read.sound.few);
-        ends = λ bytes left. subst (λ (js : List (Job × Bool)). EndsBook old.limits old.budget bytes (g.H.Shelf.left c.enter_book-end.new.shelf) js e) (sym sealed.jobs) (read.ends bytes left);
-        books = read.books;
-        faults = read.faults;
-        missed = read.missed;
-        sealed_by = sealed.end;
-        titled = sealed.titles ∙ ap (titles_of job_of) (sym sealed.jobs);
+        book = book;
+        why = why;
+        few = subst (λ (js : List (Job × Bool)). length js ≤ old.walker.root.limits.commands) (sym sealed.jobs)
+            (subst (λ (l : Limits). length (known_at new.desk) ≤ l.commands) (read.keeps.limits ∙ c.requires.0.ready.limits) read.sound.few);
+        ends = λ (all : Books) told.
+            subst (λ (js : List (Job × Bool)). EndsBooks (setting_of old.walker.root all) old.desk.budget shelf js book why) (sym sealed.jobs)
+            (subst (λ b. EndsBooks (setting_of old.walker.root all) b shelf (known_at new.desk) book why) read.keeps.budget
+            (subst (λ (r : Root). EndsBooks (setting_of r all) new.desk.budget shelf (known_at new.desk) book why) read.keeps.root (read.ends all told)));
+        books_are = read.books;
+        counts = read.counts;
+        sealed_by = sealed.end ∙ ap Some (c.end_at-end.ensures ∙ ap (λ m. end_at m why) c.into_module.ensures);
+        titled = sealed.titles ∙ ap (job_titles job_of) (sym sealed.jobs);
       },
     )

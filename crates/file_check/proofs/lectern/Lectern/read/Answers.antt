@@ -1,0 +1,21 @@
+use Rattle.std.proofs.Common.{◌∙◌, sym}
+use Rattle.file_check.proofs.Steps.{keeps_then}
+use Rattle.file_check.proofs.lectern.Lectern.read.Goals as goal
+
+pub turns-preserved : goal.turns-preserved
+turns-preserved g c =
+    let inv = c.turns.invariant in
+    let e = c.in-Ok.ensures in
+    record {
+      own = e.own ∙ sym c.requires.own;
+      keeps = keeps_then c.args.self.now c.turns.self c.step.new.self inv.keeps e.keeps;
+      ready = e.ready;
+      books = e.books ∙ inv.books;
+      counts = (e.counts.0 ∙ inv.counts.0, λ name. e.counts.1 name ∙ inv.counts.1 name);
+      stands = λ all told. let h = inv.stands all told in e.stands all h.0 (inv.books ∙ told) h.1;
+    }
+
+pub returns-in-Err-clause-ends : goal.returns-in-Err-clause-ends
+returns-in-Err-clause-ends g c = λ all told.
+    let h = c.turns.invariant.stands all told in
+    c.in-Err.ensures.stands all h.0 (c.turns.invariant.books ∙ told) h.1
