@@ -3,7 +3,8 @@ ghost use Rattle.std.specs.Prelude.{◌≡◌, ◌<◌, [], IfErr, IfOk, map};
 ghost use Rattle.std.specs.String.{string_bytes};
 ghost use Rattle.command_line.specs.Requests.{request_of};
 ghost use Rattle.dk_model.specs.Limits.{standard};
-ghost use Rattle.dk_check_run.specs.Run.{shelf_of, sink_of};
+ghost use Rattle.book_reader.specs.Shelves.{shelf_of};
+ghost use Rattle.dk_check_run.specs.Run.{sink_of};
 ghost use Rattle.dk_check_run.specs.Table.{Runs};
 ghost use Rattle.dk_check_cli.specs.Calls.{status_without_words};
 

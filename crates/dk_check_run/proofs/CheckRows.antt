@@ -1,146 +1,231 @@
--- What the check of a book comes to is a row of `check`.
-use Rattle.std.proofs.Common.{◌≡◌, ◌⊎◌, ◌+◌, inl, inr, ℕ, List, [], length, refl, sym, ap, subst, ◌∙◌, arith}
+-- What the check of a file and of its modules comes to is a row of `check`.
+use Rattle.std.proofs.Common.{◌≡◌, ◌⊎◌, ◌+◌, ◌≤◌, inl, inr, ℕ, List, [], length, take, refl, sym, ap, subst, ◌∙◌, arith}
 use Rattle.std.specs.Prelude.{Bool, true, false, Option, Some, None}
-use Rattle.dk_io.specs.Bytes.{Books, Opens}
+use Rattle.std.specs.String.{string_bytes}
+use Rattle.dk_io.specs.Bytes.{Books}
 use Rattle.dk_io.specs.Causes.{Rose}
 use Rattle.dk_model.specs.declared.limits.Limits.{Limits}
 use Rattle.dk_model.specs.declared.code.Verdict.{Verdict}
 use Rattle.dk_model.specs.declared.code.Verdict.TheVariants as verdict
-use Rattle.dk_lexer.specs.Tokens.{broken, whole}
 use Rattle.command_line.specs.Requests.{CheckRequest, to_check}
+use Rattle.board_core.specs.declared.event.Event.{Event}
 use Rattle.board_core.specs.declared.event.Place.{Place}
-use Rattle.board_core.specs.Places.{in_file}
 use Rattle.verdict_book.specs.Report.{FileReport, nowhere, report_of, status_of}
 use Rattle.verdict_book.specs.declared.outcome.Outcome.{Outcome}
 use Rattle.verdict_book.specs.declared.outcome.Outcome.TheVariants.{Accepted, Stopped, Unread, Unopened}
-use Rattle.file_report.specs.Histories.{EndsInMemory}
-use Rattle.theory_walk.specs.Lines.{IsCutByMemory}
-use Rattle.file_check.specs.Counts.{CountsAt, EndsGiven, EndsOn}
-use Rattle.file_check.specs.Shelves.{HasHeld, ShelfState}
-use Rattle.dk_check_run.specs.Books.{IsOfBook, IsOfGiven}
+use Rattle.verdict_book.specs.declared.title.Title.{Title}
+use Rattle.theory_walk.specs.declared.needs.ModuleLimits.{ModuleLimits}
+use Rattle.theory_walk.specs.BookNames.{book_named, folder_of}
+use Rattle.theory_walk.specs.Libraries.{Key, Library}
+use Rattle.theory_walk.specs.Walks.{Spot}
+use Rattle.book_reader.specs.declared.walker.Root.{Root}
+use Rattle.book_reader.specs.Shelved.{Given, IsDueAt, MemoryDue, Setting, walk_in, whole_library, without}
+use Rattle.book_reader.specs.Shelves.{HasHeld, ShelfState}
+use Rattle.file_check.specs.Checks.{ChecksShelf, LeavesUnread}
+use Rattle.file_check.specs.Counts.{Counted, CountsAt, EndsGiven, EndsInMemory, EndsOn, Failure, given_till, of_opening, of_read}
+use Rattle.file_check.specs.Counts as counts
+
+use Rattle.dk_check_run.specs.Books.{IsOfBooks, asked_setting, report_in, standard_modules}
 use Rattle.dk_check_run.specs.Check as check
-use Rattle.dk_check_run.specs.Rows.{books, given, unread, unopened, memory}
-use Rattle.dk_check_run.specs.Run.{SinkState, Writes, memory_at_once, text_of}
+use Rattle.dk_check_run.specs.Roots.{IsRootOf}
+use Rattle.dk_check_run.specs.Rows.{HasMissed, books, given, unread, unopened, memory}
+use Rattle.dk_check_run.specs.Run.{IsDecided, LeavesBooks, SinkState, Writes, memory_at_once, text_of, text_with}
 use Rattle.dk_check_run.specs.Run as line
 use Rattle.dk_check_run.specs.Table.{RunsCommand}
+use Rattle.dk_check_run.proofs.Settings.{fold_is, root_asked}
 
--- what is known of any bytes that the opened book has is known of the told book
-of_book : (held : Option Books) (name : List ℕ) (left : Option (List ℕ)) (P : List ℕ → Type 0) → Opens held name left → ((bytes : List ℕ) → left ≡ Some bytes → P bytes) → IsOfBook held name P
-of_book None name left P opens f = tt
-of_book (Some shelf) name left P (bytes, has, is) f = (bytes, has, f bytes is)
+-- what is so of any books that the shelf tells is so of those that are told
+of_books : (limits : Limits) (q : CheckRequest) (told : Option Books) (P : Setting → Type 0) → ((held : Books) → told ≡ Some held → P (asked_setting limits q held)) → IsOfBooks limits q told P
+of_books limits q None P f = tt
+of_books limits q (Some held) P f = f held refl
 
--- one of two is so of the told book, and the counts say which where none is told
-of_either : (held : Option Books) (name : List ℕ) (left : Option (List ℕ)) (A C : List ℕ → Type 0) (B D : Type 0) → Opens held name left
-    → ((bytes : List ℕ) → left ≡ Some bytes → A bytes × (B ⊎ (D × C bytes))) → B ⊎ D → (B × IsOfBook held name A) ⊎ (D × IsOfBook held name (λ bytes. A bytes × C bytes))
-of_either None name left A C B D opens f (inl b) = inl (b, tt)
-of_either None name left A C B D opens f (inr d) = inr (d, tt)
-of_either (Some shelf) name left A C B D (bytes, has, is) f counts = let at = f bytes is in elim at.1 [
-  | inl b ↦ inl (b, (bytes, has, at.0))
-  | inr c ↦ inr (c.0, (bytes, has, (at.0, c.1)))
-]
+-- a failed call raised a count
+counted_any : (named : Key → List ℕ) (old new : ShelfState) (failure : Failure) → Counted named old new failure → Rose old.faults new.faults ⊎ HasMissed old new
+counted_any named old new of_read rose = inl rose
+counted_any named old new (of_opening m) rose = inr (named (Some m), rose)
 
-at_once : (quiet : Bool) → report_of [] (Stopped 0 nowhere verdict.Memory) 0 quiet [] ≡ memory_at_once
-at_once true = refl
-at_once false = refl
+at_once : (quiet : Bool) (folder : List ℕ) → report_of [] (Stopped 0 nowhere verdict.Memory) 0 quiet folder ≡ memory_at_once
+at_once true folder = refl
+at_once false folder = refl
 
 module _ (limits : Limits) (q : CheckRequest) (old new : ShelfState) (before after : SinkState) (result : ℕ) where
   -- a row of `check` was written
   abbrev pub Row : Type 0
   Row = RunsCommand limits (to_check q) old new before after result
 
-  pub missed_row : new.left ≡ old.left → Rose (old.missed q.file) (new.missed q.file) → Writes before after (line.unopened q.file) 3 result → Row
-  missed_row left rose w = record { cause = unopened q.file; status = 3; text = line.unopened q.file; row = check.of_a_failed_opening left; shows = (refl, rose); writes = w }
+  pub missed_row : LeavesBooks old new → Rose (old.missed q.file) (new.missed q.file) → Writes before after (line.unopened q.file) 3 result → Row
+  missed_row leaves rose w = record { cause = unopened q.file; status = 3; text = line.unopened q.file; row = check.of_a_failed_opening leaves; shows = (refl, rose); writes = w }
 
   pub no_memory_row : Writes before after memory_at_once 4 result → Row
   no_memory_row w = record { cause = memory; status = 4; text = memory_at_once; row = check.of_no_memory; shows = refl; writes = w }
 
-  module _ (opened : ShelfState) (opens : Opens old.books q.file opened.left) (same : HasHeld old opened) (names : List (List ℕ)) where
+  module _ (names : List (List ℕ)) where
     abbrev reported : Outcome → FileReport
     reported o = record { names = names; outcome = o }
 
     abbrev pub Written : Outcome → Type 0
-    Written o = Writes before after (report_of names o q.budget q.quiet []) (status_of o) result
+    Written o = Writes before after (text_with q names o) (status_of o) result
 
-    abbrev Own : Outcome → List ℕ → Type 0
-    Own o = check.IsReport limits q (reported o) whole
+    abbrev pub Ends : Outcome → Type 0
+    Ends o = (held : Books) → old.books ≡ Some held → EndsOn (asked_setting limits q held) q.budget old new names o
 
-    abbrev Given : Outcome → List ℕ → Type 0
-    Given o bytes = IsOfGiven bytes new.left (check.IsReport limits q (reported o) broken)
+    -- the report is also that of the fold
+    folded : (s : Setting) (lib : Library) (o : Outcome) → counts.report_in s q.budget lib ≡ reported o → check.IsReport q (reported o) s lib
+    folded s lib o is = fold_is s q.budget lib ∙ is
 
-    held_over : HasHeld opened new → HasHeld old new
-    held_over held = record { faults = held.faults ∙ same.faults; missed = λ name. held.missed name ∙ same.missed name }
+    abbrev Own : Outcome → Setting → Type 0
+    Own o s = check.IsReport q (reported o) s (whole_library s)
 
-    rose_over : Rose opened.faults new.faults → Rose old.faults new.faults
-    rose_over rose = subst (λ count. Rose count new.faults) same.faults rose
-
-    own_row : (o : Outcome) → line.IsDecided (status_of o) → HasHeld opened new → IsOfBook old.books q.file (Own o) → Written o → Row
+    own_row : (o : Outcome) → IsDecided (status_of o) → HasHeld old new → IsOfBooks limits q old.books (Own o) → Written o → Row
     own_row o decided held own w =
-        record { cause = books; status = status_of o; text = text_of q (reported o); row = check.of_the_file (reported o) own; shows = (decided, held_over held); writes = w }
+        record { cause = books; status = status_of o; text = text_of q (reported o); row = check.of_the_books (reported o) own; shows = (decided, held); writes = w }
 
-    -- the file stopped, and the shelf held, or a read failed behind that command
-    stopped_row : (number : ℕ) (place : Place) (v : Verdict) → (status_of (Stopped number place v) ≡ 1) ⊎ (status_of (Stopped number place v) ≡ 6)
-        → ((bytes : List ℕ) → opened.left ≡ Some bytes → Own (Stopped number place v) bytes × (HasHeld opened new ⊎ (Rose opened.faults new.faults × Given (Stopped number place v) bytes)))
-        → HasHeld opened new ⊎ Rose opened.faults new.faults → Written (Stopped number place v) → Row
-    stopped_row number place v is ends counts w =
-        elim (of_either old.books q.file opened.left (Own (Stopped number place v)) (Given (Stopped number place v)) (HasHeld opened new) (Rose opened.faults new.faults) opens ends counts) [
-          | inl own ↦ own_row (Stopped number place v) (inr is) own.0 own.1 w
-          | inr g ↦ record {
-            cause = given;
-            status = status_of (Stopped number place v);
-            text = text_of q (reported (Stopped number place v));
-            row = check.of_the_given (reported (Stopped number place v)) number place v refl (rose_over g.0) g.1;
-            shows = (is, inl (rose_over g.0));
-            writes = w;
-          }
-        ]
+    -- a command stopped the theory, and the shelf held, or a call failed behind that command
+    module _ (number : ℕ) (place : Place) (v : Verdict) where
+      abbrev outcome : Outcome
+      outcome = Stopped number place v
 
-    abbrev Cut : ℕ → Place → List ℕ → Type 0
-    Cut number place bytes = (line : ℕ) × (place ≡ in_file line) × IsCutByMemory limits q.budget bytes whole names number line
-        × (HasHeld old new ⊎ IsOfGiven bytes new.left (λ given. IsCutByMemory limits q.budget given broken names number line))
+      abbrev GivenSo : Failure → Setting → Type 0
+      GivenSo failure s = Own outcome s × check.IsOfGiven new failure s (check.IsReport q (reported outcome) s)
 
-    cut_row : (number : ℕ) (place : Place) → IsOfBook old.books q.file (Cut number place) → Written (Stopped number place verdict.Memory) → Row
-    cut_row number place of w = record { cause = memory; status = 4; text = text_of q (reported (Stopped number place verdict.Memory)); row = check.of_memory names number place of; shows = refl; writes = w }
+      given_row : (status_of outcome ≡ 1) ⊎ (status_of outcome ≡ 6) → (failure : Failure) → Counted (book_named q.file) old new failure → IsOfBooks limits q old.books (GivenSo failure) → Written outcome → Row
+      given_row is failure counted of w = record {
+        cause = given;
+        status = status_of outcome;
+        text = text_of q (reported outcome);
+        row = check.of_the_given (reported outcome) number place v failure refl counted of;
+        shows = (is, counted_any (book_named q.file) old new failure counted);
+        writes = w;
+      }
 
-    at_cut : (number line : ℕ) (place : Place) (bytes : List ℕ) → place ≡ in_file line → number ≡ length names + 1 → EndsInMemory limits q.budget bytes broken names number place
-        → IsCutByMemory limits q.budget bytes broken names number line
-    at_cut number line place bytes place_is is (inl none) = let zero : number ≡ 0 = none.1 in absurd (omega (arith, is, zero))
-    at_cut number line place bytes place_is is (inr (other, other_is, cut)) =
-        subst (IsCutByMemory limits q.budget bytes broken names number) (ap (λ (p : Place). p.line) (sym other_is ∙ place_is)) cut
+      -- the report of the whole books and of what was given of them
+      abbrev Stops : Setting → Type 0
+      Stops s = Own outcome s × (HasHeld old new ⊎ ((failure : Failure) × Counted (book_named q.file) old new failure × check.IsOfGiven new failure s (check.IsReport q (reported outcome) s)))
 
-    cut_by : (number line : ℕ) (place : Place) (bytes : List ℕ) → place ≡ in_file line → IsCutByMemory limits q.budget bytes whole names number line
-        → HasHeld opened new ⊎ EndsGiven limits q.budget bytes opened new names (Stopped number place verdict.Memory) → Cut number place bytes
-    cut_by number line place bytes place_is m (inl held) = (line, place_is, m, inl (held_over held))
-    cut_by number line place bytes place_is m (inr g) = (line, place_is, m, inr (g.0, g.1, g.2, g.3, at_cut number line place g.0 place_is m.number_is g.5))
+      stopped_row : (told : Option Books) → old.books ≡ told → (status_of outcome ≡ 1) ⊎ (status_of outcome ≡ 6) → ((held : Books) → old.books ≡ Some held → Stops (asked_setting limits q held))
+          → HasHeld old new ⊎ ((failure : Failure) × Counted (book_named q.file) old new failure) → Written outcome → Row
+      stopped_row None told is ends (inl held) w = own_row outcome (inr is) held (subst (λ b. IsOfBooks limits q b (Own outcome)) (sym told) tt) w
+      stopped_row None told is ends (inr (failure, counted)) w = given_row is failure counted (subst (λ b. IsOfBooks limits q b (GivenSo failure)) (sym told) tt) w
+      stopped_row (Some held) told is ends counts w = let at = ends held told in elim at.1 [
+        | inl stands ↦ own_row outcome (inr is) stands (subst (λ b. IsOfBooks limits q b (Own outcome)) (sym told) at.0) w
+        | inr g ↦ given_row is g.0 g.1 (subst (λ b. IsOfBooks limits q b (GivenSo g.0)) (sym told) (at.0, g.2)) w
+      ]
 
-    in_memory : (held : Option Books) → old.books ≡ held → Opens held q.file opened.left → (number : ℕ) (place : Place)
-        → ((bytes : List ℕ) → opened.left ≡ Some bytes → EndsOn limits q.budget bytes opened new names (Stopped number place verdict.Memory)) → Written (Stopped number place verdict.Memory) → Row
-    in_memory None is op number place ends w = cut_row number place (subst (λ b. IsOfBook b q.file (Cut number place)) (sym is) tt) w
-    in_memory (Some shelf) is (bytes, has, left) number place ends w = by_end (ends bytes left).0 (ends bytes left).1
-      where
-        by_end : EndsInMemory limits q.budget bytes whole names number place → HasHeld opened new ⊎ EndsGiven limits q.budget bytes opened new names (Stopped number place verdict.Memory) → Row
-        by_end (inl m) how = no_memory_row (subst (λ t. Writes before after t 4 result) (ap (λ ns. report_of ns (Stopped number place verdict.Memory) q.budget q.quiet []) m.0
-            ∙ ap (λ k. report_of [] (Stopped k place verdict.Memory) q.budget q.quiet []) m.1 ∙ ap (λ p. report_of [] (Stopped 0 p verdict.Memory) q.budget q.quiet []) m.2 ∙ at_once q.quiet) w)
-        by_end (inr (line, place_is, m)) how = cut_row number place (subst (λ b. IsOfBook b q.file (Cut number place)) (sym is) (bytes, has, cut_by number line place bytes place_is m how)) w
+    -- ---- memory
 
-    pub book_row : (o : Outcome) → ((bytes : List ℕ) → opened.left ≡ Some bytes → EndsOn limits q.budget bytes opened new names o) → CountsAt opened new o → Written o → Row
-    book_row (Accepted n) ends counts w =
-        own_row (Accepted n) (inl refl) counts (of_book old.books q.file opened.left (Own (Accepted n)) opens (λ bytes left. (ends bytes left).0)) w
-    book_row (Unopened name) ends counts w = absurd counts
-    book_row (Unread n place) ends counts w = record {
+    abbrev Cut : ℕ → Place → Setting → Type 0
+    Cut number place s = check.IsCutByMemory q s (MemoryDue s) (whole_library s) names number place
+        × (HasHeld old new ⊎ ((failure : Failure) × Counted (book_named q.file) old new failure × check.IsOfGiven new failure s (λ lib. check.IsCutByMemory q s (IsDueAt (walk_in s lib)) lib names number place)))
+
+    cut_row : (number : ℕ) (place : Place) → IsOfBooks limits q old.books (Cut number place) → Written (Stopped number place verdict.Memory) → Row
+    cut_row number place of w =
+        record { cause = memory; status = 4; text = text_with q names (Stopped number place verdict.Memory); row = check.of_memory names number place of; shows = refl; writes = w }
+
+    cut_folded : (s : Setting) (may_be : ℕ → Spot → Type 0) (lib : Library) (number : ℕ) (place : Place) → counts.IsCutByMemory s q.budget may_be lib names number place
+        → check.IsCutByMemory q s may_be lib names number place
+    cut_folded s may_be lib number place cut = record {
+      within = subst (λ (r : FileReport). length names ≤ length r.names) (sym (fold_is s q.budget lib)) cut.within;
+      names_are = subst (λ (r : FileReport). names ≡ take (length names) r.names) (sym (fold_is s q.budget lib)) cut.names_are;
+      number_is = cut.number_is;
+      spot = cut.spot;
+      place_is = cut.place_is;
+      due = cut.memory;
+    }
+
+    -- `memory 0 line 0` stands for no cut at a command
+    of_cut : (s : Setting) (may_be : ℕ → Spot → Type 0) (lib : Library) (number : ℕ) (place : Place) → number ≡ length names + 1 → EndsInMemory s q.budget may_be lib names number place
+        → check.IsCutByMemory q s may_be lib names number place
+    of_cut s may_be lib number place is (inl none) = let zero : number ≡ 0 = none.1 in absurd (omega (arith, is, zero))
+    of_cut s may_be lib number place is (inr cut) = cut_folded s may_be lib number place cut
+
+    given_cut : (s : Setting) (number : ℕ) (place : Place) → number ≡ length names + 1 → HasHeld old new ⊎ ((failure : Failure) × EndsGiven s q.budget old new names (Stopped number place verdict.Memory) failure)
+        → HasHeld old new ⊎ ((failure : Failure) × Counted s.named old new failure × check.IsOfGiven new failure s (λ lib. check.IsCutByMemory q s (IsDueAt (walk_in s lib)) lib names number place))
+    given_cut s number place is (inl held) = inl held
+    given_cut s number place is (inr (failure, g)) = inr (failure, g.counted, (g.given, g.left, of_cut s _ _ number place is g.reports))
+
+    -- of one setting
+    cut_in : (s : Setting) (number : ℕ) (place : Place) → EndsInMemory s q.budget (MemoryDue s) (whole_library s) names number place
+        → HasHeld old new ⊎ ((failure : Failure) × EndsGiven s q.budget old new names (Stopped number place verdict.Memory) failure)
+        → ((names ≡ []) × (number ≡ 0) × (place ≡ nowhere)) ⊎ (check.IsCutByMemory q s (MemoryDue s) (whole_library s) names number place
+        × (HasHeld old new ⊎ ((failure : Failure) × Counted s.named old new failure × check.IsOfGiven new failure s (λ lib. check.IsCutByMemory q s (IsDueAt (walk_in s lib)) lib names number place))))
+    cut_in s number place (inl none) how = inl none
+    cut_in s number place (inr cut) how = inr (cut_folded s _ _ number place cut, given_cut s number place cut.number_is how)
+
+    -- memory ended before anything was begun
+    none_row : (number : ℕ) (place : Place) → (names ≡ []) × (number ≡ 0) × (place ≡ nowhere) → Written (Stopped number place verdict.Memory) → Row
+    none_row number place m w = no_memory_row (subst (λ t. Writes before after t 4 result) (ap (λ ns. report_of ns (Stopped number place verdict.Memory) q.budget q.quiet (folder_of q.file)) m.0
+        ∙ ap (λ k. report_of [] (Stopped k place verdict.Memory) q.budget q.quiet (folder_of q.file)) m.1
+        ∙ ap (λ p. report_of [] (Stopped 0 p verdict.Memory) q.budget q.quiet (folder_of q.file)) m.2 ∙ at_once q.quiet (folder_of q.file)) w)
+
+    in_memory : (told : Option Books) → old.books ≡ told → (number : ℕ) (place : Place) → Ends (Stopped number place verdict.Memory) → Written (Stopped number place verdict.Memory) → Row
+    in_memory None told number place ends w = cut_row number place (subst (λ b. IsOfBooks limits q b (Cut number place)) (sym told) tt) w
+    in_memory (Some held) told number place ends w = elim (cut_in (asked_setting limits q held) number place (ends held told).0 (ends held told).1) [
+      | inl none ↦ none_row number place none w
+      | inr cut ↦ cut_row number place (subst (λ b. IsOfBooks limits q b (Cut number place)) (sym told) cut) w
+    ]
+
+    abbrev asked : Books → Setting
+    asked held = asked_setting limits q held
+
+    -- a command stopped the theory, and nothing else is known of its verdict than the report
+    stops : (number : ℕ) (place : Place) (v : Verdict) (held : Books) → counts.report_in (asked held) q.budget (whole_library (asked held)) ≡ reported (Stopped number place v)
+        → ((failure : Failure) (given : List Given) → counts.Reports (asked held) q.budget (given_till (asked held) given failure) names (Stopped number place v)
+        → counts.report_in (asked held) q.budget (given_till (asked held) given failure) ≡ reported (Stopped number place v))
+        → HasHeld old new ⊎ ((failure : Failure) × EndsGiven (asked held) q.budget old new names (Stopped number place v) failure) → Stops number place v (asked held)
+    stops number place v held own reports (inl stands) = (folded (asked held) (whole_library (asked held)) (Stopped number place v) own, inl stands)
+    stops number place v held own reports (inr (failure, g)) = (
+      folded (asked held) (whole_library (asked held)) (Stopped number place v) own,
+      inr (failure, g.counted, (g.given, g.left, folded (asked held) (given_till (asked held) g.given failure) (Stopped number place v) (reports failure g.given g.reports))),
+    )
+
+    pub book_row : (o : Outcome) → Ends o → CountsAt (book_named q.file) old new o → Written o → Row
+    book_row (Accepted n) ends held w =
+        own_row (Accepted n) (inl refl) held
+        (of_books limits q old.books (Own (Accepted n)) (λ held is. folded (asked held) (whole_library (asked held)) (Accepted n) (ends held is).0)) w
+    book_row (Unread n place) ends rose w = record {
       cause = unread;
       status = 3;
       text = text_of q (reported (Unread n place));
       row = check.of_a_failed_read (reported (Unread n place)) n place refl
-          (of_book old.books q.file opened.left (Given (Unread n place)) opens (λ bytes left. let g = ends bytes left in (g.0, g.1, g.2, g.3, g.5)));
-      shows = (refl, rose_over counts);
+          (of_books limits q old.books (λ s. check.IsOfGiven new of_read s (check.IsReport q (reported (Unread n place)) s))
+          (λ held is. let g = ends held is in (g.given, g.left, folded (asked held) (given_till (asked held) g.given of_read) (Unread n place) g.reports)));
+      shows = (refl, rose);
       writes = w;
     }
-    book_row (Stopped n place verdict.Accepted) ends counts w =
-        own_row (Stopped n place verdict.Accepted) (inl refl) counts (of_book old.books q.file opened.left (Own (Stopped n place verdict.Accepted)) opens (λ bytes left. (ends bytes left).0)) w
-    book_row (Stopped n place (verdict.Refused code)) ends counts w =
-        stopped_row n place (verdict.Refused code) (inl refl)
-        (λ bytes left. let e = ends bytes left in (e.0, elim e.1 [ inl held ↦ inl held | inr g ↦ inr (g.4, (g.0, g.1, g.2, g.3, g.5)) ])) counts w
-    book_row (Stopped n place verdict.Ended) ends counts w =
-        stopped_row n place verdict.Ended (inr refl)
-        (λ bytes left. let e = ends bytes left in (e.0, elim e.1 [ inl held ↦ inl held | inr g ↦ inr (g.4, (g.0, g.1, g.2, g.3, g.5)) ])) counts w
-    book_row (Stopped n place verdict.Memory) ends counts w = in_memory old.books refl opens n place ends w
+    book_row (Unopened m) ends rose w = record {
+      cause = unopened (book_named q.file (Some m));
+      status = 3;
+      text = text_of q (reported (Unopened m));
+      row = check.of_a_missing_module (reported (Unopened m)) m refl
+          (of_books limits q old.books
+          (λ s. check.IsReport q (reported (Unopened m)) s (without (Some m) (whole_library s)) × check.IsOfGiven new (of_opening m) s (check.IsReport q (reported (Unopened m)) s))
+          (λ held is. let g = (ends held is).0 in (
+            folded (asked held) (without (Some m) (whole_library (asked held))) (Unopened m) (ends held is).1,
+            (g.given, g.left, folded (asked held) (given_till (asked held) g.given (of_opening m)) (Unopened m) g.reports),
+          )));
+      shows = (refl, rose);
+      writes = w;
+    }
+    book_row (Stopped n place verdict.Accepted) ends held w =
+        own_row (Stopped n place verdict.Accepted) (inl refl) held
+        (of_books limits q old.books (Own (Stopped n place verdict.Accepted)) (λ held is. folded (asked held) (whole_library (asked held)) (Stopped n place verdict.Accepted) (ends held is).0)) w
+    book_row (Stopped n place (verdict.Refused code)) ends how w =
+        stopped_row n place (verdict.Refused code) old.books refl (inl refl)
+        (λ held is. stops n place (verdict.Refused code) held (ends held is).0 (λ failure given reports. reports) (ends held is).1) how w
+    book_row (Stopped n place verdict.Ended) ends how w =
+        stopped_row n place verdict.Ended old.books refl (inr refl) (λ held is. stops n place verdict.Ended held (ends held is).0 (λ failure given reports. reports) (ends held is).1) how w
+    book_row (Stopped n place verdict.Memory) ends how w = in_memory old.books refl n place ends w
+
+-- the file was read under the name that was asked for
+module _ (limits : Limits) (q : CheckRequest) (most : ModuleLimits) (root : Root) (is : IsRootOf limits most q.file root) (standard : most ≡ standard_modules) (old new : ShelfState) (before after : SinkState) (result : ℕ) where
+  pub checked_row : (titles : List Title) (events : List Event) → (checks : ChecksShelf root q.budget old new titles events)
+      → Writes before after (text_of q checks.report) (status_of checks.report.outcome) result → RunsCommand limits (to_check q) old new before after result
+  checked_row titles events checks w =
+      book_row limits q old new before after result checks.report.names checks.report.outcome
+      (λ held told. subst (λ s. EndsOn s q.budget old new checks.report.names checks.report.outcome) (root_asked limits q most root held is standard) (checks.ends held told))
+      (subst (λ file. CountsAt (book_named file) old new checks.report.outcome) is.file_is checks.counts) w
+
+  pub unopened_row : LeavesUnread (string_bytes root.file) old new → Writes before after (line.unopened q.file) 3 result → RunsCommand limits (to_check q) old new before after result
+  unopened_row leaves w =
+      missed_row limits q old new before after result (record { left = leaves.left; aside = leaves.aside; is_open = leaves.is_open })
+      (subst (λ file. Rose (old.missed file) (new.missed file)) is.file_is leaves.missed) w

@@ -1,44 +1,25 @@
 -- The clauses of `run` about `check` and `make`, each from the one clause.
-use Rattle.std.proofs.Common.{◌≡◌, ◌≢◌, inl, inr, ℕ, List, refl, sym, ap, subst, ◌∙◌, arith}
-use Rattle.std.specs.Prelude.{Option, Some}
-use Rattle.dk_io.specs.Bytes.{Books, added, book_of}
+use Rattle.std.proofs.Common.{◌≡◌, ◌≢◌, ◌⊎◌, inl, inr, ℕ, List, refl, sym, ap, subst, ◌∙◌, arith}
+use Rattle.std.specs.Prelude.{Option, None, Some}
+use Rattle.dk_io.specs.Bytes.{Books, added}
 use Rattle.dk_io.specs.Causes.{Rose}
-use Rattle.dk_lexer.specs.Tokens.{broken, whole}
 use Rattle.dk_model.specs.declared.limits.Limits.{Limits}
 use Rattle.command_line.specs.Requests.{CheckRequest, MakeRequest, Request, to_check, to_make}
 use Rattle.verdict_book.specs.Report.{FileReport, status_of}
-use Rattle.file_check.specs.Shelves.{ShelfState}
-use Rattle.dk_check_run.specs.Books.{IsOfBook, IsOfGiven}
-use Rattle.dk_check_run.specs.Run.{AsksFor, HasShelfFault, IsDecided, OpensNothing, ReportsFile, ReportsTheory, SinkState, memory_at_once, report_for, report_made, summary, text_of}
+use Rattle.verdict_book.specs.declared.outcome.Outcome.{Outcome}
+use Rattle.verdict_book.specs.declared.outcome.Outcome.TheVariants.{Unopened, Unread}
+use Rattle.theory_walk.specs.BookNames.{book_named}
+use Rattle.theory_walk.specs.Libraries.{Key}
+use Rattle.book_reader.specs.Shelved.{Setting, whole_library, without}
+use Rattle.book_reader.specs.Shelves.{ShelfState}
+use Rattle.file_check.specs.Counts.{of_opening}
+use Rattle.dk_check_run.specs.Books.{IsOfBooks, asked_setting, report_for, report_made}
+use Rattle.dk_check_run.specs.Run.{AsksFor, HasShelfFault, IsBookDue, IsDecided, OpensNothing, ReportsFile, ReportsTheory, SinkState, memory_at_once, of_a_module, of_a_read, of_the_file, summary, text_of, text_with}
 use Rattle.dk_check_run.specs.Check as check
 use Rattle.dk_check_run.specs.Make as make
 use Rattle.dk_check_run.specs.Rows.{Cause, Shows, memory, of_no_command, of_no_words, of_command}
 use Rattle.dk_check_run.specs.Table.{Runs, RunsCommand, rows_of}
 use Rattle.dk_check_run.proofs.General.{is_status, none_some, some_same, stands}
-
--- ---- `check`
-
--- what is so of the book that the shelf tells
-told : (shelf : Books) (held : Option Books) (name : List ℕ) (bytes : List ℕ) (P : List ℕ → Type 0) → held ≡ Some shelf → book_of shelf name ≡ Some bytes → IsOfBook held name P → P bytes
-told shelf held name bytes P is has of =
-    let at : IsOfBook (Some shelf) name P = subst (λ bs. IsOfBook bs name P) is of in subst P (some_same at.0 bytes (sym at.1 ∙ has)) at.2
-
--- at 0, 1 and 6 the row is the file's own
-module _ (limits : Limits) (q : CheckRequest) (bytes : List ℕ) (old new : ShelfState) (shelf : Books) (is : old.books ≡ Some shelf) (has : book_of shelf q.file ≡ Some bytes) where
-  abbrev pub IsOwn : ℕ → List ℕ → Type 0
-  IsOwn status text = (status ≡ status_of (report_for limits q bytes).outcome) × (text ≡ text_of q (report_for limits q bytes))
-
-  own_at : (r : FileReport) → report_for limits q bytes ≡ r → IsOwn (status_of r.outcome) (text_of q r)
-  own_at r is = (ap (λ (x : FileReport). status_of x.outcome) (sym is), ap (text_of q) (sym is))
-
-  pub check_own : (cause : Cause) (status : ℕ) (text : List ℕ) → check.IsDue limits q old new cause status text → Shows cause status old new → status ≢ 3 → status ≢ 4 → IsOwn status text
-  check_own cause status text (check.of_the_file r of) shows not3 not4 = own_at r (told shelf old.books q.file bytes (check.IsReport limits q r whole) is has of)
-  check_own cause status text (check.of_the_given r number place v outcome_is rose of) shows not3 not4 =
-      own_at r (told shelf old.books q.file bytes (λ bytes. check.IsReport limits q r whole bytes × IsOfGiven bytes new.left (check.IsReport limits q r broken)) is has of).0
-  check_own cause status text (check.of_a_failed_read r number place unread_is of) shows not3 not4 = absurd (not3 shows.0)
-  check_own cause status text (check.of_a_failed_opening left) shows not3 not4 = absurd (not3 refl)
-  check_own cause status text (check.of_memory names number place of) shows not3 not4 = absurd (not4 refl)
-  check_own cause status text check.of_no_memory shows not3 not4 = absurd (not4 refl)
 
 -- the outcome of what was read isn't 3
 decided_not3 : {status : ℕ} {A : Type 0} → IsDecided status → status ≡ 3 → A
@@ -46,27 +27,81 @@ decided_not3 (inl e) three = absurd (omega (arith, e, three))
 decided_not3 (inr (inl e)) three = absurd (omega (arith, e, three))
 decided_not3 (inr (inr e)) three = absurd (omega (arith, e, three))
 
+stopped_not3 : {status : ℕ} {A : Type 0} → (status ≡ 1) ⊎ (status ≡ 6) → status ≡ 3 → A
+stopped_not3 (inl e) three = absurd (omega (arith, e, three))
+stopped_not3 (inr e) three = absurd (omega (arith, e, three))
+
+-- ---- `check`
+
+-- what is so of the books that the shelf tells
+told : (limits : Limits) (q : CheckRequest) (books : Books) (held : Option Books) (P : Setting → Type 0) → held ≡ Some books → IsOfBooks limits q held P → P (asked_setting limits q books)
+told limits q books held P is of = subst (λ b. IsOfBooks limits q b P) is of
+
+-- at 0, 1 and 6 the row is the books' own
+module _ (limits : Limits) (q : CheckRequest) (held : Books) (old new : ShelfState) (is : old.books ≡ Some held) where
+  abbrev pub IsOwn : ℕ → List ℕ → Type 0
+  IsOwn status text = (status ≡ status_of (report_for limits q held).outcome) × (text ≡ text_of q (report_for limits q held))
+
+  own_at : (r : FileReport) → report_for limits q held ≡ r → IsOwn (status_of r.outcome) (text_of q r)
+  own_at r is = (ap (λ (x : FileReport). status_of x.outcome) (sym is), ap (text_of q) (sym is))
+
+  pub check_own : (cause : Cause) (status : ℕ) (text : List ℕ) → check.IsDue limits q old new cause status text → Shows cause status old new → status ≢ 3 → status ≢ 4 → IsOwn status text
+  check_own cause status text (check.of_the_books r of) shows not3 not4 = own_at r (told limits q held old.books (λ s. check.IsReport q r s (whole_library s)) is of)
+  check_own cause status text (check.of_the_given r number place v failure outcome_is counted of) shows not3 not4 =
+      own_at r (told limits q held old.books (λ s. check.IsReport q r s (whole_library s) × check.IsOfGiven new failure s (check.IsReport q r s)) is of).0
+  check_own cause status text (check.of_a_failed_read r number place unread_is of) shows not3 not4 = absurd (not3 shows.0)
+  check_own cause status text (check.of_a_failed_opening leaves) shows not3 not4 = absurd (not3 refl)
+  check_own cause status text (check.of_a_missing_module r name missing_is of) shows not3 not4 = absurd (not3 shows.0)
+  check_own cause status text (check.of_memory names number place of) shows not3 not4 = absurd (not4 refl)
+  check_own cause status text check.of_no_memory shows not3 not4 = absurd (not4 refl)
+
+  -- a module whose failed opening is told was due
+  missing_due : (r : FileReport) (name : List ℕ) → r.outcome ≡ Unopened name
+      → IsOfBooks limits q old.books (λ s. check.IsReport q r s (without (Some name) (whole_library s)) × check.IsOfGiven new (of_opening name) s (check.IsReport q r s))
+      → IsBookDue limits q held (Some name)
+  missing_due r name missing_is of =
+      ap (λ (x : FileReport). x.outcome)
+      (told limits q held old.books (λ s. check.IsReport q r s (without (Some name) (whole_library s)) × check.IsOfGiven new (of_opening name) s (check.IsReport q r s)) is of).0
+      ∙ missing_is
+
+  -- at 3 a read failed, or the opening of a book that was due
+  pub failed_due : (cause : Cause) (status : ℕ) (text : List ℕ) → check.IsDue limits q old new cause status text → Shows cause status old new → status ≡ 3
+      → Rose old.faults new.faults ⊎ ((book : Key) × IsBookDue limits q held book × Rose (old.missed (book_named q.file book)) (new.missed (book_named q.file book)))
+  failed_due cause status text (check.of_the_books r of) shows three = decided_not3 shows.0 three
+  failed_due cause status text (check.of_the_given r number place v failure outcome_is counted of) shows three = stopped_not3 shows.0 three
+  failed_due cause status text (check.of_a_failed_read r number place unread_is of) shows three = inl shows.1
+  failed_due cause status text (check.of_a_failed_opening leaves) shows three = inr (None, refl, shows.1)
+  failed_due cause status text (check.of_a_missing_module r name missing_is of) shows three = inr (Some name, missing_due r name missing_is of, shows.1)
+  failed_due cause status text (check.of_memory names number place of) shows three = absurd (omega (arith, three))
+  failed_due cause status text check.of_no_memory shows three = absurd (omega (arith, three))
+
 -- a row of `check` with status 3
-check_failed : (limits : Limits) (q : CheckRequest) (old new : ShelfState) (before after : SinkState) (cause : Cause) (status : ℕ) (text : List ℕ)
-    → check.IsDue limits q old new cause status text → Shows cause status old new → status ≡ 3 → after.taken ≡ added before.taken text → HasShelfFault q.file old new before after
-check_failed limits q old new before after cause status text (check.of_the_file r of) shows three taken = decided_not3 shows.0 three
-check_failed limits q old new before after cause status text (check.of_the_given r number place v outcome_is rose of) shows three taken = inr rose
-check_failed limits q old new before after cause status text (check.of_a_failed_read r number place unread_is of) shows three taken = inr shows.1
-check_failed limits q old new before after cause status text (check.of_a_failed_opening left) shows three taken = inl (left, shows.1, taken)
-check_failed limits q old new before after cause status text (check.of_memory names number place of) shows three taken = absurd (omega (arith, three))
-check_failed limits q old new before after cause status text check.of_no_memory shows three taken = absurd (omega (arith, three))
+module _ (limits : Limits) (q : CheckRequest) (old new : ShelfState) (before after : SinkState) where
+  -- the outcome of a report, in its text
+  texts : (r : FileReport) (o : Outcome) → r.outcome ≡ o → after.taken ≡ added before.taken (text_of q r) → after.taken ≡ added before.taken (text_with q r.names o)
+  texts r o is taken = taken ∙ ap (λ x. added before.taken (text_with q r.names x)) is
+
+  check_failed : (cause : Cause) (status : ℕ) (text : List ℕ) → check.IsDue limits q old new cause status text → Shows cause status old new → status ≡ 3 → after.taken ≡ added before.taken text
+      → HasShelfFault q old new before.taken after.taken
+  check_failed cause status text (check.of_the_books r of) shows three taken = decided_not3 shows.0 three
+  check_failed cause status text (check.of_the_given r number place v failure outcome_is counted of) shows three taken = stopped_not3 shows.0 three
+  check_failed cause status text (check.of_a_failed_read r number place unread_is of) shows three taken = of_a_read r.names number place shows.1 (texts r (Unread number place) unread_is taken)
+  check_failed cause status text (check.of_a_failed_opening leaves) shows three taken = of_the_file leaves shows.1 taken
+  check_failed cause status text (check.of_a_missing_module r name missing_is of) shows three taken = of_a_module name r.names shows.1 (texts r (Unopened name) missing_is taken)
+  check_failed cause status text (check.of_memory names number place of) shows three taken = absurd (omega (arith, three))
+  check_failed cause status text check.of_no_memory shows three taken = absurd (omega (arith, three))
 
 -- ---- `make`
 
 make_own : (limits : Limits) (q : MakeRequest) (cause : Cause) (status : ℕ) (text : List ℕ) → make.IsDue limits q cause status text → status ≢ 4
     → (status ≡ status_of (report_made limits q).outcome) × (text ≡ summary q (report_made limits q).outcome)
 make_own limits q cause status text make.of_the_theory not4 = (refl, refl)
-make_own limits q cause status text (make.of_memory accepted place m) not4 = absurd (not4 refl)
+make_own limits q cause status text (make.of_memory accepted line within due) not4 = absurd (not4 refl)
 make_own limits q cause status text make.of_no_memory not4 = absurd (not4 refl)
 
 make_not3 : (limits : Limits) (q : MakeRequest) (old new : ShelfState) (cause : Cause) (status : ℕ) (text : List ℕ) → make.IsDue limits q cause status text → Shows cause status old new → status ≢ 3
 make_not3 limits q old new cause status text make.of_the_theory shows three = decided_not3 shows.0 three
-make_not3 limits q old new cause status text (make.of_memory accepted place m) shows three = absurd (omega (arith, three))
+make_not3 limits q old new cause status text (make.of_memory accepted line within due) shows three = absurd (omega (arith, three))
 make_not3 limits q old new cause status text make.of_no_memory shows three = absurd (omega (arith, three))
 
 -- ---- the clauses
@@ -92,38 +127,41 @@ module _ (limits : Limits) (request : Option Request) (old new : ShelfState) (be
   }
   asked (of_command d e r) c is = subst (λ (x : Request). RunsCommand limits x old new before after result) (some_same d c (sym e ∙ is)) r
 
-  own : Answered → (q : CheckRequest) (bytes : List ℕ) → AsksFor request old.books q (Some bytes) → result ≢ 3 → result ≢ 4 → result ≢ 5
-      → ReportsFile limits q bytes before.taken after.taken result
-  own a q bytes asks not3 not4 not5 =
+  own : Answered → (q : CheckRequest) (books : Books) → AsksFor request old.books q books → result ≢ 3 → result ≢ 4 → result ≢ 5 → ReportsFile limits q books before.taken after.taken result
+  own a q books asks not3 not4 not5 =
       let r = asked a (to_check q) asks.asked in
       let s = is_status r.writes not5 in
-      let o = check_own limits q bytes old new asks.shelf asks.told asks.has r.cause r.status r.text r.row r.shows (λ e. not3 (s ∙ e)) (λ e. not4 (s ∙ e)) in
+      let o = check_own limits q books old new asks.told_are r.cause r.status r.text r.row r.shows (λ e. not3 (s ∙ e)) (λ e. not4 (s ∙ e)) in
       record { status = s ∙ o.0; text = r.writes.whole not5 ∙ ap (added before.taken) o.1 }
 
-  pub decided : Answered → (q : CheckRequest) (bytes : List ℕ) → AsksFor request old.books q (Some bytes) → IsDecided result
-      → ReportsFile limits q bytes before.taken after.taken result
-  decided a q bytes asks (inl e) = own a q bytes asks (λ f. absurd (omega (arith, e, f))) (λ f. absurd (omega (arith, e, f))) (λ f. absurd (omega (arith, e, f)))
-  decided a q bytes asks (inr (inl e)) = own a q bytes asks (λ f. absurd (omega (arith, e, f))) (λ f. absurd (omega (arith, e, f))) (λ f. absurd (omega (arith, e, f)))
-  decided a q bytes asks (inr (inr e)) = own a q bytes asks (λ f. absurd (omega (arith, e, f))) (λ f. absurd (omega (arith, e, f))) (λ f. absurd (omega (arith, e, f)))
+  pub decided : Answered → (q : CheckRequest) (books : Books) → AsksFor request old.books q books → IsDecided result → ReportsFile limits q books before.taken after.taken result
+  decided a q books asks (inl e) = own a q books asks (λ f. absurd (omega (arith, e, f))) (λ f. absurd (omega (arith, e, f))) (λ f. absurd (omega (arith, e, f)))
+  decided a q books asks (inr (inl e)) = own a q books asks (λ f. absurd (omega (arith, e, f))) (λ f. absurd (omega (arith, e, f))) (λ f. absurd (omega (arith, e, f)))
+  decided a q books asks (inr (inr e)) = own a q books asks (λ f. absurd (omega (arith, e, f))) (λ f. absurd (omega (arith, e, f))) (λ f. absurd (omega (arith, e, f)))
 
-  -- at 3 an opening or a read failed
-  fault : (q : CheckRequest) → RunsCommand limits (to_check q) old new before after result → result ≡ 3 → HasShelfFault q.file old new before after
+  fault : (q : CheckRequest) → RunsCommand limits (to_check q) old new before after result → result ≡ 3 → HasShelfFault q old new before.taken after.taken
   fault q r three =
       let e = stands r.writes three (λ f. absurd (omega (arith, f))) in
       check_failed limits q old new before after r.cause r.status r.text r.row r.shows e (r.writes.whole (λ five. absurd (omega (arith, three, five))))
 
-  pub shelf_failed : Answered → result ≡ 3 → (q : CheckRequest) × (request ≡ Some (to_check q)) × HasShelfFault q.file old new before after
+  pub shelf_failed : Answered → result ≡ 3 → (q : CheckRequest) × (request ≡ Some (to_check q)) × HasShelfFault q old new before.taken after.taken
   shelf_failed (of_no_command none same w) three = let e = stands w three (λ f. absurd (omega (arith, f))) in absurd (omega (arith, e))
   shelf_failed (of_no_words same w) three = let e = stands w three (λ f. absurd (omega (arith, f))) in absurd (omega (arith, e))
   shelf_failed (of_command (to_check q) is r) three = (q, is, fault q r three)
   shelf_failed (of_command (to_make q) is r) three =
       absurd (make_not3 limits q old new r.cause r.status r.text r.row.1 r.shows (stands r.writes three (λ f. absurd (omega (arith, f)))))
 
-  pub headline : Answered → (q : CheckRequest) (bytes : List ℕ) → AsksFor request old.books q (Some bytes) → ¬ (Rose (old.missed q.file) (new.missed q.file))
-      → ¬ (Rose old.faults new.faults) → ¬ (Rose before.faults after.faults) → result ≢ 4 → ReportsFile limits q bytes before.taken after.taken result
-  headline a q bytes asks not_missed not_failed not_cut not4 =
+  pub headline : Answered → (q : CheckRequest) (books : Books) → AsksFor request old.books q books
+      → ((book : Key) → IsBookDue limits q books book → ¬ (Rose (old.missed (book_named q.file book)) (new.missed (book_named q.file book))))
+      → ¬ (Rose old.faults new.faults) → ¬ (Rose before.faults after.faults) → result ≢ 4 → ReportsFile limits q books before.taken after.taken result
+  headline a q books asks not_missed not_failed not_cut not4 =
       let r = asked a (to_check q) asks.asked in
-      own a q bytes asks (λ e. elim (fault q r e) [ inl m ↦ not_missed m.1 | inr rose ↦ not_failed rose ]) not4 (λ five. not_cut (r.writes.failed five))
+      own a q books asks
+      (λ three. elim (failed_due limits q books old new asks.told_are r.cause r.status r.text r.row r.shows (stands r.writes three (λ f. absurd (omega (arith, f))))) [
+        | inl rose ↦ not_failed rose
+        | inr m ↦ not_missed m.0 m.1 m.2
+      ])
+      not4 (λ five. not_cut (r.writes.failed five))
 
   makes_at : Answered → (q : MakeRequest) → request ≡ Some (to_make q) → result ≢ 5 → result ≢ 4 → ReportsTheory limits q before.taken after.taken result
   makes_at a q is not5 not4 =

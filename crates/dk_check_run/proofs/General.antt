@@ -3,7 +3,7 @@ use Rattle.std.proofs.Common.{◌≡◌, ◌≢◌, ◌⊎◌, ◌<◌, inl, inr
 use Rattle.std.specs.Prelude.{Option, Some, None}
 use Rattle.dk_io.specs.Causes.{Rose}
 use Rattle.command_line.specs.Usage.{usage_text}
-use Rattle.file_check.specs.Shelves.{HasHeld, ShelfState}
+use Rattle.book_reader.specs.Shelves.{HasHeld, ShelfState}
 use Rattle.dk_check_run.specs.Run.{SinkState, Writes, memory_at_once}
 use Rattle.dk_check_run.specs.Rows.{Answers, Cause, Row, Shows, books, given, unread, unopened, memory, of_no_command, of_no_words, of_command}
 

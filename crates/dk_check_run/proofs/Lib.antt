@@ -1,8 +1,11 @@
+pub mod Alone
 pub mod CheckRows
 pub mod Commands
 pub mod Derived
+pub mod Folders
 pub mod General
 pub mod MakeRows
 pub mod Promises
+pub mod Settings
 pub mod Statuses
 pub mod Summaries

@@ -2,15 +2,13 @@
 use Rattle.std.proofs.Common.{◌≡◌, ℕ, inl, sym, subst, ◌∙◌}
 use Rattle.std.specs.Prelude.{Option}
 use Rattle.dk_model.specs.declared.limits.Limits.{Limits}
-use Rattle.dk_lexer.specs.Tokens.{whole}
-use Rattle.dk_parser.specs.FileReading.{read}
-use Rattle.dk_make.specs.Theory.{theory_of}
 use Rattle.command_line.specs.Requests.{Request, to_make}
-use Rattle.file_check.specs.Shelves.{ShelfState}
+use Rattle.book_reader.specs.Shelves.{ShelfState}
+use Rattle.dk_check_run.specs.Books.{asked_setting, made_setting}
 use Rattle.dk_check_run.specs.Run.{SinkState}
 use Rattle.dk_check_run.specs.Clauses.{Promises}
 use Rattle.dk_check_run.specs.Table.{Runs, rows_of}
-use Rattle.dk_check_run.proofs.Derived.{reading_derived}
+use Rattle.dk_check_run.proofs.Derived.{books_derived}
 use Rattle.dk_check_run.proofs.General as general
 use Rattle.dk_check_run.proofs.Commands as law
 
@@ -18,16 +16,16 @@ pub promises : (limits : Limits) (request : Option Request) (old new : ShelfStat
     → Promises limits request old new before after result
 promises limits request old new before after result a = record {
   checks = law.headline limits request old new before after result a;
-  derived = λ q bytes asks zero.
-      let report = law.decided limits request old new before after result a q bytes asks (inl zero) in
-      reading_derived limits q.budget (read limits bytes whole) (sym report.status ∙ zero);
+  derived = λ q books asks zero.
+      let report = law.decided limits request old new before after result a q books asks (inl zero) in
+      books_derived (asked_setting limits q books) q.budget (sym report.status ∙ zero);
   decided = law.decided limits request old new before after result a;
   shelf_held = general.shelf_held (rows_of limits) request old new before after result a;
   makes = law.makes limits request old new before after result a;
   make_due = λ q asks. law.asked limits request old new before after result a (to_make q) asks;
   make_derived = λ q asked zero.
       let report = law.made limits request old new before after result a q asked zero in
-      reading_derived limits q.budget (read limits (theory_of q.count) whole) (sym report.status ∙ zero);
+      books_derived (made_setting limits q) q.budget (sym report.status ∙ zero);
   usage = general.usage (rows_of limits) request old new before after result a;
   usage_only = general.usage_only (rows_of limits) request old new before after result a;
   untouched = law.untouched limits request old new before after result a;

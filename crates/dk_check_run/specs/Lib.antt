@@ -1,7 +1,9 @@
 pub mod Books
 pub mod Check
 pub mod Clauses
+pub mod Derivations
 pub mod Make
+pub mod Roots
 pub mod Rows
 pub mod Run
 pub mod Summaries

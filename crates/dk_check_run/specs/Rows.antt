@@ -2,7 +2,7 @@
 use Rattle.std.specs.Prelude.{◌≡◌, ◌⊎◌, ℕ, List, Option, Some, None}
 use Rattle.dk_io.specs.Causes.{Rose}
 use Rattle.command_line.specs.Usage.{usage_text}
-use Rattle.file_check.specs.Shelves.{HasHeld, ShelfState}
+use Rattle.book_reader.specs.Shelves.{HasHeld, ShelfState}
 use Rattle.dk_check_run.specs.Run.{IsDecided, SinkState, Writes, memory_at_once}
 
 -- Why an answer is due: what the books have, all of them given; what was given of them before a call of the shelf failed; that

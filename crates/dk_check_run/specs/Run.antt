@@ -1,48 +1,40 @@
 -- Trusted: what the program answers, the text and the status that are due (docs/report.md).
 use Rattle.std.specs.Prelude.{◌≡◌, ◌≢◌, ◌⊎◌, ℕ, List, [], ◌∷◌, ◌++◌, length, Option, None, Some, codes, decimal}
-use Rattle.dk_io.specs.Bytes.{AddsSome, Books, added, book_of}
+use Rattle.dk_io.specs.Bytes.{AddsSome, Books, added}
 use Rattle.dk_io.specs.Causes.{Rose}
-use Rattle.dk_io.specs.declared.shelf.Shelf.{Ghosts as Shelf}
 use Rattle.dk_io.specs.declared.sink.Sink.{Ghosts as Sink}
 use Rattle.dk_model.specs.declared.limits.Limits.{Limits}
 use Rattle.dk_model.specs.declared.code.Verdict.TheVariants as verdict
-use Rattle.dk_lexer.specs.Tokens.{whole}
-use Rattle.dk_parser.specs.FileReading.{Reading, read}
-use Rattle.dk_parser.specs.Written.{WrittenCommand}
-use Rattle.scope_terms.specs.Scopes.{Scoping, scoped, refused, names_after, scope_of}
-use Rattle.dk_model.specs.Scoping.{PlainCommand}
-use Rattle.dk_model.specs.Signatures.{PlainEntry}
-use Rattle.typing_model.specs.Derivations.{HasDerivation}
 use Rattle.command_line.specs.Requests.{CheckRequest, MakeRequest, Request, to_check, to_make}
-use Rattle.verdict_book.specs.Report.{concat, FileReport, last_line, nowhere, report_of, status_of}
+use Rattle.board_core.specs.declared.event.Place.{Place}
+use Rattle.verdict_book.specs.Report.{FileReport, concat, last_line, nowhere, report_of, status_of}
 use Rattle.verdict_book.specs.declared.outcome.Outcome.{Outcome}
-use Rattle.verdict_book.specs.declared.outcome.Outcome.TheVariants.{Stopped}
+use Rattle.verdict_book.specs.declared.outcome.Outcome.TheVariants.{Stopped, Unopened, Unread}
 use Rattle.dk_make.specs.Theory.{theory_of}
-use Rattle.file_report.specs.Outcomes.{Theory, no_theory, report_of_bytes, scoped_entry, theory_after}
-use Rattle.file_check.specs.Shelves.{ShelfState, shelf_state}
+use Rattle.theory_walk.specs.BookNames.{book_named, folder_of}
+use Rattle.theory_walk.specs.Libraries.{Key}
+use Rattle.file_report.specs.Reports.{module_shown}
+use Rattle.book_reader.specs.Shelved.{whole_library, without}
+use Rattle.book_reader.specs.Shelves.{ShelfState}
+use Rattle.dk_check_run.specs.Books.{asked_setting, report_for, report_in, report_made}
 
 -- ---- texts
 
+-- the text of `ok` lines, unless quiet, and of a last line
+abbrev pub text_with : CheckRequest → List (List ℕ) → Outcome → List ℕ
+text_with q names outcome = report_of names outcome q.budget q.quiet (folder_of q.file)
+
 -- the text of a report
 abbrev pub text_of : CheckRequest → FileReport → List ℕ
-text_of q r = report_of r.names r.outcome q.budget q.quiet []
+text_of q r = text_with q r.names r.outcome
 
--- the report of a file that was read whole
-abbrev pub report_for : Limits → CheckRequest → List ℕ → FileReport
-report_for limits q bytes = report_of_bytes limits q.budget bytes whole
-
+-- the file couldn't be opened
 abbrev pub unopened : List ℕ → List ℕ
 unopened file = concat (codes "unopened " ∷ file ∷ codes "\n" ∷ [])
 
 -- memory ended before the first command was begun
 abbrev pub memory_at_once : List ℕ
 memory_at_once = last_line (Stopped 0 nowhere verdict.Memory) 0 []
-
--- ---- the made theory
-
--- its report
-abbrev pub report_made : Limits → MakeRequest → FileReport
-report_made limits q = report_of_bytes limits q.budget (theory_of q.count) whole
 
 -- the line that says how many theorems and bytes were made
 abbrev pub made_line : ℕ → ℕ → List ℕ
@@ -52,45 +44,6 @@ made_line count size = concat (codes "make " ∷ decimal count ∷ codes " bytes
 abbrev pub summary : MakeRequest → Outcome → List ℕ
 summary q outcome = made_line q.count (length (theory_of q.count)) ++ last_line outcome q.budget []
 
--- ---- derivations
-
--- a command has a derivation over the commands before it
-abbrev pub IsDerived : Theory → Scoping PlainCommand → Type 0
-IsDerived T (scoped command) = HasDerivation T.signature command
-IsDerived T (refused code) = ⊥
-
--- a command, with the entries that it adds
-pub record Entered : Type 0 where
-  pub command : WrittenCommand
-  pub entries : List PlainEntry
-
--- the theory with a command and its entries
-abbrev pub with_entered : Theory → Entered → Theory
-with_entered T e = record { names = names_after T.names None e.command.form; signature = T.signature ++ e.entries }
-
--- each declared type, body and rule has a derivation over the entries before it
-abbrev pub AllDerived : Theory → List Entered → Type 0
-AllDerived T [] = Unit {0}
-AllDerived T (e ∷ es) = IsDerived T (scope_of T.names None e.command.form) × AllDerived (with_entered T e) es
-
--- the commands after a theory, each with the entries that the plain check gives it
-abbrev pub entered : ℕ → Theory → List WrittenCommand → List Entered
-entered budget T [] = []
-entered budget T (c ∷ cs) =
-    record { command = c; entries = scoped_entry T.signature budget (scope_of T.names None c.form) } ∷ entered budget (theory_after T budget c.form) cs
-
--- each declared type, body and rule of a reading has a derivation over the commands before it
-abbrev pub IsReadingDerived : ℕ → Reading → Type 0
-IsReadingDerived budget r = AllDerived no_theory (entered budget no_theory r.commands)
-
--- each of the file
-abbrev pub IsFileDerived : Limits → CheckRequest → List ℕ → Type 0
-IsFileDerived limits q bytes = IsReadingDerived q.budget (read limits bytes whole)
-
--- and each of the made theory
-abbrev pub IsTheoryDerived : Limits → MakeRequest → Type 0
-IsTheoryDerived limits q = IsReadingDerived q.budget (read limits (theory_of q.count) whole)
-
 -- ---- answers
 
 -- a sink, as its meanings tell it
@@ -98,19 +51,14 @@ pub record SinkState : Type 0 where
   pub taken : Option (List ℕ)
   pub faults : ℕ
 
--- the state of a shelf and of a sink, of the members that its trait has
-abbrev pub shelf_of : {S : Type 0} → Shelf S → S → ShelfState
-shelf_of m shelf = shelf_state m.books m.left m.faults m.missed shelf
-
+-- the state of a sink, of the members that its trait has
 abbrev pub sink_of : {S : Type 0} → Sink S → S → SinkState
 sink_of m sink = record { taken = m.taken sink; faults = m.faults sink }
 
--- the words ask to check a book, and the shelf tells what it has under that name: these bytes, or none
-pub record AsksFor (request : Option Request) (books : Option Books) (q : CheckRequest) (book : Option (List ℕ)) : Type 0 where
+-- the words ask to check a file, and the shelf tells its books
+pub record AsksFor (request : Option Request) (told : Option Books) (q : CheckRequest) (books : Books) : Type 0 where
   pub asked : request ≡ Some (to_check q)
-  pub shelf : Books
-  pub told : books ≡ Some shelf
-  pub has : book_of shelf q.file ≡ book
+  pub told_are : told ≡ Some books
 
 -- the text was written, and this is the status; or the sink failed and took a front of it, and the status is 5
 pub record Writes (old new : SinkState) (text : List ℕ) (status result : ℕ) : Type 0 where
@@ -120,17 +68,17 @@ pub record Writes (old new : SinkState) (text : List ℕ) (status result : ℕ) 
   pub failed : result ≡ 5 → Rose old.faults new.faults
   pub front : result ≡ 5 → AddsSome old.taken new.taken text
 
--- the status is that of the file's report, and the sink took its text
-pub record ReportsFile (limits : Limits) (q : CheckRequest) (bytes : List ℕ) (before after : Option (List ℕ)) (result : ℕ) : Type 0 where
-  pub status : result ≡ status_of (report_for limits q bytes).outcome
-  pub text : after ≡ added before (text_of q (report_for limits q bytes))
+-- the status is that of the report of the file with all that it needs, and the sink took its text
+pub record ReportsFile (limits : Limits) (q : CheckRequest) (books : Books) (before after : Option (List ℕ)) (result : ℕ) : Type 0 where
+  pub status : result ≡ status_of (report_for limits q books).outcome
+  pub text : after ≡ added before (text_of q (report_for limits q books))
 
 -- the status is that of the made theory's report, and the sink took its summary
 pub record ReportsTheory (limits : Limits) (q : MakeRequest) (before after : Option (List ℕ)) (result : ℕ) : Type 0 where
   pub status : result ≡ status_of (report_made limits q).outcome
   pub text : after ≡ added before (summary q (report_made limits q).outcome)
 
--- the outcome is the file's own
+-- the outcome is the books' own
 abbrev pub IsDecided : ℕ → Type 0
 IsDecided result = (result ≡ 0) ⊎ ((result ≡ 1) ⊎ (result ≡ 6))
 
@@ -142,8 +90,22 @@ OpensNothing None = Unit {0}
 OpensNothing (Some (to_check q)) = ⊥
 OpensNothing (Some (to_make q)) = Unit {0}
 
--- the text `unopened` was written after an opening of that name failed, or a read failed
-abbrev pub HasShelfFault : List ℕ → ShelfState → ShelfState → SinkState → SinkState → Type 0
-HasShelfFault name old new before after =
-    ((new.left ≡ old.left) × Rose (old.missed name) (new.missed name) × (after.taken ≡ added before.taken (unopened name)))
-    ⊎ Rose old.faults new.faults
+-- the books lie as they did: the open one, and those put aside
+pub record LeavesBooks (old new : ShelfState) : Type 0 where
+  pub left : new.left ≡ old.left
+  pub aside : new.aside ≡ old.aside
+  pub is_open : new.is_open ≡ old.is_open
+
+-- a book is due where its failed opening would be the outcome
+abbrev pub IsBookDue : Limits → CheckRequest → Books → Key → Type 0
+IsBookDue limits q books book =
+    (report_in (asked_setting limits q books) q.budget (without book (whole_library (asked_setting limits q books)))).outcome ≡ Unopened (module_shown book)
+
+-- a call of the shelf failed, and the text that was written says which: the opening of the file; that of a module, behind the `ok` lines
+-- of what it was needed for; or a read
+pub data HasShelfFault (q : CheckRequest) (old new : ShelfState) (before after : Option (List ℕ)) : Type 0 where
+  of_the_file : LeavesBooks old new → Rose (old.missed q.file) (new.missed q.file) → after ≡ added before (unopened q.file) → HasShelfFault q old new before after
+  of_a_module : (name : List ℕ) → (names : List (List ℕ)) → Rose (old.missed (book_named q.file (Some name))) (new.missed (book_named q.file (Some name)))
+      → after ≡ added before (text_with q names (Unopened name)) → HasShelfFault q old new before after
+  of_a_read : (names : List (List ℕ)) → (number : ℕ) → (place : Place) → Rose old.faults new.faults
+      → after ≡ added before (text_with q names (Unread number place)) → HasShelfFault q old new before after

@@ -2,7 +2,7 @@
 use Rattle.std.specs.Prelude.{◌≡◌, ℕ, Option}
 use Rattle.dk_model.specs.declared.limits.Limits.{Limits}
 use Rattle.command_line.specs.Requests.{Request, to_check, to_make}
-use Rattle.file_check.specs.Shelves.{ShelfState}
+use Rattle.book_reader.specs.Shelves.{ShelfState}
 use Rattle.dk_check_run.specs.Run.{SinkState}
 use Rattle.dk_check_run.specs.Check as check
 use Rattle.dk_check_run.specs.Make as make

@@ -1,5 +1,5 @@
-//! What the program does: reads its words, opens the book, checks it and writes the report.
-ghost use Rattle.std.specs.Prelude.{◌≡◌, ◌<◌, ◌++◌, [], length, map};
+//! What the program does: reads its words, checks what they ask for and writes the report.
+ghost use Rattle.std.specs.Prelude.{◌≡◌, ◌<◌, ◌≤◌, ◌++◌, [], IfOk, length, map};
 ghost use Rattle.std.specs.String.{string_bytes};
 ghost use Rattle.command_line.specs.Requests.{request_of, to_check, to_make};
 ghost use Rattle.command_line.specs.Usage.{usage_text};
@@ -9,20 +9,25 @@ ghost use Rattle.verdict_book.specs.Books.{IsReportOf};
 ghost use Rattle.verdict_book.specs.Pieces.{pieces_text};
 ghost use Rattle.verdict_book.specs.Report.{FileReport, last_line, report_of, status_of};
 ghost use Rattle.verdict_book.specs.Stops.{StopsAtFault};
-ghost use Rattle.file_check.specs.Shelves.{ShelfState};
-ghost use Rattle.dk_check_run.specs.Run.{Writes, made_line, memory_at_once, shelf_of, sink_of, unopened};
+ghost use Rattle.theory_walk.specs.BookNames.{folder_of};
+ghost use Rattle.book_reader.specs.Shelves.{ShelfState, shelf_of};
+ghost use Rattle.dk_check_run.specs.Books.{standard_modules};
+ghost use Rattle.dk_check_run.specs.Roots.{IsRootOf};
+ghost use Rattle.dk_check_run.specs.Run.{Writes, made_line, memory_at_once, sink_of, text_of, unopened};
 ghost use Rattle.dk_check_run.specs.Summaries.{is_at_once, text_by};
 ghost use Rattle.dk_check_run.specs.Table.{Runs, RunsCommand};
 
 use board_core::Gate;
+use book_reader::{Root, own_module};
 use command_line::{CheckRequest, MakeRequest, Request, read_request, usage_text};
 use dk_io::{Shelf, Sink, put, put_all};
 use dk_make::MadeText;
-use dk_model::{Limits, Verdict};
-use file_check::{CheckedBook, check_open_book};
+use dk_model::{Limits, NoMemory, Verdict};
+use file_check::{Asked, CheckedBook, Unchecked, check_books};
 use std::alloc::Global;
 use std::sync::Wait;
 use std::thread::Threads;
+use theory_walk::ModuleLimits;
 use verdict_book::{Outcome, Piece, PlaceRef, outcome_of, status, write_last, write_report};
 
 fn put_usage<K: Sink>(sink: &mut K) -> u8
@@ -70,24 +75,66 @@ fn put_unopened<K: Sink>(sink: &mut K, file: &str) -> u8
     }
 }
 
-// Writes the report of a finished book.
-fn put_report<K: Sink>(sink: &mut K, checked: &CheckedBook, budget: u64, quiet: bool) -> u8
+// The part of a file's name up to and with its last slash, or nothing.
+fn folder_of(file: &str) -> &str
+    ensures { result.now ≡ folder_of file.now }
+{
+    match file.rfind('/') {
+        Some(slash) => &file[..slash + 1],
+        None => "",
+    }
+}
+
+// Writes the report of what was checked.
+fn put_report<K: Sink>(sink: &mut K, checked: &CheckedBook, request: &CheckRequest<'_>) -> u8
     requires finished { IsFinished (marks_of checked.now.book.jobs) checked.now.book.events }
     requires all { length checked.now.titles ≡ length checked.now.book.jobs }
     ensures { (report : FileReport) →
         IsReportOf checked.now.titles checked.now.book.events report →
         Writes (sink_of K.Sink sink.old) (sink_of K.Sink sink.new)
-        (report_of report.names report.outcome budget quiet []) (status_of report.outcome) result }
+        (text_of (plain_check request.now) report) (status_of report.outcome) result }
 {
     let CheckedBook { book, titles } = checked;
     let outcome = outcome_of(book, titles);
-    match write_report(book, titles, budget, quiet, "", sink) {
+    let folder = folder_of(request.file);
+    match write_report(book, titles, request.budget, request.quiet, folder, sink) {
         Ok(()) => outcome.status(),
         Err(_) => status::SINK_FAILED,
     }
 }
 
-// Opens the file and checks it.
+// How many files may be open, and how many modules opened besides the file.
+#[tactic(auto, unfolding(crate::specs::Books::standard_modules))]
+fn standard_modules() -> ModuleLimits
+    ensures value { result ≡ standard_modules }
+    ensures files { (0 < result.files) × (result.files ≤ 64) }
+{
+    ModuleLimits {
+        files: 64,
+        modules: 1_000,
+    }
+}
+
+// What is read where the file has this name.
+fn root_of(
+    alloc: Global,
+    limits: Limits,
+    most: ModuleLimits,
+    file: &str,
+) -> Result<Root, NoMemory>
+    ensures { IfOk result (IsRootOf limits most file.now) }
+{
+    let own = own_module(alloc, file.as_bytes())?;
+    let file = String::from_str(alloc, file)?;
+    Ok(Root {
+        limits,
+        most,
+        file,
+        own,
+    })
+}
+
+// Checks the file, with all that it needs.
 fn check_file<R: Threads + Wait + Sync, H: Shelf, K: Sink, G: Gate + Sync>(
     rt: &R,
     alloc: Global,
@@ -104,13 +151,19 @@ fn check_file<R: Threads + Wait + Sync, H: Shelf, K: Sink, G: Gate + Sync>(
         (shelf_of H.Shelf shelf.old) (shelf_of H.Shelf shelf.new)
         (sink_of K.Sink sink.old) (sink_of K.Sink sink.new) result }
 {
+    let Ok(root) = root_of(alloc, limits, standard_modules(), request.file) else {
+        return put_memory(sink);
+    };
     let (budget, workers) = (request.budget, request.workers);
-    match shelf.open_book(request.file) {
-        Ok(()) => match check_open_book(rt, alloc, limits, budget, workers, shelf, gate) {
-            Ok(checked) => put_report(sink, &checked, budget, request.quiet),
-            Err(_) => put_memory(sink),
-        },
-        Err(_) => put_unopened(sink, request.file),
+    let asked = Asked {
+        root,
+        budget,
+        workers,
+    };
+    match check_books(rt, alloc, asked, shelf, gate) {
+        Ok(checked) => put_report(sink, &checked, request),
+        Err(Unchecked::Unopened) => put_unopened(sink, request.file),
+        Err(Unchecked::NoMemory) => put_memory(sink),
     }
 }
 
@@ -168,8 +221,20 @@ fn check_theory<R: Threads + Wait + Sync, K: Sink, G: Gate + Sync>(
         return put_memory(sink);
     };
     let size = text.size();
+    let alone = ModuleLimits {
+        files: 1,
+        modules: 0,
+    };
+    let Ok(root) = root_of(alloc, limits, alone, "") else {
+        return put_memory(sink);
+    };
     let (budget, workers) = (request.budget, request.workers);
-    match check_open_book(rt, alloc, limits, budget, workers, &mut text, gate) {
+    let asked = Asked {
+        root,
+        budget,
+        workers,
+    };
+    match check_books(rt, alloc, asked, &mut text, gate) {
         Ok(checked) => {
             let outcome = outcome_of(&checked.book, &checked.titles);
             put_summary(sink, request, size, &outcome)

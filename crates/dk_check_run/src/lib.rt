@@ -7,7 +7,7 @@ mod top;
 
 pub use answering::run_with;
 pub use file_check::STACK;
-pub use file_report::{fault_of_history, report_of_history};
+pub use file_report::{fault_of_theory, fold_of_books, report_of_theory};
 pub use gate::NoGate;
 pub use top::run;
 pub use verdict_book::status;
@@ -18,6 +18,10 @@ mod failure_tests;
 mod file_rows;
 #[cfg(test)]
 mod front_tests;
+#[cfg(test)]
+mod module_rows;
+#[cfg(test)]
+mod module_tests;
 #[cfg(test)]
 mod rule_rows;
 #[cfg(test)]

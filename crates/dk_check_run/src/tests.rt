@@ -12,11 +12,13 @@ use std::sync::Wait;
 use std::test::Fail;
 use std::thread::Threads;
 
-/// What the program is asked over a shelf with the book `f.dk`, and what it answers.
+/// What the program is asked over a shelf with these books and `f.dk`, and what it answers.
 #[derive(Clone, Copy)]
 pub(crate) struct Row<'a> {
     /// The words behind the program's name.
     pub(crate) words: &'a str,
+    /// The books, each with its name and text; and the text of `f.dk`, if it isn't among them.
+    pub(crate) books: &'a [(&'a str, &'a str)],
     pub(crate) text: &'a [u8],
     /// The most bytes of a read, and the shelf's call that fails (0: none). Its first call is the opening.
     pub(crate) piece: usize,
@@ -32,6 +34,7 @@ pub(crate) struct Row<'a> {
 /// An empty file.
 pub(crate) const EMPTY: Row<'static> = Row {
     words: "check f.dk",
+    books: &[],
     text: b"",
     piece: 4096,
     shelf_call: 0,
@@ -41,21 +44,27 @@ pub(crate) const EMPTY: Row<'static> = Row {
     taken: b"accepted 0\n",
 };
 
+pub(crate) fn book(alloc: Global, name: &str, text: &[u8]) -> Result<Book, NoMemory> {
+    Ok(Book {
+        name: String::from_str(alloc, name)?,
+        bytes: Vec::from_slice(alloc, text)?,
+    })
+}
+
 fn shelf_of(alloc: Global, row: &Row<'_>) -> Result<MemShelf, NoMemory>
     requires { 0 < row.now.piece }
     ensures { IfOk result (λ s. s.aside ≡ []) }
 {
-    let book = Book {
-        name: String::from_str(alloc, "f.dk")?,
-        bytes: Vec::from_slice(alloc, row.text)?,
-    };
     let mut books = Vec::new(alloc);
-    books.push(book)?;
+    for (name, text) in row.books {
+        books.push(book(alloc, name, text.as_bytes())?)?;
+    }
+    books.push(book(alloc, "f.dk", row.text)?)?;
     let failing = Vec::from_slice(alloc, &[row.shelf_call])?;
     MemShelf::new(alloc, books, row.piece, failing)
 }
 
-fn sink_of(alloc: Global, row: &Row<'_>) -> Result<MemSink, NoMemory>
+pub(crate) fn sink_of(alloc: Global, row: &Row<'_>) -> Result<MemSink, NoMemory>
     requires { 0 < row.now.sink_piece }
 {
     let failing = Vec::from_slice(alloc, &[row.sink_call])?;
@@ -63,7 +72,7 @@ fn sink_of(alloc: Global, row: &Row<'_>) -> Result<MemSink, NoMemory>
 }
 
 /// The words of a line, between its spaces, behind the program's name.
-fn words_of(alloc: Global, line: &str) -> Result<Vec<String>, NoMemory> {
+pub(crate) fn words_of(alloc: Global, line: &str) -> Result<Vec<String>, NoMemory> {
     let mut words = Vec::new(alloc);
     words.push(String::from_str(alloc, "dk_check")?)?;
     for word in line.split_whitespace() {
@@ -200,8 +209,8 @@ fn small_limits() -> [(Limits, &'static str, &'static str); 5] {
     ]
 }
 
-/// Whether the file is refused with this report, within these limits.
-fn is_limited<R: Threads + Wait + Sync>(
+/// Whether `run_with` answers a row, within these limits.
+pub(crate) fn is_limited<R: Threads + Wait + Sync>(
     rt: &R,
     alloc: Global,
     limits: Limits,

@@ -3,8 +3,9 @@ ghost use Rattle.std.specs.Prelude.{◌≡◌, [], map};
 ghost use Rattle.std.specs.String.{string_bytes};
 ghost use Rattle.command_line.specs.Requests.{request_of};
 ghost use Rattle.dk_model.specs.Limits.{standard};
+ghost use Rattle.book_reader.specs.Shelves.{shelf_of};
 ghost use Rattle.dk_check_run.specs.Clauses.{Promises};
-ghost use Rattle.dk_check_run.specs.Run.{shelf_of, sink_of};
+ghost use Rattle.dk_check_run.specs.Run.{sink_of};
 ghost use Rattle.dk_check_run.specs.Table.{Runs};
 
 use crate::answering::run_with;
@@ -18,7 +19,8 @@ use std::thread::Threads;
 /// Checks the file that the words name, or the theory that they have made, and writes its report to the sink; answers the
 /// status (docs/report.md).
 ///
-/// `words[0]` is the program's name and isn't looked at. The shelf has no book put aside (`dk_io::Shelf`). The clauses hold for every number of workers and whatever the order
+/// `words[0]` is the program's name and isn't looked at. The shelf has no book put aside (`dk_io::Shelf`), and where a read or
+/// an opening fails the books that are open stay on it. The clauses hold for every number of workers and whatever the order
 /// of their steps; that the waits for other threads end is a premise of them. How far the shelf is read behind the first
 /// command that isn't accepted depends on the workers, and the report doesn't. A want of memory is answered as such wherever
 /// it comes, and no clause says that it came. The gate's calls stand round each check, and no answer depends on them.

@@ -2,7 +2,7 @@ use Rattle.std.proofs.Common.{sym}
 use Rattle.command_line.specs.Requests.{to_check, to_make}
 use Rattle.command_line.specs.Views.{plain_check, plain_make}
 use Rattle.dk_check_run.specs.Rows.{of_command}
-use Rattle.dk_check_run.specs.Run.{shelf_of}
+use Rattle.book_reader.specs.Shelves.{shelf_of}
 use Rattle.dk_check_run.proofs.answering.run_with.Goals as goal
 
 pub returns-in-Check : goal.returns-in-Check
