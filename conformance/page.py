@@ -1,7 +1,7 @@
 """Compares two pages of docs/ with the suite.
 
-Each file that codes.md shows is a case, and each report is that case's. Each row of from-dedukti.md is one too: its line stands in
-the file, and its code ends the report.
+Each file that codes.md shows belongs to a case, and each report is that case's. Each row of from-dedukti.md is one too: its line
+stands in the file, and its code ends the report.
 """
 import os
 import re
@@ -22,6 +22,11 @@ def stored(path):
         return ''
 
 
+def checked(name):
+    """The lines of the file that a row's case checks; of several files it is the one in their folder that is named as it."""
+    return (stored('dedukti/%s.dk' % name) or stored('dedukti/%s/%s.dk' % (name, name))).splitlines()
+
+
 def last_line(name):
     """The last line of a case's report."""
     return (stored('dedukti/%s.report' % name).splitlines() or [''])[-1]
@@ -34,8 +39,8 @@ def row_differences():
     said, named = [], set()
     for line, answer, name in rows:
         named.add(name)
-        if line.replace('\\|', '|') not in stored('dedukti/%s.dk' % name).splitlines():
-            said.append('dedukti/%s.dk has not the line that is shown' % name)
+        if line.replace('\\|', '|') not in checked(name):
+            said.append('dedukti/%s has not the line that is shown' % name)
         last = last_line(name)
         if not (last.startswith('accepted ') if answer == 'accepted' else last.startswith('refused ') and last.endswith(' ' + answer)):
             said.append('dedukti/%s.report ends otherwise than is shown' % name)

@@ -1,4 +1,5 @@
 """The command that the report names, and the text in front of it that it rests on."""
+import os
 import re
 
 from .texts import KEYWORDS, NAME_BYTES, TOKEN, behind_blanks, command_ends, place, tokens
@@ -22,6 +23,12 @@ def heads_of(words):
             heads.add(word)
             is_due = False
     return heads
+
+
+def plain(names, module):
+    """The names, those of this module without it."""
+    own = module + b"."
+    return {it[len(own) :] if it.startswith(own) else it for it in names}
 
 
 class Front:
@@ -62,21 +69,24 @@ class Front:
         number = self.declaring.get(name)
         return None if number is None else (self.line(number), self.without_comments(number))
 
-    def rested_on(self, names):
-        """The text of the commands that a command with these names rests on, in file order: those that declare its names, the rules
-        of these, and what those rest on. A theorem's body isn't among it."""
-        headed = {}
+    def rested_on(self, names, module):
+        """The text of the commands that a command with these names rests on, in the file of this module and in its order: those that
+        declare its names, the rules of these and of other modules' symbols, and what those rest on. A theorem's body isn't among it."""
+        headed, elsewhere = {}, set()
         for number in self.rules:
-            for head in heads_of(names_of(self.without_comments(number))):
+            heads = plain(heads_of(names_of(self.without_comments(number))), module)
+            for head in heads:
                 headed.setdefault(head, []).append(number)
-        kept, known, waiting = set(), set(), set(names)
+            # What other modules declare may unfold to the symbol, and no name here tells.
+            elsewhere |= {it for it in heads if b"." in it and not it.startswith(b"{|")}
+        kept, known, waiting = set(), set(), plain(names, module) | elsewhere
         while waiting:
             name = waiting.pop()
             known.add(name)
             for number in [self.declaring.get(name), *headed.get(name, ())]:
                 if number is not None and number not in kept:
                     kept.add(number)
-                    waiting |= set(names_of(self.as_rested_on(number))) - known
+                    waiting |= plain(names_of(self.as_rested_on(number)), module) - known
         return b"".join(self.as_rested_on(it) + b"\n" for it in sorted(kept))
 
 
@@ -117,10 +127,14 @@ class Command:
 
     def rest_in_front(self, program, code, library):
         """Keeps of the text in front what the command rests on; all of it where the program answers that otherwise, and the whole
-        theory where it answers that otherwise too."""
+        theory where it answers that otherwise too, or where the book rests on more than what it needs."""
         own = {it.text for it in self.tokens if it.is_name()}
         command = self.text[self.start : self.end]
-        self.before = self.front.rested_on(own)
+        if not library.is_alone() and not library.is_whole_below(library.folder + program.book):
+            self.before = self.text[: self.start]
+            program.as_part_of(library)
+            return
+        self.before = self.front.rested_on(own, os.fsencode(os.path.splitext(program.book)[0]))
         if program.answer(self.before + command) == (b"refused", code):
             return
         self.before = self.text[: self.start]

@@ -6,6 +6,9 @@ import re
 from .texts import Place, behind_blanks, command_ends, place, readable, tokens
 
 PLAIN = re.compile(rb"(?!_$)[A-Za-z0-9_!?][A-Za-z0-9_!?']*\Z")
+# A rule for a symbol of another module, as far as it is seen without reading the text whole.
+RULE_ELSEWHERE = re.compile(rb"\][ \t\r\n(]*[A-Za-z0-9_!?'][A-Za-z0-9_!?']*\.(?:[A-Za-z0-9_!?]|\{\|)")
+NEEDED = re.compile(rb"#REQUIRE[ \t\r\n]+([A-Za-z0-9_!?']+)|([A-Za-z0-9_!?']+)\.(?=[A-Za-z0-9_!?]|\{\|)")
 QUALIFIED = re.compile(rb"[A-Za-z0-9_!?']\.(?:[A-Za-z0-9_!?]|\{\|)")
 DIRECTIVES = (b"#NAME", b"#REQUIRE")
 READING = (b"E01", b"E02", b"E03", b"E04", b"E05", b"E06", b"E07")
@@ -83,6 +86,22 @@ class Library:
         text = self.text(self.name)
         return b"#NAME" not in text and b"#REQUIRE" not in text and QUALIFIED.search(text) is None
 
+    def needed_by(self, book):
+        """The books that a book needs, and that these need, as far as they were read; itself among them."""
+        known, waiting = set(), [book]
+        while waiting:
+            path = waiting.pop()
+            if path not in known and path in self.texts:
+                known.add(path)
+                waiting += [self.path(front or behind) for front, behind in NEEDED.findall(self.texts[path])]
+        return known
+
+    def is_whole_below(self, book):
+        """Whether a check of this book alone has all that its commands rest on: no other book that was read has rules for symbols of
+        another module."""
+        others = set(self.texts) - self.needed_by(book)
+        return not any(RULE_ELSEWHERE.search(self.texts[path]) for path in others)
+
     def found(self, reported):
         """The place of what a report names; None where this walk doesn't come to it."""
         if self.is_alone() and reported.book is None:
@@ -150,8 +169,8 @@ class LibraryWalk:
         number = 0
         for number, (first, words) in enumerate(self.library.items(text), 1):
             is_directive = bool(words) and words[0].text in DIRECTIVES
-            # What can't be read needs nothing; all other codes come behind the needs. So far a whole directive is E06 itself.
-            is_read = is_directive and is_whole(words) and self.reported.code != b"E06"
+            # What can't be read needs nothing; all other codes come behind the needs.
+            is_read = is_directive and is_whole(words)
             if not is_read and self.is_unread(path, text, first):
                 raise Found(path, text, number)
             for need in needs_of(words) if words else []:
