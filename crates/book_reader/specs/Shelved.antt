@@ -1,4 +1,4 @@
--- For callers: the books of a shelf as a theory's: whole, or as far as they were given (docs/modules.md).
+-- Trusted: the books of a shelf as a theory's: whole, or as far as they were given (docs/modules.md).
 use Rattle.std.specs.Prelude.{◌≡◌, ◌⊎◌, ℕ, Bool, true, false, List, [], ◌∷◌, ◌++◌, length, take, if◌then◌else◌, Option, Some, None}
 use Rattle.std.specs.Str.{bytes_eq}
 use Rattle.dk_io.specs.Bytes.{Books, book_of}

@@ -1,4 +1,4 @@
--- For callers: a shelf as its meanings tell it, and that no call of it failed.
+-- Trusted: a shelf as its meanings tell it, and that no call of it failed.
 use Rattle.std.specs.Prelude.{◌≡◌, ℕ, Bool, List, Option}
 use Rattle.dk_io.specs.Bytes.{Books}
 use Rattle.dk_io.specs.declared.shelf.Shelf.{Ghosts as Shelf}
