@@ -27,7 +27,7 @@ use Rattle.file_report.specs.Outcomes.{no_theory}
 use Rattle.file_report.specs.Reports.{place_of}
 use Rattle.file_report.specs.Jobs.{AreJobsBehind, job_titles}
 use Rattle.file_report.specs.Histories.{ChecksJobsIn, ChecksTheory, DueAt, EndsReading, IsCut, ReportsTheory}
-use Rattle.file_report.proofs.Fronts.{theory_faults, theory_reports}
+use Rattle.file_report.proofs.Law.{theory_faults, theory_reports}
 use Rattle.book_reader.specs.declared.walker.Root.{Root}
 use Rattle.book_reader.specs.Ends.{HoldsCounts}
 use Rattle.book_reader.specs.Shelved.{IsDueAt, MemoryDue, Setting, walk_in, whole_library, without}

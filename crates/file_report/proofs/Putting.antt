@@ -13,7 +13,8 @@ use Rattle.file_report.specs.Reports.{stopped_at}
 use Rattle.file_report.specs.Jobs.{AreJobsBehind, IsJobAt, TheoryJob, theory_behind}
 use Rattle.file_report.specs.Theories.{theory_with, verdict_on}
 use Rattle.file_report.specs.Histories as law
-use Rattle.file_report.proofs.Fronts.{front_dropped, front_taken, other_ends}
+use Rattle.file_report.proofs.Fronts.{front_dropped, front_taken}
+use Rattle.file_report.proofs.Law.{other_ends}
 
 module _ (limits : Limits) (budget : ℕ) (own : Option (List ℕ)) where
   pub theory_more : (T : Theory) (done : List Placed) (c : Placed) → theory_behind limits budget own T (done ++ c ∷ []) ≡ theory_with limits budget own (theory_behind limits budget own T done) c

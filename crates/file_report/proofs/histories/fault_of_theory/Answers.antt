@@ -1,4 +1,4 @@
-use Rattle.file_report.proofs.Fronts.{theory_faults}
+use Rattle.file_report.proofs.Law.{theory_faults}
 use Rattle.file_report.proofs.histories.fault_of_theory.Goals as goal
 
 pub returns : goal.returns

@@ -1,4 +1,4 @@
-use Rattle.file_report.proofs.Fronts.{theory_reports}
+use Rattle.file_report.proofs.Law.{theory_reports}
 use Rattle.file_report.proofs.histories.report_of_theory.Goals as goal
 
 pub returns : goal.returns
