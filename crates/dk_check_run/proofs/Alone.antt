@@ -1,5 +1,5 @@
 -- A file that is read alone: all its commands, and its end, stand in its own book, and no other book is opened.
-use Rattle.std.proofs.Common.{◌≡◌, ◌≢◌, ◌⊎◌, inl, inr, ℕ, ◌+◌, Bool, true, false, List, [], ◌∷◌, ◌++◌, length, refl, sym, ap, subst, ◌∙◌}
+use Rattle.std.proofs.Common.{◌≡◌, ◌≢◌, inl, inr, ℕ, ◌+◌, Bool, true, false, List, [], ◌∷◌, ◌++◌, refl, sym, ap, subst, ◌∙◌}
 use Rattle.std.specs.Prelude.{Option, Some, None}
 use Rattle.dk_model.specs.declared.code.Code.TheVariants.{E15}
 use Rattle.dk_model.specs.declared.code.Verdict.{Verdict}
@@ -9,7 +9,7 @@ use Rattle.verdict_book.specs.declared.outcome.Outcome.TheVariants.{Unopened}
 use Rattle.theory_walk.specs.declared.needs.Standing.{Standing}
 use Rattle.theory_walk.specs.declared.needs.Standing.TheVariants.{Current, Below, WasRead, New}
 use Rattle.theory_walk.specs.Libraries.{BookReading, BookStep, BookTail, Library, Opened, fault, need, opened, put, steps_in, unopened, unread, whole}
-use Rattle.theory_walk.specs.Walks.{End, Placed, Reached, Spot, Walk, by_standing, ends, goes_on, needs_in, no_file, not_opened, refused_at, spot_of, spot_of_end, standing_of, stopped, then_walk, unread_at, walk_file, walk_steps}
+use Rattle.theory_walk.specs.Walks.{End, Placed, Reached, Spot, Walk, by_standing, ends, goes_on, needs_in, no_file, not_opened, refused_at, spot_of_end, standing_of, stopped, then_walk, unread_at, walk_file, walk_steps}
 use Rattle.file_report.specs.TheoryReports.{by_verdict, report_from}
 use Rattle.book_reader.specs.Shelved.{IsDueAt}
 use Rattle.dk_check_run.specs.Books.{no_modules}

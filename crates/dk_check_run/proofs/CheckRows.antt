@@ -22,10 +22,10 @@ use Rattle.book_reader.specs.declared.walker.Root.{Root}
 use Rattle.book_reader.specs.Shelved.{Given, IsDueAt, MemoryDue, Setting, walk_in, whole_library, without}
 use Rattle.book_reader.specs.Shelves.{HasHeld, ShelfState}
 use Rattle.file_check.specs.Checks.{ChecksShelf, LeavesUnread}
-use Rattle.file_check.specs.Counts.{Counted, CountsAt, EndsGiven, EndsInMemory, EndsOn, Failure, given_till, of_opening, of_read}
+use Rattle.file_check.specs.Counts.{CountsAt, EndsGiven, EndsInMemory, EndsOn}
 use Rattle.file_check.specs.Counts as counts
-
-use Rattle.dk_check_run.specs.Books.{IsOfBooks, asked_setting, report_in, standard_modules}
+use Rattle.file_check.specs.Failures.{Counted, Failure, given_till, of_opening, of_read}
+use Rattle.dk_check_run.specs.Books.{IsOfBooks, asked_setting, standard_modules}
 use Rattle.dk_check_run.specs.Check as check
 use Rattle.dk_check_run.specs.Roots.{IsRootOf}
 use Rattle.dk_check_run.specs.Rows.{HasMissed, books, given, unread, unopened, memory}

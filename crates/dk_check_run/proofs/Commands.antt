@@ -12,7 +12,7 @@ use Rattle.theory_walk.specs.BookNames.{book_named}
 use Rattle.theory_walk.specs.Libraries.{Key}
 use Rattle.book_reader.specs.Shelved.{Setting, whole_library, without}
 use Rattle.book_reader.specs.Shelves.{ShelfState}
-use Rattle.file_check.specs.Counts.{of_opening}
+use Rattle.file_check.specs.Failures.{of_opening}
 use Rattle.dk_check_run.specs.Books.{IsOfBooks, asked_setting, report_for, report_made}
 use Rattle.dk_check_run.specs.Run.{AsksFor, HasShelfFault, IsBookDue, IsDecided, OpensNothing, ReportsFile, ReportsTheory, SinkState, memory_at_once, of_a_module, of_a_read, of_the_file, summary, text_of, text_with}
 use Rattle.dk_check_run.specs.Check as check

@@ -16,7 +16,7 @@ use Rattle.typing_model.proofs.Formed.{command_entry, formed_more, formed_number
 use Rattle.typing_model.proofs.Rules.{units_reduce}
 use Rattle.typing_model.specs.Derivations.{HasDerivation}
 use Rattle.verdict_book.specs.Report.{FileReport, status_of}
-use Rattle.theory_walk.specs.Walks.{Placed, Reached, walk_of}
+use Rattle.theory_walk.specs.Walks.{Placed, Reached}
 use Rattle.file_report.specs.Outcomes.{Theory, no_theory, scoped_entry, scoped_verdict}
 use Rattle.file_report.specs.TheoryReports.{by_verdict, report_from}
 use Rattle.file_report.specs.Theories.{scoped_at, theory_with, verdict_on}

@@ -1,5 +1,5 @@
 -- What the check of a made theory comes to is a row of `make`.
-use Rattle.std.proofs.Common.{◌≡◌, ◌≤◌, ◌+◌, inl, inr, ℕ, Bool, true, false, List, [], ◌∷◌, length, refl, sym, ap, subst, ◌∙◌, arith}
+use Rattle.std.proofs.Common.{◌≡◌, ◌≤◌, inl, inr, ℕ, Bool, true, false, List, [], ◌∷◌, length, refl, sym, ap, subst, ◌∙◌, arith}
 use Rattle.std.specs.Prelude.{◌==◌, if◌then◌else◌, None, Some}
 use Rattle.dk_io.specs.Bytes.{Books}
 use Rattle.dk_io.specs.Causes.{Rose}
@@ -27,7 +27,7 @@ use Rattle.book_reader.specs.Shelves.{ShelfState}
 use Rattle.file_check.specs.Checks.{ChecksShelf}
 use Rattle.file_check.specs.Counts.{EndsInMemory, EndsOn, IsCutByMemory}
 use Rattle.file_check.specs.Counts as counts
-use Rattle.dk_check_run.specs.Books.{made_setting, no_modules, report_made}
+use Rattle.dk_check_run.specs.Books.{made_setting, no_modules}
 use Rattle.dk_check_run.specs.Make as make
 use Rattle.dk_check_run.specs.Roots.{IsRootOf}
 use Rattle.dk_check_run.specs.Rows.{books, memory}

@@ -1,5 +1,5 @@
 -- Trusted: how the file that is asked for, and the modules beside it, are read from books, and their report (docs/modules.md).
-use Rattle.std.specs.Prelude.{◌≡◌, ℕ, List, [], ◌∷◌, Option, Some, None}
+use Rattle.std.specs.Prelude.{ℕ, List, [], ◌∷◌, Option, Some, None}
 use Rattle.dk_io.specs.Bytes.{Books}
 use Rattle.dk_model.specs.declared.limits.Limits.{Limits}
 use Rattle.dk_make.specs.Theory.{theory_of}
@@ -11,8 +11,7 @@ use Rattle.theory_walk.specs.Libraries.{Library}
 use Rattle.file_report.specs.Folds.{fold_of}
 use Rattle.file_report.specs.Outcomes.{no_theory}
 use Rattle.file_report.specs.Theories.{theory_with, verdict_on}
-use Rattle.book_reader.specs.Shelved.{AreLeft, Given, Setting, given_library, whole_library}
-use Rattle.book_reader.specs.Shelves.{ShelfState}
+use Rattle.book_reader.specs.Shelved.{Setting, whole_library}
 
 -- so many files may be open, and so many modules opened besides the file
 unfoldable pub standard_modules : ModuleLimits

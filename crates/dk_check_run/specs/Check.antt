@@ -13,7 +13,7 @@ use Rattle.theory_walk.specs.Walks.{Spot}
 use Rattle.file_report.specs.Reports.{place_of}
 use Rattle.book_reader.specs.Shelved.{AreLeft, Given, IsDueAt, MemoryDue, Setting, walk_in, whole_library, without}
 use Rattle.book_reader.specs.Shelves.{HasHeld, ShelfState}
-use Rattle.file_check.specs.Counts.{Counted, Failure, given_till, of_opening, of_read}
+use Rattle.file_check.specs.Failures.{Counted, Failure, given_till, of_opening, of_read}
 use Rattle.dk_check_run.specs.Books.{IsOfBooks, report_in}
 use Rattle.dk_check_run.specs.Run.{LeavesBooks, memory_at_once, text_of, text_with}
 use Rattle.dk_check_run.specs.Run as line

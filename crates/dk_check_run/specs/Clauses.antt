@@ -1,5 +1,5 @@
 -- Trusted: what a reader looks for, each promise by its name; all follow from the one clause.
-use Rattle.std.specs.Prelude.{◌≡◌, ◌≢◌, ◌⊎◌, ◌<◌, ℕ, List, Option, None, Some}
+use Rattle.std.specs.Prelude.{◌≡◌, ◌≢◌, ◌⊎◌, ◌<◌, ℕ, Option, None, Some}
 use Rattle.dk_io.specs.Bytes.{Books}
 use Rattle.dk_io.specs.Causes.{Rose}
 use Rattle.dk_model.specs.declared.limits.Limits.{Limits}

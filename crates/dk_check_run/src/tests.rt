@@ -2,6 +2,7 @@
 ghost use Rattle.std.specs.Prelude.{◌≡◌, ◌<◌, [], IfOk};
 
 use crate::file_rows::{ASKED, FILES, LONG, MADE};
+use crate::module_rows::Books;
 use crate::rule_rows::RULES;
 use crate::{NoGate, run, run_with};
 use board_core::Gate;
@@ -18,7 +19,7 @@ pub(crate) struct Row<'a> {
     /// The words behind the program's name.
     pub(crate) words: &'a str,
     /// The books, each with its name and text; and the text of `f.dk`, if it isn't among them.
-    pub(crate) books: &'a [(&'a str, &'a str)],
+    pub(crate) books: Books,
     pub(crate) text: &'a [u8],
     /// The most bytes of a read, and the shelf's call that fails (0: none). Its first call is the opening.
     pub(crate) piece: usize,
