@@ -7,8 +7,8 @@ ghost use Rattle.task_board.specs.Histories.{events_in};
 ghost use Rattle.task_board.specs.Passes.{HasTask, IsIdle};
 
 use crate::passes::{last_pass, pass_back};
-use crate::told::Told;
-use board_core::{Book, Claimed, End, Event, PutRefused, Task};
+use crate::told::{Told, are_steps};
+use board_core::{Book, Claimed, End, PutRefused, Task};
 use dk_model::{Code, Listed, Verdict};
 use std::alloc::Global;
 use std::process::Abort;
@@ -113,22 +113,19 @@ fn answer<R: Wait + Abort>(
 // Whether the book has two jobs, a fault at the first one, and this history.
 fn is_stopped_at_the_first(book: &Book<Verdict>) -> bool {
     let fault = Verdict::Refused(Code::E21);
-    let is_history = matches!(
-        book.history(),
-        [
-            Event::Put(1),
-            Event::Put(2),
-            Event::Claim(1, 1),
-            Event::Claim(2, 2),
-            Event::Answer(2, 2, Verdict::Accepted),
-            Event::Answer(1, 1, Verdict::Refused(Code::E21)),
-            Event::Seal(End::Stopped),
-        ]
-    );
+    let steps = [
+        (b'p', 0, 1, None),
+        (b'p', 0, 2, None),
+        (b'c', 1, 1, None),
+        (b'c', 2, 2, None),
+        (b'a', 2, 2, Some(Verdict::Accepted)),
+        (b'a', 1, 1, Some(fault)),
+        (b's', 0, 0, None),
+    ];
     book.len() == 2
         && book.fault() == Some((1, fault))
         && matches!(book.end(), Some(End::Stopped))
-        && is_history
+        && are_steps(book.history(), &steps)
 }
 
 #[test]

@@ -1,4 +1,4 @@
-ghost use Rattle.std.specs.Prelude.{◌<◌, ◌≤◌, ◌+◌, Some, length, map};
+ghost use Rattle.std.specs.Prelude.{◌≡◌, ◌<◌, ◌≤◌, ◌+◌, [], IfOk, Some, length, map};
 
 use dk_io::{Book, Buffer, Failed, MemShelf, MemSink, OsShelf, OsSink, Shelf, Sink, put};
 use std::alloc::{AllocError, Global};
@@ -35,7 +35,7 @@ fn answer_of(shelf: &mut MemShelf, call: u8) -> u8
 
 // What the calls of a script answer, the first 60 of them.
 fn played(alloc: Global, shelf: &mut MemShelf, script: &str) -> Result<Vec<u8>, AllocError>
-    requires none { length (map Some shelf.old.aside) ≤ 0 }
+    requires none { shelf.old.aside ≡ [] }
 {
     let mut answers = Vec::new(alloc);
     let mut calls: u32 = 0;
@@ -68,7 +68,17 @@ fn digit(count: usize) -> u8 {
     }
 }
 
-// Whether a shelf with one book, `a.dk`, of seven bytes, answers this to a script.
+// A shelf with one book, `a.dk`, of seven bytes.
+fn shelf_of(alloc: Global, piece: usize, failing: &[u64]) -> Result<MemShelf, Fail>
+    requires { 0 < piece }
+    ensures none { IfOk result (λ s. s.aside ≡ []) }
+{
+    let failing = Vec::from_slice(alloc, failing)?;
+    let books = one_book(alloc, "a.dk", b"seven b")?;
+    Ok(MemShelf::new(alloc, books, piece, failing)?)
+}
+
+// Whether the shelf answers this to a script.
 fn answers(
     alloc: Global,
     piece: usize,
@@ -78,9 +88,7 @@ fn answers(
 ) -> Result<bool, Fail>
     requires { 0 < piece }
 {
-    let failing = Vec::from_slice(alloc, failing)?;
-    let books = one_book(alloc, "a.dk", b"seven b")?;
-    let mut shelf = MemShelf::new(alloc, books, piece, failing)?;
+    let mut shelf = shelf_of(alloc, piece, failing)?;
     let found = played(alloc, &mut shelf, script)?;
     Ok(found.as_slice() == due.as_bytes())
 }
@@ -106,22 +114,34 @@ fn shelves_answer(alloc: Global) -> Result<bool, Fail> {
     Ok(true)
 }
 
-// Whether a book that was put aside goes on where it was left: `a.dk` of seven bytes, opened twice.
-fn books_go_on(alloc: Global) -> Result<bool, Fail> {
-    let books = one_book(alloc, "a.dk", b"seven b")?;
-    let mut shelf = MemShelf::new(alloc, books, 9, Vec::new(alloc))?;
+// How much is read into a buffer of four bytes: of a book, of one that is opened inside it, and of the first one again,
+// which goes on where it was left; and what is in the buffer then.
+#[tactic(auto, using(crate::proofs::Asides::count_more, crate::proofs::Asides::some_more))]
+fn read_around<H: Shelf>(
+    shelf: &mut H,
+    outer: &str,
+    inner: &str,
+) -> Option<([Result<usize, Failed>; 3], [u8; 4])>
+    requires few { length (H.aside shelf.old) < 63 }
+{
     let mut buf = [0u8; 4];
-    let Ok(()) = shelf.open_book("a.dk") else {
-        return Ok(false);
+    let Ok(()) = shelf.open_book(outer) else {
+        return None;
     };
     let before = shelf.read(&mut buf);
-    let Ok(()) = shelf.open_book("a.dk") else {
-        return Ok(false);
+    let Ok(()) = shelf.open_book(inner) else {
+        return None;
     };
     let inside = shelf.read(&mut buf);
     shelf.back();
     let after = shelf.read(&mut buf);
-    Ok(before == Ok(4) && inside == Ok(4) && after == Ok(3) && buf == *b"n be")
+    Some(([before, inside, after], buf))
+}
+
+fn books_go_on(alloc: Global) -> Result<bool, Fail> {
+    let mut shelf = shelf_of(alloc, 9, &[])?;
+    let read = read_around(&mut shelf, "a.dk", "a.dk");
+    Ok(read == Some(([Ok(4), Ok(4), Ok(3)], *b"n be")))
 }
 
 // Whether a sink takes just this of a line, and says whether that is all.
@@ -228,26 +248,11 @@ fn outputs_flush_and_take_at_least_a_byte() -> bool {
 // Whether the shelf of files opens what is there, and goes on with a file that was put aside.
 fn files_open<R: Files>(rt: &R, alloc: Global) -> Result<bool, Fail> {
     let mut shelf = OsShelf::new(rt, alloc)?;
-    let mut buf = [0u8; 4];
-    let before = shelf.read(&mut buf);
+    let before = shelf.read(&mut [0u8; 4]);
     let missing = shelf.open_book("no/such/file.dk");
-    let Ok(()) = shelf.open_book("/dev/zero") else {
-        return Ok(false);
-    };
-    let found = shelf.read(&mut buf);
-    let Ok(()) = shelf.open_book("/dev/null") else {
-        return Ok(false);
-    };
-    let empty = shelf.read(&mut buf);
-    shelf.back();
-    let again = shelf.read(&mut buf);
-    Ok(
-        before == Ok(0)
-            && missing == Err(Failed)
-            && found == Ok(4)
-            && empty == Ok(0)
-            && again == Ok(4),
-    )
+    let read = read_around(&mut shelf, "/dev/zero", "/dev/null");
+    let is_read = read == Some(([Ok(4), Ok(0), Ok(4)], [0; 4]));
+    Ok(before == Ok(0) && missing == Err(Failed) && is_read)
 }
 
 #[test]

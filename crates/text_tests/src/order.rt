@@ -1,10 +1,11 @@
-//! The worked histories of two workers, on a book.
-ghost use Rattle.std.specs.Prelude.{◌≡◌, ◌≢◌, ℕ, ◌+◌, ◌<◌, false, true, length, MatchOption, IfNone};
+//! A history of two workers on a book whose first fault isn't the first one in time.
+ghost use Rattle.std.specs.Prelude.{◌≡◌, ◌≢◌, ℕ, ◌+◌, ◌<◌, false, true, length};
 ghost use Rattle.std.specs.List.{list_any};
 ghost use Rattle.board_core.specs.Events.{is_seal, is_fault};
 ghost use Rattle.board_core.specs.Machine.{Holds, HoldsNone};
 
-use board_core::{Book, Claimed, End, Event, PutRefused, Task, finished_when_drained};
+use crate::told::are_steps;
+use board_core::{Book, Claimed, End, PutRefused, Task, finished_when_drained};
 use dk_model::{Code, Verdict};
 use std::alloc::Global;
 use std::process::Abort;
@@ -23,25 +24,6 @@ fn put<R: Abort>(rt: &R, alloc: Global, book: &mut Book<u32>, job: u32, settled:
     match book.put(share, settled) {
         Ok(number) => number,
         Err(_) => panic!(rt; "the job was refused"),
-    }
-}
-
-// The number and the job of a task, and whether the worker was told that all is over.
-fn claim(book: &mut Book<u32>, worker: u32) -> (Option<(u32, u32)>, bool)
-    requires { HoldsNone worker book.old.events }
-    ensures holds { MatchOption result.0
-        (HoldsNone worker book.new.events)
-        (λ t. Holds worker t.0 book.new.events) }
-    ensures others { (u n : ℕ) → u ≢ worker → Holds u n book.old.events → Holds u n book.new.events }
-    ensures idle { (u : ℕ) → u ≢ worker → HoldsNone u book.old.events → HoldsNone u book.new.events }
-    ensures jobs { book.new.jobs ≡ book.old.jobs }
-    ensures sealed { list_any is_seal book.new.events ≡ list_any is_seal book.old.events }
-    ensures kept { IfNone result.0 (book.new ≡ book.old) }
-{
-    match book.claim(worker) {
-        Claimed::Task(Task { number, job }) => (Some((number, *job)), false),
-        Claimed::Empty => (None, false),
-        Claimed::Over => (None, true),
     }
 }
 
@@ -78,12 +60,15 @@ fn must_claim<R: Abort>(rt: &R, book: &mut Book<u32>, worker: u32, want: u32, wa
     ensures jobs { book.new.jobs ≡ book.old.jobs }
     ensures sealed { list_any is_seal book.new.events ≡ list_any is_seal book.old.events }
 {
-    let (Some((number, job)), _) = claim(book, worker) else {
-        panic!(rt; "the worker was given no task");
-    };
-    assert_eq!(rt; job, want_job);
-    if number != want {
-        panic!(rt; "the worker was given job {number}");
+    match book.claim(worker) {
+        Claimed::Task(Task { number, job }) => {
+            assert_eq!(rt; *job, want_job);
+            if number != want {
+                panic!(rt; "the worker was given job {number}");
+            }
+        }
+        Claimed::Empty => panic!(rt; "the worker was given no task"),
+        Claimed::Over => panic!(rt; "the worker was told that all is over"),
     }
 }
 
@@ -97,19 +82,6 @@ fn both_claim<R: Abort>(rt: &R, book: &mut Book<u32>)
 {
     must_claim(rt, book, 1, 1, 10);
     must_claim(rt, book, 2, 2, 20);
-}
-
-// Job 2 is accepted, and its worker finds nothing more; then job 1 is refused.
-fn both_answer<R: Abort>(rt: &R, book: &mut Book<u32>)
-    requires { Holds 1 1 book.old.events × Holds 2 2 book.old.events }
-    ensures idle { HoldsNone 1 book.new.events }
-    ensures jobs { book.new.jobs ≡ book.old.jobs }
-    ensures sealed { list_any is_seal book.new.events ≡ list_any is_seal book.old.events }
-{
-    answer(book, 2, 2, Verdict::Accepted);
-    let idle = claim(book, 2);
-    assert_eq!(rt; idle, (None, false));
-    answer(book, 1, 1, Verdict::Refused(Code::E21));
 }
 
 // A further job is refused: this number has this verdict.
@@ -148,49 +120,6 @@ fn last_is_refused<R: Abort>(rt: &R, book: &mut Book<u32>)
     answer(book, 1, 3, Verdict::Refused(Code::E20));
 }
 
-// Whether the events say what was done, and the book says the same.
-fn is_stopped_at_the_first(book: &Book<u32>) -> bool {
-    if book.len() != 2 {
-        return false;
-    }
-    let fault = Verdict::Refused(Code::E21);
-    let is_history = matches!(
-        book.history(),
-        [
-            Event::Put(1),
-            Event::Put(2),
-            Event::Claim(1, 1),
-            Event::Claim(2, 2),
-            Event::Answer(2, 2, Verdict::Accepted),
-            Event::Answer(1, 1, Verdict::Refused(Code::E21)),
-            Event::Seal(End::Stopped),
-        ]
-    );
-    let verdicts = [book.verdict(1), book.verdict(2)];
-    is_history
-        && !book.is_settled(2)
-        && verdicts == [Some(fault), Some(Verdict::Accepted)]
-        && book.fault() == Some((1, fault))
-        && matches!(book.end(), Some(End::Stopped))
-}
-
-#[test]
-fn keeps_two_workers_apart_and_stops_at_a_fault(rt: HostRuntime) {
-    let alloc = rt.alloc();
-    let mut book = two_jobs(&rt, alloc);
-    both_claim(&rt, &mut book);
-    both_answer(&rt, &mut book);
-    let fault = (1, Verdict::Refused(Code::E21));
-    refused(&rt, alloc, &mut book, fault);
-    let over = claim(&mut book, 1);
-    refused(&rt, alloc, &mut book, fault);
-    book.seal(End::Stopped);
-    let blank = Arc::new(alloc, 0).expect(&rt, "memory for a job");
-    let replayed = book.replay(&blank).expect(&rt, "memory for a replay");
-    let is_same = is_stopped_at_the_first(&book) && is_stopped_at_the_first(&replayed);
-    assert!(rt; is_same && over == (None, true));
-}
-
 // Seals a stopped book.
 fn seal_stopped(book: &mut Book<u32>)
     requires unsealed { list_any is_seal book.old.events ≡ false }
@@ -216,24 +145,31 @@ fn fault_of_sealed(book: &mut Book<u32>) -> Option<(u32, Verdict)>
     }
 }
 
-// Whether the events say what was done, and the fault is the least one.
+// Whether the events say what was done, and the book says the same.
 fn ends_at_the_least(book: &Book<u32>) -> bool {
-    let is_history = matches!(
-        book.history(),
-        [
-            Event::Put(1),
-            Event::Put(2),
-            Event::Put(3),
-            Event::Claim(1, 1),
-            Event::Claim(2, 2),
-            Event::Answer(1, 1, Verdict::Accepted),
-            Event::Claim(1, 3),
-            Event::Answer(1, 3, Verdict::Refused(Code::E20)),
-            Event::Answer(2, 2, Verdict::Refused(Code::E21)),
-            Event::Seal(End::Stopped),
-        ]
-    );
-    is_history && book.fault() == Some((2, Verdict::Refused(Code::E21)))
+    if book.len() != 3 {
+        return false;
+    }
+    let fault = Verdict::Refused(Code::E21);
+    let accepted = Some(Verdict::Accepted);
+    let steps = [
+        (b'p', 0, 1, None),
+        (b'p', 0, 2, None),
+        (b'p', 0, 3, None),
+        (b'c', 1, 1, None),
+        (b'c', 2, 2, None),
+        (b'a', 1, 1, accepted),
+        (b'c', 1, 3, None),
+        (b'a', 1, 3, Some(Verdict::Refused(Code::E20))),
+        (b'a', 2, 2, Some(fault)),
+        (b's', 0, 0, None),
+    ];
+    let verdicts = [book.verdict(1), book.verdict(2)];
+    are_steps(book.history(), &steps)
+        && !book.is_settled(2)
+        && verdicts == [accepted, Some(fault)]
+        && book.fault() == Some((2, fault))
+        && matches!(book.end(), Some(End::Stopped))
 }
 
 #[test]

@@ -1,6 +1,4 @@
 //! Where reading a file ends, through shelf, lexer, parser and scoping, with its commands counted.
-ghost use Rattle.std.specs.Prelude.{◌<◌, IfOk, Some, length, map};
-
 use dk_io::{Book, MemShelf, Shelf};
 use dk_model::{Code, Fault, Limits, NoMemory};
 use dk_parser::Raw;
@@ -46,15 +44,16 @@ impl Counter {
 // and the end, where the book was read up to it.
 type Told = (u32, u32, Option<Code>, Option<ReadEnd>);
 
-fn shelf_of(alloc: Global, text: &str, failing: u64) -> Result<MemShelf, Fail>
-    ensures { IfOk result (λ s. length (map Some s.aside) < 64) }
-{
+// A shelf whose only book is this text, opened.
+fn shelf_of(alloc: Global, text: &str, failing: u64) -> Result<MemShelf, Fail> {
     let name = String::from_str(alloc, "f.dk")?;
     let bytes = Vec::from_slice(alloc, text.as_bytes())?;
     let mut books = Vec::new(alloc);
     books.push(Book { name, bytes })?;
     let failing = Vec::from_slice(alloc, &[failing])?;
-    Ok(MemShelf::new(alloc, books, 3, failing)?)
+    let mut shelf = MemShelf::new(alloc, books, 3, failing)?;
+    let _opened = shelf.open_book("f.dk");
+    Ok(shelf)
 }
 
 // What the counter is told, and the shelf's call that fails (0: none; the first is the opening).
@@ -88,13 +87,10 @@ fn end_of(
     shelf: &mut MemShelf,
     counter: &mut Counter,
     levels: u32,
-) -> Option<ReadEnd>
-    requires { length (map Some shelf.old.aside) < 64 }
-{
+) -> Option<ReadEnd> {
     let mut limits = Limits::standard();
     limits.levels = levels;
     let mut reader = Reader::new(alloc, limits);
-    let _opened = shelf.open_book("f.dk");
     'commands: for _command in 0..1_000 {
         match reader.next(alloc, shelf) {
             Ok(next) => {

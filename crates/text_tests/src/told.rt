@@ -1,5 +1,5 @@
-//! A checker whose jobs are their own verdicts, and a gate that keeps nothing.
-use board_core::{Checker, Gate};
+//! A checker whose jobs are their own verdicts, a gate that keeps nothing, and histories that are written out.
+use board_core::{Checker, End, Event, Gate};
 use dk_model::Verdict;
 use std::sync::atomic::{AtomicU64, Ordering};
 use std::thread;
@@ -73,4 +73,29 @@ impl Gate for NoGate {
     fn enter(&self, _: u32) {}
 
     fn leave(&self, _: u32) {}
+}
+
+/// An event by its letter (`p` put, `c` claimed, `a` answered, `s` sealed at a fault), the worker, the job and the verdict.
+pub type Step = (u8, u32, u32, Option<Verdict>);
+
+fn step_of(event: &Event) -> Step {
+    match event {
+        Event::Put(job) => (b'p', 0, *job, None),
+        Event::Claim(worker, job) => (b'c', *worker, *job, None),
+        Event::Answer(worker, job, verdict) => (b'a', *worker, *job, Some(*verdict)),
+        Event::Seal(End::Stopped) => (b's', 0, 0, None),
+        Event::Seal(_) => (b'?', 0, 0, None),
+    }
+}
+
+/// Whether a history has these steps, and no others.
+pub fn are_steps(history: &[Event], due: &[Step]) -> bool {
+    let mut at = 0usize;
+    for event in history {
+        match due.get(at) {
+            Some(step) if *step == step_of(event) => at = at.wrapping_add(1),
+            _ => return false,
+        }
+    }
+    at == due.len()
 }
