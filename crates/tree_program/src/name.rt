@@ -1,34 +1,46 @@
 //! The name in the `ok` line of a command.
-ghost use Rattle.std.specs.Prelude.{◌≡◌};
+ghost use Rattle.std.specs.Prelude.{◌≡◌, ◌++◌, IfOk};
 ghost use Rattle.dk_parser.specs.RawViews.{written_form, written_pattern};
-ghost use Rattle.file_report.specs.Outcomes.{head_name, shown_name};
+ghost use Rattle.file_report.specs.Outcomes.{head_name, shown_name, spelt};
 
+use dk_model::{Listed, NoMemory};
 use dk_parser::{RawForm, RawPat};
+use std::alloc::Global;
 
 /// The declared name, or that at the head of the first rule (docs/report.md).
-pub fn shown_name(form: &RawForm) -> &[u8]
-    ensures { result.now ≡ shown_name (written_form form.now) }
+pub fn shown_name(alloc: Global, form: &RawForm) -> Result<Listed<u8>, NoMemory>
+    ensures { IfOk result (λ name. name ≡ shown_name (written_form form.now)) }
 {
     match form {
-        RawForm::Declare { name, .. } => name.as_slice(),
+        RawForm::Declare { name, .. } => name.copy(alloc),
         RawForm::Rules(rules) => match rules.as_slice() {
-            [] => b"",
-            [rule, ..] => head_name(&rule.left),
+            [] => Ok(Listed::new(alloc)),
+            [rule, ..] => head_name(alloc, &rule.left),
         },
-        _ => b"",
+        _ => Ok(Listed::new(alloc)),
     }
 }
 
+// A qualified name as it is spelt.
+fn spelt(alloc: Global, part: &[u8], name: &[u8]) -> Result<Listed<u8>, NoMemory>
+    ensures { IfOk result (λ text. text ≡ spelt part.now name.now) }
+{
+    let mut text = part.to_vec(alloc)?;
+    text.extend_from_slice(b".")?;
+    text.extend_from_slice(name)?;
+    Ok(Listed::from_vec(text))
+}
+
 // The name at the head of a left side.
-fn head_name(left: &RawPat) -> &[u8]
-    ensures { result.now ≡ head_name (written_pattern left.now) }
+fn head_name(alloc: Global, left: &RawPat) -> Result<Listed<u8>, NoMemory>
+    ensures { IfOk result (λ name. name ≡ head_name (written_pattern left.now)) }
 {
     match left {
-        RawPat::Name(name) => name.as_slice(),
-        RawPat::App(function, _) => head_name(function),
-        RawPat::Abs(_, _) => b"",
-        RawPat::Qualified(_, _) => b"",
-        RawPat::Wild => b"",
-        RawPat::Guard(_) => b"",
+        RawPat::Name(name) => name.copy(alloc),
+        RawPat::App(function, _) => head_name(alloc, function),
+        RawPat::Abs(_, _) => Ok(Listed::new(alloc)),
+        RawPat::Qualified(part, name) => spelt(alloc, part.as_slice(), name.as_slice()),
+        RawPat::Wild => Ok(Listed::new(alloc)),
+        RawPat::Guard(_) => Ok(Listed::new(alloc)),
     }
 }

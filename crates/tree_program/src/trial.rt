@@ -10,7 +10,7 @@ use crate::tried::Tried;
 use board_core::{End, Place};
 use command_check::enter_command;
 use dk_io::Shelf;
-use dk_model::{Code, Entry, Fault, Limits, Listed, NoMemory, Scoped, Verdict};
+use dk_model::{Code, Entry, Fault, Limits, NoMemory, Scoped, Verdict};
 use dk_parser::Raw;
 use file_reader::{ReadEnd, Reader};
 use scope_terms::Names;
@@ -102,7 +102,7 @@ impl Trial {
         };
         self.version = version;
         let title = Title {
-            name: Listed::from_slice(alloc, shown_name(&raw.form))?,
+            name: shown_name(alloc, &raw.form)?,
             place: Place::in_file(alloc, raw.line),
         };
         self.tried.add(alloc, &title)
