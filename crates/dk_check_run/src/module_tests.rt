@@ -9,12 +9,11 @@ use std::sync::Wait;
 use std::test::Fail;
 use std::thread::Threads;
 
-/// The first theory whose report isn't the one that is due, by its place in the table.
+/// The report that is due of the first theory of which it isn't the one that comes.
 fn first_theory<R: Threads + Wait + Sync>(
     rt: &R,
     alloc: Global,
-) -> Result<Option<usize>, NoMemory> {
-    let mut at = 0;
+) -> Result<Option<&'static str>, NoMemory> {
     for (books, words, status, report) in &MODULES {
         let row = Row {
             words: *words,
@@ -24,9 +23,8 @@ fn first_theory<R: Threads + Wait + Sync>(
             ..EMPTY
         };
         if !is_answered(rt, alloc, &row, &NoGate)? {
-            return Ok(Some(at));
+            return Ok(Some(*report));
         }
-        at += 1;
     }
     Ok(None)
 }
