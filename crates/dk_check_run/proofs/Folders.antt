@@ -34,6 +34,7 @@ folder_at name k within slash none = ap (λ n. take n name) (count ∙ ap (λ n.
   where
     at : length_behind_slash name ≡ length name - (k + 1)
     at = behind_is name (length name - (k + 1)) (omega arith) (λ i less far. none i (omega (arith, far, within)) less) (λ less. ap (λ n. get_or name n 0) (omega (arith, within)) ∙ slash)
+
     count : k + 1 - 0 ≡ length name - (length name - (k + 1))
     count = omega (arith, within)
 
@@ -43,5 +44,6 @@ no_folder name none = ap (λ n. take n name) zero_is
   where
     at : length_behind_slash name ≡ length name
     at = behind_is name (length name) (omega arith) (λ i less far. none i less) (λ less. absurd (omega (arith, less)))
+
     zero_is : 0 ≡ length name - length_behind_slash name
     zero_is = omega (arith, at)

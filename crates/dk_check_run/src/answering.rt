@@ -116,12 +116,7 @@ fn standard_modules() -> ModuleLimits
 }
 
 // What is read where the file has this name.
-fn root_of(
-    alloc: Global,
-    limits: Limits,
-    most: ModuleLimits,
-    file: &str,
-) -> Result<Root, NoMemory>
+fn root_of(alloc: Global, limits: Limits, most: ModuleLimits, file: &str) -> Result<Root, NoMemory>
     ensures { IfOk result (IsRootOf limits most file.now) }
 {
     let own = own_module(alloc, file.as_bytes())?;

@@ -213,7 +213,10 @@ pub(crate) const MODULES: [(Books, &str, u8, &str); 36] = [
     (
         &[
             ("f.dk", "#REQUIRE m."),
-            ("m.dk", "a : Type. def b : Type := a. x : a.\nthm t : b := x."),
+            (
+                "m.dk",
+                "a : Type. def b : Type := a. x : a.\nthm t : b := x.",
+            ),
         ],
         "check --budget=4 f.dk",
         6,

@@ -55,10 +55,7 @@ fn report_at_call(call: u64) -> (u8, &'static [u8]) {
         7 => (3, b"ok 1 m.a\nok 2 x\nunread 3 in n.dk\n"),
         8 => (3, b"ok 1 m.a\nok 2 x\nok 3 n.b\nunread 4 in n.dk\n"),
         9 => (3, b"ok 1 m.a\nok 2 x\nok 3 n.b\nok 4 y\nunread 5\n"),
-        _ => (
-            0,
-            b"ok 1 m.a\nok 2 x\nok 3 n.b\nok 4 y\naccepted 4\n",
-        ),
+        _ => (0, b"ok 1 m.a\nok 2 x\nok 3 n.b\nok 4 y\naccepted 4\n"),
     }
 }
 
@@ -155,7 +152,10 @@ fn reports_the_first_fault(rt: HostRuntime) -> Result<(), Fail> {
                 taken: b"ok 1 m.a\nok 2 m.b\nok 3 m.c\nrefused 4 line 4 E21 in m.dk\n",
                 ..EMPTY
             };
-            assert!(rt; is_answered(&rt, rt.alloc(), &row, &NoGate)?, "at {call}, {words}");
+            assert!(rt;
+                is_answered(&rt, rt.alloc(), &row, &NoGate)?,
+                "at {call}, {words}"
+            );
         }
     }
     Ok(())
