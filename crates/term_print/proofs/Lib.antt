@@ -1,0 +1,16 @@
+pub mod Bytes
+pub mod Fresh
+pub mod Naming
+pub mod Qualified
+pub mod Quoted
+pub mod ReadBack
+pub mod Scoped
+pub mod Spells
+pub mod Spelt
+pub mod Stacking
+pub mod Surveyed
+pub mod Texts
+pub mod Turned
+pub mod Walked
+pub mod Worked
+pub mod Writing

@@ -1,0 +1,10 @@
+pub mod Named
+pub mod Nodes
+pub mod Printing
+pub mod Products
+pub mod ReadBack
+pub mod Readable
+pub mod Spelled
+pub mod Tasks
+pub mod Text
+pub mod Walks
