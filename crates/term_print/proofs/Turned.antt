@@ -1,5 +1,5 @@
 -- A turn of printing.
-use Rattle.std.proofs.Common.{List, [], ◌∷◌, ◌++◌, ℕ, ◌≡◌, ◌+◌, Bool, true, false, Option, Some, None, refl, ap, sym as flip, subst as along_path, ◌∙◌, if◌then◌else◌, append_assoc}
+use Rattle.std.proofs.Common.{List, [], ◌∷◌, ◌++◌, ℕ, ◌≡◌, ◌+◌, Bool, true, false, Option, Some, None, refl, ap, sym as flip, subst as along_path, ◌∙◌, if◌then◌else◌, append_assoc, ◌*◌, ◌<◌, ◌≤◌, arith}
 use Rattle.dk_lexer.specs.declared.token.Sign.TheVariants as sign
 use Rattle.dk_model.specs.PlainTerms.{Tree, symbol, apply, bare, annotated, product}
 use Rattle.dk_terms.specs.declared.terminal.Terminal.{Terminal}
@@ -13,12 +13,14 @@ use Rattle.term_print.specs.ReadBack.{word_terminal}
 use Rattle.term_print.specs.Printing.{printed}
 use Rattle.term_print.specs.declared.place.Place.{Place}
 use Rattle.term_print.specs.declared.place.Place.TheVariants as place
+use Rattle.term_print.specs.declared.task.Subterm.{Subterm}
 use Rattle.term_print.specs.declared.task.Task.{Task}
 use Rattle.term_print.specs.declared.task.Task.TheVariants as task
+use Rattle.term_print.specs.declared.text.Mark.{Mark}
 use Rattle.term_print.specs.declared.text.Mark.TheVariants as mark
 use Rattle.term_print.specs.declared.text.Text.{Text}
-use Rattle.term_print.specs.Products.{front, last_one, named_last}
-use Rattle.term_print.specs.Tasks.{Puts, text_with, terminals, left_of, before, bracketed_if, is_narrow, is_wide, named_left, named_behind}
+use Rattle.term_print.specs.Products.{front, last_one, named_last, size}
+use Rattle.term_print.specs.Tasks.{Puts, text_with, terminals, left_of, before, bracketed_if, application_parts, arrow_parts, bare_parts, bound_parts, is_narrow, is_wide, named_left, named_behind, weight, weights}
 use Rattle.term_print.specs.Walks.{SameSpellings}
 use Rattle.term_print.proofs.Naming.{written_same}
 use Rattle.term_print.proofs.Surveyed.{front_of, last_of}
@@ -54,15 +56,15 @@ module _ (denotes : ℕ → Tree) where
   pub named_leaf : (t : ℕ) (u : Tree) (ts : List Task) (named : List Bool) → named ≡ named_left denotes ts ++ named_last (denotes t) → denotes t ≡ u → named_last u ≡ [] → named ≡ named_left denotes ts
   named_leaf t u ts named h e i = h ∙ (ap (λ v. named_left denotes ts ++ named_last v) e ∙ (ap (λ xs. named_left denotes ts ++ xs) i ∙ append_nothing (named_left denotes ts)))
 
-  pub named_application : (t f a d : ℕ) (old new : List Task) (named : List Bool) → named ≡ named_left denotes old ++ named_last (denotes t) → denotes t ≡ apply (denotes f) (denotes a)
+  below_application : (t f a d : ℕ) (old new : List Task) (named : List Bool) → named ≡ named_left denotes old ++ named_last (denotes t) → denotes t ≡ apply (denotes f) (denotes a)
       → named_left denotes new ≡ named_left denotes old ++ named_behind denotes (task.Term (record { term = f; depth = d; place = place.Application }) ∷ task.Term (record { term = a; depth = d; place = place.Atom }) ∷ [])
       → named ≡ named_left denotes new
-  named_application t f a d old new named h e n = named_turn t _ old new named _ h e n refl
+  below_application t f a d old new named h e n = named_turn t _ old new named _ h e n refl
 
-  pub named_bare : (t b d u : ℕ) (old new : List Task) (named : List Bool) → named ≡ named_left denotes old ++ named_last (denotes t) → denotes t ≡ bare (denotes b)
+  below_bare : (t b d u : ℕ) (old new : List Task) (named : List Bool) → named ≡ named_left denotes old ++ named_last (denotes t) → denotes t ≡ bare (denotes b)
       → named_left denotes new ≡ named_left denotes old ++ named_behind denotes (task.Binder d ∷ task.Mark mark.DoubleArrow ∷ task.Term (record { term = b; depth = u; place = place.Term }) ∷ [])
       → named ≡ named_left denotes new
-  named_bare t b d u old new named h e n = named_turn t _ old new named _ h e n (append_nothing (named_last (denotes b) ++ []) ∙ append_nothing (named_last (denotes b)))
+  below_bare t b d u old new named h e n = named_turn t _ old new named _ h e n (append_nothing (named_last (denotes b) ++ []) ∙ append_nothing (named_last (denotes b)))
 
   -- a part, a mark, a part
   three_behind : (xs ys : List Bool) → (xs ++ []) ++ ys ≡ xs ++ ys
@@ -71,25 +73,74 @@ module _ (denotes : ℕ → Tree) where
   five_behind : (xs ys : List Bool) → (((xs ++ []) ++ ys) ++ []) ++ [] ≡ xs ++ ys
   five_behind xs ys = append_nothing (((xs ++ []) ++ ys) ++ []) ∙ (append_nothing ((xs ++ []) ++ ys) ∙ three_behind xs ys)
 
-  pub named_annotated : (t c b d u : ℕ) (old new : List Task) (named : List Bool) → named ≡ named_left denotes old ++ named_last (denotes t) → denotes t ≡ annotated (denotes c) (denotes b)
+  below_annotated : (t c b d u : ℕ) (old new : List Task) (named : List Bool) → named ≡ named_left denotes old ++ named_last (denotes t) → denotes t ≡ annotated (denotes c) (denotes b)
       → named_left denotes new ≡ named_left denotes old ++ named_behind denotes (task.Binder d ∷ task.Mark mark.Colon ∷ task.Term (record { term = c; depth = d; place = place.Application }) ∷ task.Mark mark.DoubleArrow ∷ task.Term (record { term = b; depth = u; place = place.Term }) ∷ [])
       → named ≡ named_left denotes new
-  named_annotated t c b d u old new named h e n = named_turn t _ old new named _ h e n (five_behind (named_last (denotes b)) (named_last (denotes c)))
+  below_annotated t c b d u old new named h e n = named_turn t _ old new named _ h e n (five_behind (named_last (denotes b)) (named_last (denotes c)))
 
   product_taken : (t a b : ℕ) (old new : List Task) (named named_then bs : List Bool) → named ≡ named_left denotes old ++ named_last (denotes t) → denotes t ≡ product (denotes a) (denotes b) → named_then ≡ front named
       → named_left denotes new ≡ named_left denotes old ++ bs → bs ≡ named_last (denotes b) ++ named_last (denotes a) → named_then ≡ named_left denotes new
   product_taken t a b old new named named_then bs h e f n i = f ∙ (ap front (ends_with t a b old named e h)
       ∙ (front_of (named_left denotes old ++ (named_last (denotes b) ++ named_last (denotes a))) (mentions 0 (denotes b)) ∙ (ap (λ xs. named_left denotes old ++ xs) (flip i) ∙ flip n)))
 
-  pub named_product : (t a b d u : ℕ) (old new : List Task) (named named_then : List Bool) → named ≡ named_left denotes old ++ named_last (denotes t) → denotes t ≡ product (denotes a) (denotes b) → named_then ≡ front named
+  below_product : (t a b d u : ℕ) (old new : List Task) (named named_then : List Bool) → named ≡ named_left denotes old ++ named_last (denotes t) → denotes t ≡ product (denotes a) (denotes b) → named_then ≡ front named
       → named_left denotes new ≡ named_left denotes old ++ named_behind denotes (task.Binder d ∷ task.Mark mark.Colon ∷ task.Term (record { term = a; depth = d; place = place.Application }) ∷ task.Mark mark.Arrow ∷ task.Term (record { term = b; depth = u; place = place.Term }) ∷ [])
       → named_then ≡ named_left denotes new
-  named_product t a b d u old new named named_then h e f n = product_taken t a b old new named named_then _ h e f n (five_behind (named_last (denotes b)) (named_last (denotes a)))
+  below_product t a b d u old new named named_then h e f n = product_taken t a b old new named named_then _ h e f n (five_behind (named_last (denotes b)) (named_last (denotes a)))
 
-  pub named_arrow : (t a b d u : ℕ) (old new : List Task) (named named_then : List Bool) → named ≡ named_left denotes old ++ named_last (denotes t) → denotes t ≡ product (denotes a) (denotes b) → named_then ≡ front named
+  below_arrow : (t a b d u : ℕ) (old new : List Task) (named named_then : List Bool) → named ≡ named_left denotes old ++ named_last (denotes t) → denotes t ≡ product (denotes a) (denotes b) → named_then ≡ front named
       → named_left denotes new ≡ named_left denotes old ++ named_behind denotes (task.Term (record { term = a; depth = d; place = place.Application }) ∷ task.Mark mark.Arrow ∷ task.Term (record { term = b; depth = u; place = place.Term }) ∷ [])
       → named_then ≡ named_left denotes new
-  named_arrow t a b d u old new named named_then h e f n = product_taken t a b old new named named_then _ h e f n (three_behind (named_last (denotes b)) (named_last (denotes a)))
+  below_arrow t a b d u old new named named_then h e f n = product_taken t a b old new named named_then _ h e f n (three_behind (named_last (denotes b)) (named_last (denotes a)))
+
+  parts_below : (parts next old new : List Task) → parts ≡ next → named_left denotes new ≡ named_left denotes old ++ named_behind denotes parts → named_left denotes new ≡ named_left denotes old ++ named_behind denotes next
+  parts_below parts next old new p n = n ∙ ap (λ ts. named_left denotes old ++ named_behind denotes ts) p
+
+  pub named_application : (s : Subterm) (f a : ℕ) (parts old new : List Task) (named : List Bool) → named ≡ named_left denotes old ++ named_last (denotes s.term) → denotes s.term ≡ apply (denotes f) (denotes a) → parts ≡ application_parts s f a → named_left denotes new ≡ named_left denotes old ++ named_behind denotes parts → named ≡ named_left denotes new
+  named_application s f a parts old new named h e p n = below_application s.term f a s.depth old new named h e (parts_below parts (application_parts s f a) old new p n)
+
+  pub named_bare : (s : Subterm) (b u : ℕ) (parts old new : List Task) (named : List Bool) → named ≡ named_left denotes old ++ named_last (denotes s.term) → denotes s.term ≡ bare (denotes b) → parts ≡ bare_parts s u b → named_left denotes new ≡ named_left denotes old ++ named_behind denotes parts → named ≡ named_left denotes new
+  named_bare s b u parts old new named h e p n = below_bare s.term b s.depth u old new named h e (parts_below parts (bare_parts s u b) old new p n)
+
+  pub named_annotated : (s : Subterm) (c b u : ℕ) (parts old new : List Task) (named : List Bool) → named ≡ named_left denotes old ++ named_last (denotes s.term) → denotes s.term ≡ annotated (denotes c) (denotes b) → parts ≡ bound_parts s u c mark.DoubleArrow b → named_left denotes new ≡ named_left denotes old ++ named_behind denotes parts → named ≡ named_left denotes new
+  named_annotated s c b u parts old new named h e p n = below_annotated s.term c b s.depth u old new named h e (parts_below parts (bound_parts s u c mark.DoubleArrow b) old new p n)
+
+  pub named_product : (s : Subterm) (a b u : ℕ) (parts old new : List Task) (named named_then : List Bool) → named ≡ named_left denotes old ++ named_last (denotes s.term) → denotes s.term ≡ product (denotes a) (denotes b) → named_then ≡ front named → parts ≡ bound_parts s u a mark.Arrow b → named_left denotes new ≡ named_left denotes old ++ named_behind denotes parts → named_then ≡ named_left denotes new
+  named_product s a b u parts old new named named_then h e f p n = below_product s.term a b s.depth u old new named named_then h e f (parts_below parts (bound_parts s u a mark.Arrow b) old new p n)
+
+  pub named_arrow : (s : Subterm) (a b u : ℕ) (parts old new : List Task) (named named_then : List Bool) → named ≡ named_left denotes old ++ named_last (denotes s.term) → denotes s.term ≡ product (denotes a) (denotes b) → named_then ≡ front named → parts ≡ arrow_parts s u a b → named_left denotes new ≡ named_left denotes old ++ named_behind denotes parts → named_then ≡ named_left denotes new
+  named_arrow s a b u parts old new named named_then h e f p n = below_arrow s.term a b s.depth u old new named named_then h e f (parts_below parts (arrow_parts s u a b) old new p n)
+
+  -- ---- weights
+
+  pub application_less : (s : Subterm) (f a : ℕ) (parts old new : List Task) → denotes s.term ≡ apply (denotes f) (denotes a) → parts ≡ application_parts s f a → weights denotes new ≤ weights denotes old + weights denotes parts + 2 → weights denotes new < weights denotes old + weight denotes (task.Term s)
+  application_less s f a parts old new e p n =
+      let i : size (denotes s.term) ≡ size (denotes f) + size (denotes a) + 1 = ap size e in
+      let w : weights denotes parts ≡ 8 * size (denotes f) + (8 * size (denotes a) + 0) = ap (weights denotes) p in
+      omega arith
+
+  pub bare_less : (s : Subterm) (b u : ℕ) (parts old new : List Task) → denotes s.term ≡ bare (denotes b) → parts ≡ bare_parts s u b → weights denotes new ≤ weights denotes old + weights denotes parts + 2 → weights denotes new < weights denotes old + weight denotes (task.Term s)
+  bare_less s b u parts old new e p n =
+      let i : size (denotes s.term) ≡ size (denotes b) + 1 = ap size e in
+      let w : weights denotes parts ≡ 1 + (1 + (8 * size (denotes b) + 0)) = ap (weights denotes) p in
+      omega arith
+
+  bound_less : (s : Subterm) (a b u : ℕ) (m : Mark) (parts old new : List Task) → size (denotes s.term) ≡ size (denotes a) + size (denotes b) + 1 → parts ≡ bound_parts s u a m b → weights denotes new ≤ weights denotes old + weights denotes parts + 2 → weights denotes new < weights denotes old + weight denotes (task.Term s)
+  bound_less s a b u m parts old new i p n =
+      let w : weights denotes parts ≡ 1 + (1 + (8 * size (denotes a) + (1 + (8 * size (denotes b) + 0)))) = ap (weights denotes) p in
+      omega arith
+
+  pub annotated_less : (s : Subterm) (c b u : ℕ) (parts old new : List Task) → denotes s.term ≡ annotated (denotes c) (denotes b) → parts ≡ bound_parts s u c mark.DoubleArrow b → weights denotes new ≤ weights denotes old + weights denotes parts + 2 → weights denotes new < weights denotes old + weight denotes (task.Term s)
+  annotated_less s c b u parts old new e p n = bound_less s c b u mark.DoubleArrow parts old new (ap size e) p n
+
+  pub product_less : (s : Subterm) (a b u : ℕ) (parts old new : List Task) → denotes s.term ≡ product (denotes a) (denotes b) → parts ≡ bound_parts s u a mark.Arrow b → weights denotes new ≤ weights denotes old + weights denotes parts + 2 → weights denotes new < weights denotes old + weight denotes (task.Term s)
+  product_less s a b u parts old new e p n = bound_less s a b u mark.Arrow parts old new (ap size e) p n
+
+  pub arrow_less : (s : Subterm) (a b u : ℕ) (parts old new : List Task) → denotes s.term ≡ product (denotes a) (denotes b) → parts ≡ arrow_parts s u a b → weights denotes new ≤ weights denotes old + weights denotes parts + 2 → weights denotes new < weights denotes old + weight denotes (task.Term s)
+  arrow_less s a b u parts old new e p n =
+      let i : size (denotes s.term) ≡ size (denotes a) + size (denotes b) + 1 = ap size e in
+      let w : weights denotes parts ≡ 8 * size (denotes a) + (1 + (8 * size (denotes b) + 0)) = ap (weights denotes) p in
+      omega arith
 
 module _ (denotes : ℕ → Tree) (words : ℕ → Word) (used : List Spelling) where
   -- one terminal is put, and the stack stays
@@ -119,25 +170,25 @@ module _ (denotes : ℕ → Tree) (words : ℕ → Word) (used : List Spelling) 
       → text_with text (terminals denotes words used (task.Term (record { term = t; depth = d; place = p })) ++ left_of denotes words used old) ≡ text_with text (left_of denotes words used new)
   tasks_turn text t d p old new xs e n = ap (λ ys. text_with text (ys ++ left_of denotes words used old)) e ∙ flip (ap (text_with text) n)
 
-  pub application_turn : (text : Text) (t f a : ℕ) (d : ℕ) (p : Place) (old new : List Task) → denotes t ≡ apply (denotes f) (denotes a)
+  application_put : (text : Text) (t f a : ℕ) (d : ℕ) (p : Place) (old new : List Task) → denotes t ≡ apply (denotes f) (denotes a)
       → left_of denotes words used new ≡ bracketed_if (is_narrow p) (before denotes words used (task.Term (record { term = f; depth = d; place = place.Application }) ∷ task.Term (record { term = a; depth = d; place = place.Atom }) ∷ [])) ++ left_of denotes words used old
       → text_with text (terminals denotes words used (task.Term (record { term = t; depth = d; place = p })) ++ left_of denotes words used old) ≡ text_with text (left_of denotes words used new)
-  application_turn text t f a d p old new e n = tasks_turn text t d p old new _
+  application_put text t f a d p old new e n = tasks_turn text t d p old new _
       (ap (λ u. spelled.spelled p (written_at words used d u)) e
       ∙ (flip (narrow_is p _) ∙ ap (λ xs. bracketed_if (is_narrow p) (terminals denotes words used (task.Term (record { term = f; depth = d; place = place.Application })) ++ xs)) (flip (append_nothing (terminals denotes words used (task.Term (record { term = a; depth = d; place = place.Atom }))))))) n
 
-  pub bare_turn : (text : Text) (t b : ℕ) (d u : ℕ) (p : Place) (old new : List Task) → denotes t ≡ bare (denotes b) → u ≡ d + 1
+  bare_put : (text : Text) (t b : ℕ) (d u : ℕ) (p : Place) (old new : List Task) → denotes t ≡ bare (denotes b) → u ≡ d + 1
       → left_of denotes words used new ≡ bracketed_if (is_wide p) (before denotes words used (task.Binder d ∷ task.Mark mark.DoubleArrow ∷ task.Term (record { term = b; depth = u; place = place.Term }) ∷ [])) ++ left_of denotes words used old
       → text_with text (terminals denotes words used (task.Term (record { term = t; depth = d; place = p })) ++ left_of denotes words used old) ≡ text_with text (left_of denotes words used new)
-  bare_turn text t b d u p old new e s n = tasks_turn text t d p old new _
+  bare_put text t b d u p old new e s n = tasks_turn text t d p old new _
       (ap (λ v. spelled.spelled p (written_at words used d v)) e
       ∙ (ap (λ k. spelled.wide p (terminal.Name (binder_name used d) ∷ terminal.Sign sign.DoubleArrow ∷ spelled.spelled place.Term (written_at words used k (denotes b)))) (flip s)
       ∙ (flip (wide_is p _) ∙ ap (λ xs. bracketed_if (is_wide p) (terminal.Name (binder_name used d) ∷ terminal.Sign sign.DoubleArrow ∷ xs)) (flip (append_nothing (terminals denotes words used (task.Term (record { term = b; depth = u; place = place.Term })))))))) n
 
-  pub annotated_turn : (text : Text) (t c b : ℕ) (d u : ℕ) (p : Place) (old new : List Task) → denotes t ≡ annotated (denotes c) (denotes b) → u ≡ d + 1
+  annotated_put : (text : Text) (t c b : ℕ) (d u : ℕ) (p : Place) (old new : List Task) → denotes t ≡ annotated (denotes c) (denotes b) → u ≡ d + 1
       → left_of denotes words used new ≡ bracketed_if (is_wide p) (before denotes words used (task.Binder d ∷ task.Mark mark.Colon ∷ task.Term (record { term = c; depth = d; place = place.Application }) ∷ task.Mark mark.DoubleArrow ∷ task.Term (record { term = b; depth = u; place = place.Term }) ∷ [])) ++ left_of denotes words used old
       → text_with text (terminals denotes words used (task.Term (record { term = t; depth = d; place = p })) ++ left_of denotes words used old) ≡ text_with text (left_of denotes words used new)
-  annotated_turn text t c b d u p old new e s n = tasks_turn text t d p old new _
+  annotated_put text t c b d u p old new e s n = tasks_turn text t d p old new _
       (ap (λ v. spelled.spelled p (written_at words used d v)) e
       ∙ (ap (λ k. spelled.wide p (terminal.Name (binder_name used d) ∷ terminal.Sign sign.Colon ∷ (terminals denotes words used (task.Term (record { term = c; depth = d; place = place.Application })) ++ terminal.Sign sign.DoubleArrow ∷ spelled.spelled place.Term (written_at words used k (denotes b))))) (flip s)
       ∙ (flip (wide_is p _) ∙ ap (λ xs. bracketed_if (is_wide p) (terminal.Name (binder_name used d) ∷ terminal.Sign sign.Colon ∷ (terminals denotes words used (task.Term (record { term = c; depth = d; place = place.Application })) ++ terminal.Sign sign.DoubleArrow ∷ xs))) (flip (append_nothing (terminals denotes words used (task.Term (record { term = b; depth = u; place = place.Term })))))))) n
@@ -155,23 +206,45 @@ module _ (denotes : ℕ → Tree) (words : ℕ → Word) (used : List Spelling) 
       → spelled.spelled p (written_at words used d (product a b)) ≡ spelled.wide p (spelled.spelled place.Application (written_at words used d a) ++ terminal.Sign sign.Arrow ∷ spelled.spelled place.Term (written_at words used (d + 1) b))
   plain_spelled a b d p m = ap (λ c. spelled.spelled p (if c then written_product (Some (binder_name used d)) (written_at words used d a) (written_at words used (d + 1) b) else written_arrow (written_at words used d a) (written_at words used (d + 1) b))) m
 
-  pub product_turn : (text : Text) (t a b : ℕ) (d u : ℕ) (p : Place) (old new : List Task) (named : List Bool) (bit : Bool) → denotes t ≡ product (denotes a) (denotes b) → u ≡ d + 1 → named ≡ named_left denotes old ++ named_last (denotes t) → bit ≡ last_one named → bit ≡ true
+  product_put : (text : Text) (t a b : ℕ) (d u : ℕ) (p : Place) (old new : List Task) (named : List Bool) (bit : Bool) → denotes t ≡ product (denotes a) (denotes b) → u ≡ d + 1 → named ≡ named_left denotes old ++ named_last (denotes t) → bit ≡ last_one named → bit ≡ true
       → left_of denotes words used new ≡ bracketed_if (is_wide p) (before denotes words used (task.Binder d ∷ task.Mark mark.Colon ∷ task.Term (record { term = a; depth = d; place = place.Application }) ∷ task.Mark mark.Arrow ∷ task.Term (record { term = b; depth = u; place = place.Term }) ∷ [])) ++ left_of denotes words used old
       → text_with text (terminals denotes words used (task.Term (record { term = t; depth = d; place = p })) ++ left_of denotes words used old) ≡ text_with text (left_of denotes words used new)
-  product_turn text t a b d u p old new named bit e s h l c n = tasks_turn text t d p old new _
+  product_put text t a b d u p old new named bit e s h l c n = tasks_turn text t d p old new _
       (ap (λ v. spelled.spelled p (written_at words used d v)) e
       ∙ (named_spelled (denotes a) (denotes b) d p (bit_is t a b old named bit e h l true c)
       ∙ (ap (λ k. spelled.wide p (terminal.Name (binder_name used d) ∷ terminal.Sign sign.Colon ∷ (terminals denotes words used (task.Term (record { term = a; depth = d; place = place.Application })) ++ terminal.Sign sign.Arrow ∷ spelled.spelled place.Term (written_at words used k (denotes b))))) (flip s)
       ∙ (flip (wide_is p _) ∙ ap (λ xs. bracketed_if (is_wide p) (terminal.Name (binder_name used d) ∷ terminal.Sign sign.Colon ∷ (terminals denotes words used (task.Term (record { term = a; depth = d; place = place.Application })) ++ terminal.Sign sign.Arrow ∷ xs))) (flip (append_nothing (terminals denotes words used (task.Term (record { term = b; depth = u; place = place.Term }))))))))) n
 
-  pub arrow_turn : (text : Text) (t a b : ℕ) (d u : ℕ) (p : Place) (old new : List Task) (named : List Bool) (bit : Bool) → denotes t ≡ product (denotes a) (denotes b) → u ≡ d + 1 → named ≡ named_left denotes old ++ named_last (denotes t) → bit ≡ last_one named → bit ≡ false
+  arrow_put : (text : Text) (t a b : ℕ) (d u : ℕ) (p : Place) (old new : List Task) (named : List Bool) (bit : Bool) → denotes t ≡ product (denotes a) (denotes b) → u ≡ d + 1 → named ≡ named_left denotes old ++ named_last (denotes t) → bit ≡ last_one named → bit ≡ false
       → left_of denotes words used new ≡ bracketed_if (is_wide p) (before denotes words used (task.Term (record { term = a; depth = d; place = place.Application }) ∷ task.Mark mark.Arrow ∷ task.Term (record { term = b; depth = u; place = place.Term }) ∷ [])) ++ left_of denotes words used old
       → text_with text (terminals denotes words used (task.Term (record { term = t; depth = d; place = p })) ++ left_of denotes words used old) ≡ text_with text (left_of denotes words used new)
-  arrow_turn text t a b d u p old new named bit e s h l c n = tasks_turn text t d p old new _
+  arrow_put text t a b d u p old new named bit e s h l c n = tasks_turn text t d p old new _
       (ap (λ v. spelled.spelled p (written_at words used d v)) e
       ∙ (plain_spelled (denotes a) (denotes b) d p (bit_is t a b old named bit e h l false c)
       ∙ (ap (λ k. spelled.wide p (terminals denotes words used (task.Term (record { term = a; depth = d; place = place.Application })) ++ terminal.Sign sign.Arrow ∷ spelled.spelled place.Term (written_at words used k (denotes b)))) (flip s)
       ∙ (flip (wide_is p _) ∙ ap (λ xs. bracketed_if (is_wide p) (terminals denotes words used (task.Term (record { term = a; depth = d; place = place.Application })) ++ terminal.Sign sign.Arrow ∷ xs)) (flip (append_nothing (terminals denotes words used (task.Term (record { term = b; depth = u; place = place.Term }))))))))) n
+
+  -- parts that were put, in brackets or not
+  parts_put : (k l : Bool) (parts next old new : List Task) → k ≡ l → parts ≡ next → left_of denotes words used new ≡ bracketed_if k (before denotes words used parts) ++ left_of denotes words used old
+      → left_of denotes words used new ≡ bracketed_if l (before denotes words used next) ++ left_of denotes words used old
+  parts_put k l parts next old new e p n = n ∙ (ap (λ c. bracketed_if c (before denotes words used parts) ++ left_of denotes words used old) e ∙ ap (λ ts. bracketed_if l (before denotes words used ts) ++ left_of denotes words used old) p)
+
+  pub application_turn : (text : Text) (s : Subterm) (f a : ℕ) (k : Bool) (parts old new : List Task) → denotes s.term ≡ apply (denotes f) (denotes a) → k ≡ is_narrow s.place → parts ≡ application_parts s f a → left_of denotes words used new ≡ bracketed_if k (before denotes words used parts) ++ left_of denotes words used old → text_with text (terminals denotes words used (task.Term s) ++ left_of denotes words used old) ≡ text_with text (left_of denotes words used new)
+  application_turn text s f a k parts old new e i p n = application_put text s.term f a s.depth s.place old new e (parts_put k (is_narrow s.place) parts (application_parts s f a) old new i p n)
+
+  pub bare_turn : (text : Text) (s : Subterm) (b u : ℕ) (k : Bool) (parts old new : List Task) → denotes s.term ≡ bare (denotes b) → u ≡ s.depth + 1 → k ≡ is_wide s.place → parts ≡ bare_parts s u b → left_of denotes words used new ≡ bracketed_if k (before denotes words used parts) ++ left_of denotes words used old → text_with text (terminals denotes words used (task.Term s) ++ left_of denotes words used old) ≡ text_with text (left_of denotes words used new)
+  bare_turn text s b u k parts old new e d i p n = bare_put text s.term b s.depth u s.place old new e d (parts_put k (is_wide s.place) parts (bare_parts s u b) old new i p n)
+
+  pub annotated_turn : (text : Text) (s : Subterm) (c b u : ℕ) (k : Bool) (parts old new : List Task) → denotes s.term ≡ annotated (denotes c) (denotes b) → u ≡ s.depth + 1 → k ≡ is_wide s.place → parts ≡ bound_parts s u c mark.DoubleArrow b → left_of denotes words used new ≡ bracketed_if k (before denotes words used parts) ++ left_of denotes words used old → text_with text (terminals denotes words used (task.Term s) ++ left_of denotes words used old) ≡ text_with text (left_of denotes words used new)
+  annotated_turn text s c b u k parts old new e d i p n = annotated_put text s.term c b s.depth u s.place old new e d (parts_put k (is_wide s.place) parts (bound_parts s u c mark.DoubleArrow b) old new i p n)
+
+  pub product_turn : (text : Text) (s : Subterm) (a b u : ℕ) (k : Bool) (parts old new : List Task) (named : List Bool) (bit : Bool) → denotes s.term ≡ product (denotes a) (denotes b) → u ≡ s.depth + 1 → named ≡ named_left denotes old ++ named_last (denotes s.term) → bit ≡ last_one named → bit ≡ true
+      → k ≡ is_wide s.place → parts ≡ bound_parts s u a mark.Arrow b → left_of denotes words used new ≡ bracketed_if k (before denotes words used parts) ++ left_of denotes words used old → text_with text (terminals denotes words used (task.Term s) ++ left_of denotes words used old) ≡ text_with text (left_of denotes words used new)
+  product_turn text s a b u k parts old new named bit e d h l c i p n = product_put text s.term a b s.depth u s.place old new named bit e d h l c (parts_put k (is_wide s.place) parts (bound_parts s u a mark.Arrow b) old new i p n)
+
+  pub arrow_turn : (text : Text) (s : Subterm) (a b u : ℕ) (k : Bool) (parts old new : List Task) (named : List Bool) (bit : Bool) → denotes s.term ≡ product (denotes a) (denotes b) → u ≡ s.depth + 1 → named ≡ named_left denotes old ++ named_last (denotes s.term) → bit ≡ last_one named → bit ≡ false
+      → k ≡ is_wide s.place → parts ≡ arrow_parts s u a b → left_of denotes words used new ≡ bracketed_if k (before denotes words used parts) ++ left_of denotes words used old → text_with text (terminals denotes words used (task.Term s) ++ left_of denotes words used old) ≡ text_with text (left_of denotes words used new)
+  arrow_turn text s a b u k parts old new named bit e d h l c i p n = arrow_put text s.term a b s.depth u s.place old new named bit e d h l c (parts_put k (is_wide s.place) parts (arrow_parts s u a b) old new i p n)
 
   -- the task on top is taken
   pub popped : (old new : List Task) (t : Task) → old ≡ new ++ t ∷ [] → left_of denotes words used old ≡ terminals denotes words used t ++ left_of denotes words used new

@@ -47,6 +47,21 @@ abbrev pub bracketed_if : Bool → List Terminal → List Terminal
 bracketed_if true xs = in_brackets xs
 bracketed_if false xs = xs
 
+-- ---- the parts of a term that stands so, as tasks; a body stands under one binder more
+
+abbrev pub application_parts : Subterm → ℕ → ℕ → List Task
+application_parts s f a = task.Term (record { term = f; depth = s.depth; place = place.Application }) ∷ task.Term (record { term = a; depth = s.depth; place = place.Atom }) ∷ []
+
+abbrev pub bare_parts : Subterm → ℕ → ℕ → List Task
+bare_parts s under b = task.Binder s.depth ∷ task.Mark mark.DoubleArrow ∷ task.Term (record { term = b; depth = under; place = place.Term }) ∷ []
+
+-- a binder with its type, the mark and the body
+abbrev pub bound_parts : Subterm → ℕ → ℕ → Mark → ℕ → List Task
+bound_parts s under a m b = task.Binder s.depth ∷ task.Mark mark.Colon ∷ task.Term (record { term = a; depth = s.depth; place = place.Application }) ∷ task.Mark m ∷ task.Term (record { term = b; depth = under; place = place.Term }) ∷ []
+
+abbrev pub arrow_parts : Subterm → ℕ → ℕ → ℕ → List Task
+arrow_parts s under a b = task.Term (record { term = a; depth = s.depth; place = place.Application }) ∷ task.Mark mark.Arrow ∷ task.Term (record { term = b; depth = under; place = place.Term }) ∷ []
+
 module _ (denotes : ℕ → Tree) (words : ℕ → Word) (used : List Spelling) where
   abbrev pub term_terminals : Subterm → List Terminal
   term_terminals s = spelled s.place (written_at words used s.depth (denotes s.term))

@@ -7,6 +7,7 @@
 mod binder;
 pub mod laws;
 mod page;
+mod parts;
 mod place;
 mod printing;
 mod products;

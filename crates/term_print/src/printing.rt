@@ -8,6 +8,7 @@ ghost use Rattle.term_print.specs.Tasks.{Puts, left_of, named_in, named_left, te
 
 use crate::binder::binder_name;
 use crate::page::Page;
+use crate::parts::{application_parts, arrow_parts, bare_parts, bound_parts};
 use crate::place::Place;
 use crate::products::{named_products, take_last};
 use crate::source::{Source, Words};
@@ -142,7 +143,7 @@ fn one_deeper(depth: u64) -> Result<u64, NoMemory>
 }
 
 // A term: its terminal, or its parts as tasks.
-#[tactic(auto, using(crate::proofs::Turned::word_turn, crate::proofs::Turned::leaf_turn, crate::proofs::Turned::application_turn, crate::proofs::Turned::arrow_turn, crate::proofs::Turned::product_turn, crate::proofs::Turned::bare_turn, crate::proofs::Turned::annotated_turn, crate::proofs::Turned::named_leaf, crate::proofs::Turned::named_application, crate::proofs::Turned::named_bare, crate::proofs::Turned::named_annotated, crate::proofs::Turned::named_product, crate::proofs::Turned::named_arrow))]
+#[tactic(auto, using(crate::proofs::Turned::word_turn, crate::proofs::Turned::leaf_turn, crate::proofs::Turned::application_turn, crate::proofs::Turned::arrow_turn, crate::proofs::Turned::product_turn, crate::proofs::Turned::bare_turn, crate::proofs::Turned::annotated_turn, crate::proofs::Turned::named_leaf, crate::proofs::Turned::named_application, crate::proofs::Turned::named_bare, crate::proofs::Turned::named_annotated, crate::proofs::Turned::named_product, crate::proofs::Turned::named_arrow, crate::proofs::Turned::application_less, crate::proofs::Turned::bare_less, crate::proofs::Turned::annotated_less, crate::proofs::Turned::product_less, crate::proofs::Turned::arrow_less))]
 fn term_turn<S: Source, W: Words>(
     source: &S,
     words: &W,
@@ -163,8 +164,7 @@ fn term_turn<S: Source, W: Words>(
         < weights (S.denotes source.now) page.old.tasks.items
         + weight (S.denotes source.now) (Task.Term subterm)) }
 {
-    let Subterm { term, depth, place } = subterm;
-    match source.node(term) {
+    match source.node(subterm.term) {
         NodeOf::Star => {
             page.text.put_star()?;
             Ok(())
@@ -178,7 +178,7 @@ fn term_turn<S: Source, W: Words>(
             Ok(())
         }
         NodeOf::Var(k) => {
-            put_binder(used, depth_of(depth, k), page)?;
+            put_binder(used, depth_of(subterm.depth, k), page)?;
             Ok(())
         }
         NodeOf::Rvar(_) => {
@@ -186,94 +186,34 @@ fn term_turn<S: Source, W: Words>(
             Ok(())
         }
         NodeOf::App(f, a) => {
-            let parts = [
-                Task::Term(Subterm {
-                    term: f,
-                    depth,
-                    place: Place::Application,
-                }),
-                Task::Term(Subterm {
-                    term: a,
-                    depth,
-                    place: Place::Atom,
-                }),
-            ];
-            push_tasks(&mut page.tasks, &parts, place.is_narrow())?;
+            let parts = application_parts(subterm, f, a);
+            push_tasks(&mut page.tasks, &parts, subterm.place.is_narrow())?;
             Ok(())
         }
         NodeOf::Abs(annotation, b) => {
-            let under = one_deeper(depth)?;
+            let under = one_deeper(subterm.depth)?;
             match annotation {
                 None => {
-                    let parts = [
-                        Task::Binder(depth),
-                        Task::Mark(Mark::DoubleArrow),
-                        Task::Term(Subterm {
-                            term: b,
-                            depth: under,
-                            place: Place::Term,
-                        }),
-                    ];
-                    push_tasks(&mut page.tasks, &parts, place.is_wide())?;
+                    let parts = bare_parts(subterm, under, b);
+                    push_tasks(&mut page.tasks, &parts, subterm.place.is_wide())?;
                     Ok(())
                 }
                 Some(d) => {
-                    let parts = [
-                        Task::Binder(depth),
-                        Task::Mark(Mark::Colon),
-                        Task::Term(Subterm {
-                            term: d,
-                            depth,
-                            place: Place::Application,
-                        }),
-                        Task::Mark(Mark::DoubleArrow),
-                        Task::Term(Subterm {
-                            term: b,
-                            depth: under,
-                            place: Place::Term,
-                        }),
-                    ];
-                    push_tasks(&mut page.tasks, &parts, place.is_wide())?;
+                    let parts = bound_parts(subterm, under, d, Mark::DoubleArrow, b);
+                    push_tasks(&mut page.tasks, &parts, subterm.place.is_wide())?;
                     Ok(())
                 }
             }
         }
         NodeOf::Prod(a, b) => {
-            let under = one_deeper(depth)?;
-            let named = take_last(&mut page.named);
-            if named {
-                let parts = [
-                    Task::Binder(depth),
-                    Task::Mark(Mark::Colon),
-                    Task::Term(Subterm {
-                        term: a,
-                        depth,
-                        place: Place::Application,
-                    }),
-                    Task::Mark(Mark::Arrow),
-                    Task::Term(Subterm {
-                        term: b,
-                        depth: under,
-                        place: Place::Term,
-                    }),
-                ];
-                push_tasks(&mut page.tasks, &parts, place.is_wide())?;
+            let under = one_deeper(subterm.depth)?;
+            if take_last(&mut page.named) {
+                let parts = bound_parts(subterm, under, a, Mark::Arrow, b);
+                push_tasks(&mut page.tasks, &parts, subterm.place.is_wide())?;
                 Ok(())
             } else {
-                let parts = [
-                    Task::Term(Subterm {
-                        term: a,
-                        depth,
-                        place: Place::Application,
-                    }),
-                    Task::Mark(Mark::Arrow),
-                    Task::Term(Subterm {
-                        term: b,
-                        depth: under,
-                        place: Place::Term,
-                    }),
-                ];
-                push_tasks(&mut page.tasks, &parts, place.is_wide())?;
+                let parts = arrow_parts(subterm, under, a, b);
+                push_tasks(&mut page.tasks, &parts, subterm.place.is_wide())?;
                 Ok(())
             }
         }

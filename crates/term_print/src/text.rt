@@ -51,7 +51,8 @@ impl Text {
     /// A qualified name.
     #[tactic(auto, using(crate::proofs::Writing::qualified_put))]
     pub(crate) fn put_qualified(&mut self, module_name: &[u8], name: &[u8]) -> Result<(), NoMemory>
-        ensures { OnOk result (Puts self.old (terminal.Qualified module_name.now name.now) self.new) }
+        ensures { OnOk result
+            (Puts self.old (terminal.Qualified module_name.now name.now) self.new) }
     {
         self.gap()?;
         self.bytes.extend_from_slice(module_name)?;
