@@ -26,9 +26,9 @@ pub(crate) const FILES: [(&str, u8, &str); 57] = [
     ("a : Type. a.b : Type.", 1, "ok 1 a\nrefused 2 line 1 E02\n"),
     ("a $ b.", 1, "refused 1 line 1 E01\n"),
     (".", 1, "refused 1 line 1 E02\n"),
-    ("#NAME m.", 1, "refused 1 line 1 E06\n"),
+    ("#INFER m.", 1, "refused 1 line 1 E06\n"),
     ("x : _.", 1, "refused 1 line 1 E12\n"),
-    ("x : m.a.", 1, "refused 1 line 1 E10\n"),
+    ("x : m.a.", 3, "unopened m.dk\n"),
     (
         "nat : Type. z : nat. x : z.",
         1,

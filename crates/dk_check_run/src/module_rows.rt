@@ -288,9 +288,9 @@ pub(crate) const MODULES: [(Books, &str, u8, &str); 36] = [
         "ok 1 a\nok 2 x.a\nok 3 b\naccepted 3\n",
     ),
     (
-        &[("f", "#REQUIRE m."), ("m.dk", "#REQUIRE f.")],
-        "check f",
+        &[("g", "#REQUIRE m."), ("m.dk", "#REQUIRE g.")],
+        "check g",
         3,
-        "unopened f.dk\n",
+        "unopened g.dk\n",
     ),
 ];
