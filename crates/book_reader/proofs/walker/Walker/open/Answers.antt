@@ -142,11 +142,11 @@ returns-clause-walks g c = λ books done d told st.
     (c.in-Ok-open_book.ensures.aside ∙ ap (λ b. put_aside b (g.H.Shelf.left c.args.shelf.now) (g.H.Shelf.aside c.args.shelf.now)) c.requires.ready.room.is_open)
     st) in (
       among_at s done (n ∷ open_of w.top ∷ opens_below w) _ (w.opened ++ c.args.name ∷ []) _ (shelf_of g.H.Shelf c.open_book.new.self)
-      (ap (λ o. o ∷ map open_of (reverse c.push_reserved.new.self.items)) (ap open_of c.replace-below.ensures.after)
-      ∙ ap (λ l. n ∷ l) (below_more c.push_reserved.new.self.items c.reserve.new.self.items c.replace-below.result c.push_reserved.ensures.items
-      ∙ ap (λ f. open_of f ∷ map open_of (reverse c.reserve.new.self.items)) c.replace-below.ensures.value
-      ∙ ap (λ l. open_of w.top ∷ map open_of (reverse l)) c.in-Ok-reserve.ensures.items))
-      (c.in-Ok-add.ensures.ok ∙ ap (λ m. w.opened ++ m ∷ []) c.as_slice-2.ensures)
-      both.0,
+          (ap (λ o. o ∷ map open_of (reverse c.push_reserved.new.self.items)) (ap open_of c.replace-below.ensures.after)
+          ∙ ap (λ l. n ∷ l) (below_more c.push_reserved.new.self.items c.reserve.new.self.items c.replace-below.result c.push_reserved.ensures.items
+          ∙ ap (λ f. open_of f ∷ map open_of (reverse c.reserve.new.self.items)) c.replace-below.ensures.value
+          ∙ ap (λ l. open_of w.top ∷ map open_of (reverse l)) c.in-Ok-reserve.ensures.items))
+          (c.in-Ok-add.ensures.ok ∙ ap (λ m. w.opened ++ m ∷ []) c.as_slice-2.ensures)
+          both.0,
       subst (λ k. MemoryDue s (length done) (record { book = k; line = 1 })) (sym (ap (λ (f : Frame). f.«module») c.replace-below.ensures.after)) both.1,
     )
