@@ -2,20 +2,26 @@
 #![tactic(auto)]
 
 #[cfg(test)]
-mod changes;
-#[cfg(test)]
 mod check_rows;
 #[cfg(test)]
 mod checks;
 #[cfg(test)]
-mod evaluation;
-#[cfg(test)]
-mod evaluation_rows;
+mod many_rules;
 #[cfg(test)]
 mod matcher;
 #[cfg(test)]
+mod pool_forms;
+#[cfg(test)]
 mod pools;
 #[cfg(test)]
+mod rows;
+#[cfg(test)]
+mod samples;
+#[cfg(test)]
 mod texts;
+#[cfg(test)]
+mod tree_forms;
+#[cfg(test)]
+mod trees;
 #[cfg(test)]
 mod versions;

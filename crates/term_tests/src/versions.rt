@@ -1,12 +1,82 @@
 //! Versions and the rules of symbols, against lists that are written out.
-use crate::texts::{Parts, commands_of, entered, version_after, version_of_text, with};
-use dk_model::{Entry, Listed, NoMemory, Rule, Scoped, Term};
-use shared_term::Stored;
-use signature_log::{Grow, Row, Rows, Version, version_of};
-use std::alloc::Global;
-use std::sync::Arc;
+ghost use Rattle.std.specs.Prelude.{◌≡◌};
 
-/// The symbol that a stored term is.
+use crate::rows::first_wrong;
+use dk_model::{Entry, Listed, NoMemory, Rule, Signature, SymSort, Term};
+use shared_term::Stored;
+use signature_log::{Grow, Row, Rows, Steps, Version, store_entry, store_rules, version_of};
+use std::alloc::Global;
+use std::marker::Brand;
+use std::sync::Arc;
+use std::sync::ledger::{Blank, Ledger};
+
+// What a command declares: a symbol with another one as its body, or rules without patterns, each its head and the symbol
+// on its right side.
+#[derive(Clone, Copy)]
+enum Command<'a> {
+    Symbol(Option<u32>),
+    Rules(&'a [(u32, u32)]),
+}
+
+fn rule_of(alloc: Global, head: u32, right: u32) -> Rule {
+    Rule {
+        head,
+        vars: 0,
+        pats: Listed::new(alloc),
+        notes: Listed::new(alloc),
+        right: Term::Sym(right),
+    }
+}
+
+fn rules_of(alloc: Global, rules: &[(u32, u32)]) -> Result<Listed<Rule>, NoMemory> {
+    let mut all = Listed::new(alloc);
+    for (head, right) in rules {
+        all.push(rule_of(alloc, *head, *right))?;
+    }
+    Ok(all)
+}
+
+fn entry_of(alloc: Global, command: Command<'_>) -> Result<Entry, NoMemory> {
+    match command {
+        Command::Symbol(body) => Ok(Entry::Symbol {
+            sort: SymSort::Definable,
+            typ: Term::Star,
+            body: body.map(Term::Sym),
+        }),
+        Command::Rules(rules) => Ok(Entry::Rules(rules_of(alloc, rules)?)),
+    }
+}
+
+fn stored(alloc: Global, command: Command<'_>) -> Result<Entry<Stored>, NoMemory> {
+    match command {
+        Command::Symbol(_) => store_entry(alloc, &entry_of(alloc, command)?),
+        Command::Rules(rules) => {
+            let rules = rules_of(alloc, rules)?;
+            Ok(Entry::Rules(store_rules(alloc, rules.as_slice())?))
+        }
+    }
+}
+
+fn shared(alloc: Global, command: Command<'_>) -> Result<Arc<Entry<Stored>>, NoMemory> {
+    Ok(Arc::new(alloc, stored(alloc, command)?)?)
+}
+
+fn appended(version: &Version, entry: Arc<Entry<Stored>>) -> Result<Version, NoMemory> {
+    match version.append(entry) {
+        Ok(version) => Ok(version),
+        Err(_) => Err(NoMemory),
+    }
+}
+
+fn version_after(alloc: Global, commands: &[Command<'_>]) -> Result<Version, NoMemory> {
+    let mut version = Version::empty(alloc)?;
+    for command in commands {
+        version = appended(&version, shared(alloc, *command)?)?;
+    }
+    Ok(version)
+}
+
+// The symbol that a stored term is.
 fn symbol_of(alloc: Global, term: &Stored) -> Result<Option<u32>, NoMemory> {
     match term.to_term(alloc)? {
         Term::Sym(k) => Ok(Some(k)),
@@ -14,7 +84,7 @@ fn symbol_of(alloc: Global, term: &Stored) -> Result<Option<u32>, NoMemory> {
     }
 }
 
-/// The symbol on the right side of a row.
+// The symbol on the right side of a row.
 fn right_side(alloc: Global, row: Option<Row<'_>>) -> Result<Option<u32>, NoMemory> {
     match row {
         Some(Row::Body(body)) => symbol_of(alloc, body),
@@ -23,7 +93,7 @@ fn right_side(alloc: Global, row: Option<Row<'_>>) -> Result<Option<u32>, NoMemo
     }
 }
 
-/// Whether these are the right sides of a symbol's rules, and all of them.
+// Whether these are the right sides of a symbol's rules, and all of them.
 fn are_right_sides(alloc: Global, rows: Rows<'_>, due: &[u32]) -> Result<bool, NoMemory> {
     let mut at = 0;
     for symbol in due {
@@ -35,43 +105,27 @@ fn are_right_sides(alloc: Global, rows: Rows<'_>, due: &[u32]) -> Result<bool, N
     Ok(rows.len() as usize == due.len())
 }
 
-/// Symbols, of which 31 has a body.
-const SYMBOLS: Parts = &[
-    ("def a# : Type. ", 31),
-    ("def b := a7. ", 1),
-    ("def c# : Type. ", 993),
-];
-
-/// Rules without patterns, each its head and the symbol on its right side.
-fn rules_of(alloc: Global, rules: &[(u32, u32)]) -> Result<Entry<Stored>, NoMemory> {
-    let mut all = Listed::new(alloc);
-    for (head, right) in rules {
-        all.push(Rule {
-            head: *head,
-            vars: 0,
-            pats: Listed::new(alloc),
-            notes: Listed::new(alloc),
-            right: Stored::from_term(alloc, &Term::Sym(*right))?,
-        })?;
-    }
-    Ok(Entry::Rules(all))
-}
-
-/// Symbols, and the right sides of their rules.
-const RIGHT_SIDES: [(u32, &[u32]); 9] = [
-    (0, &[4]),
-    (1, &[]),
-    (31, &[7, 1, 3, 5]),
-    (32, &[2, 9]),
-    (1023, &[]),
-    (1024, &[6]),
-    (32768, &[8]),
-    (32767, &[]),
-    (u32::MAX, &[]),
-];
-
-fn has_right_sides(alloc: Global, version: &Version) -> Result<bool, NoMemory> {
-    for (symbol, due) in RIGHT_SIDES {
+// Symbol 0 has a body and rules of two commands. 31 and 32, 1023 and 1024 stand in different blocks.
+fn finds_the_body_and_then_the_rules(alloc: Global) -> Result<bool, NoMemory> {
+    let commands = [
+        Command::Symbol(Some(100)),
+        Command::Rules(&[(0, 101), (31, 102), (0, 103)]),
+        Command::Symbol(None),
+        Command::Rules(&[(32, 104), (0, 105), (1024, 106), (32768, 107), (31, 108)]),
+    ];
+    let version = version_after(alloc, &commands)?;
+    let table: [(u32, &[u32]); 9] = [
+        (0, &[100, 101, 103, 105]),
+        (1, &[]),
+        (2, &[]),
+        (31, &[102, 108]),
+        (32, &[104]),
+        (1023, &[]),
+        (1024, &[106]),
+        (32768, &[107]),
+        (u32::MAX, &[]),
+    ];
+    for (symbol, due) in table {
         if !are_right_sides(alloc, version.rules_of(symbol), due)? {
             return Ok(false);
         }
@@ -79,43 +133,16 @@ fn has_right_sides(alloc: Global, version: &Version) -> Result<bool, NoMemory> {
     Ok(true)
 }
 
-/// The version of a version's plain signature.
-fn there_and_back(alloc: Global, version: &Version) -> Result<Version, Grow> {
-    version_of(alloc, &version.plain()?)
-}
-
-fn comes_back(alloc: Global, version: &Version) -> Result<bool, NoMemory> {
-    match there_and_back(alloc, version) {
-        Ok(back) => has_right_sides(alloc, &back),
-        Err(_) => Ok(false),
+// So many rules of symbol 7, each by a command of its own, rule `k` with `k` on the right.
+fn one_by_one(alloc: Global, count: u32) -> Result<Version, NoMemory> {
+    let mut version = Version::empty(alloc)?;
+    for k in 0..count {
+        version = appended(&version, shared(alloc, Command::Rules(&[(7, k)]))?)?;
     }
+    Ok(version)
 }
 
-/// The version with two commands of rules more. 31 and 32, 1023 and 1024 stand in different blocks, and 32768 in a block
-/// of another level.
-fn with_rules(alloc: Global, version: &Version) -> Result<Version, NoMemory> {
-    let version = with(
-        alloc,
-        version,
-        rules_of(alloc, &[(31, 1), (32, 2), (31, 3)])?,
-    )?;
-    let rules = rules_of(alloc, &[(0, 4), (31, 5), (1024, 6), (32768, 8), (32, 9)]);
-    with(alloc, &version, rules?)
-}
-
-fn finds(alloc: Global, version: &Version) -> Result<bool, NoMemory> {
-    let version = with_rules(alloc, version)?;
-    let found = has_right_sides(alloc, &version) == Ok(true);
-    Ok(found && comes_back(alloc, &version) == Ok(true))
-}
-
-/// Whether a body comes first and then the rules, also after the way through a plain signature.
-fn finds_the_body_and_then_the_rules(alloc: Global) -> Result<bool, NoMemory> {
-    let version = version_of_text(alloc, SYMBOLS)?;
-    finds(alloc, &version)
-}
-
-/// The symbol on the right side of the first rule of an entry.
+// The symbol on the right side of the first rule of an entry.
 fn first_right_side(alloc: Global, entry: Option<&Entry<Stored>>) -> Result<Option<u32>, NoMemory> {
     match entry {
         Some(Entry::Rules(rules)) => match rules.get(0) {
@@ -126,133 +153,149 @@ fn first_right_side(alloc: Global, entry: Option<&Entry<Stored>>) -> Result<Opti
     }
 }
 
+// Whether the entry and the rule of a place are those that were put there.
 fn is_placed(alloc: Global, version: &Version, place: u32) -> Result<bool, NoMemory> {
-    let entry = first_right_side(alloc, version.get(place.saturating_add(1_100)))?;
+    let entry = first_right_side(alloc, version.get(place))?;
     let rule = right_side(alloc, version.rules_of(7).at(place))?;
     Ok(entry == Some(place) && rule == Some(place))
 }
 
-/// Whether a version has 1,100 symbols, and as many rules of symbol 7, each in an entry of its own, in their order.
-fn are_placed(alloc: Global, version: &Version) -> Result<bool, NoMemory> {
-    for place in [
-        0u32, 1, 31, 32, 33, 63, 64, 1023, 1024, 1025, 1055, 1056, 1087, 1088, 1099,
-    ] {
-        if !is_placed(alloc, version, place)? {
-            return Ok(false);
-        }
-    }
-    let none = version.get(2_200).is_none() && version.get(u32::MAX).is_none();
-    Ok(none && version.len() == 2_200 && version.rules_of(7).len() == 1_100)
-}
-
-/// The rules stand in three levels of blocks; the entries are in groups, in two levels.
+// The rules stand in three levels of blocks; of the entries 34 groups, in two levels, and the last twelve beside them.
 fn keeps_the_order_from_block_to_block(alloc: Global) -> Result<bool, NoMemory> {
-    let version = version_of_text(
-        alloc,
-        &[("def s# : Type. ", 1_100), ("[] s7 --> s#. ", 1_100)],
-    )?;
-    are_placed(alloc, &version)
-}
-
-/// Whether a version has 32 symbols, each but the first with the one before it as its body, and so many entries, and these
-/// are the right sides of the rules of a symbol.
-fn has(
-    alloc: Global,
-    version: &Version,
-    count: u32,
-    symbol: u32,
-    due: &[u32],
-) -> Result<bool, NoMemory> {
-    for k in 1..32 {
-        if !are_right_sides(alloc, version.rules_of(k), &[k.saturating_sub(1)])? {
+    let version = one_by_one(alloc, 1100)?;
+    for place in [
+        0, 1, 31, 32, 33, 63, 64, 1023, 1024, 1025, 1055, 1056, 1087, 1088, 1099,
+    ] {
+        if !is_placed(alloc, &version, place)? {
             return Ok(false);
         }
     }
-    let none = version.get(count).is_none() && version.len() == count;
-    Ok(none && are_right_sides(alloc, version.rules_of(symbol), due)?)
+    let none = version.get(1100).is_none() && version.get(u32::MAX).is_none();
+    Ok(none && version.len() == 1100 && version.rules_of(7).len() == 1100)
 }
 
-/// Whether a command behind a version of 32 symbols gives one of 33 in which a symbol has one rule, with this right side.
-fn adds(
-    alloc: Global,
-    old: &Version,
-    command: &Scoped,
-    symbol: u32,
-    due: u32,
-) -> Result<bool, NoMemory> {
-    let version = entered(alloc, old, command)?;
-    has(alloc, &version, 33, symbol, &[due])
+fn append_counted<L: Ledger>(
+    version: &Version,
+    entry: Arc<Entry<Stored>>,
+    blank: Blank,
+) -> Result<Version, NoMemory>
+    requires name { blank.name ≡ L.name }
+    requires parts { blank.parts ≡ L.parts }
+    requires one { L.parts ≡ 1 }
+{
+    let mut steps = Steps::<L>::start(blank);
+    match version.append_counted(entry, &mut steps) {
+        Ok(version) => Ok(version),
+        Err(_) => Err(NoMemory),
+    }
 }
 
-/// Whether each of two commands does so, and both leave the version as it was.
-fn leaves(
-    alloc: Global,
-    old: &Version,
-    commands: [&Scoped; 2],
-    symbol: u32,
-    due: [u32; 2],
-) -> Result<bool, NoMemory> {
-    Ok(
-        adds(alloc, old, commands[0], symbol, due[0])?
-            && adds(alloc, old, commands[1], symbol, due[1])?
-            && has(alloc, old, 32, symbol, &[])?,
-    )
+fn counted(version: &Version, entry: Arc<Entry<Stored>>) -> Result<Version, NoMemory> {
+    append_counted::<Brand>(version, entry, Blank::new(1))
 }
 
-fn leaves_a_version(
-    alloc: Global,
-    commands: &[Scoped],
-    symbol: u32,
-    due: [u32; 2],
-) -> Result<bool, NoMemory> {
-    let [old @ .., first, second] = commands else {
-        return Ok(false);
-    };
-    let old = version_after(alloc, old)?;
-    leaves(alloc, &old, [first, second], symbol, due)
+// Whether the version with one rule of symbol 0 more has it behind the body.
+fn is_extended(alloc: Global, first: &Version, right: u32) -> Result<bool, NoMemory> {
+    let version = counted(first, shared(alloc, Command::Rules(&[(0, right)]))?)?;
+    are_right_sides(alloc, version.rules_of(0), &[10, right])
 }
 
-/// Whether two commands behind a version of 32 symbols give two of 33 that differ in the rules of a symbol, which has the
-/// first or the second of these right sides; and whether the version is left as it was.
-fn two_differ(
-    alloc: Global,
-    last: &'static str,
-    symbol: u32,
-    due: [u32; 2],
-) -> Result<bool, NoMemory> {
-    let commands = commands_of(
-        alloc,
-        &[("def s0 : Type. ", 1), ("def s@ := s#. ", 31), (last, 1)],
-    )?;
-    leaves_a_version(alloc, commands.as_slice(), symbol, due)
+// Whether two rules, one of them put behind a version that shares its blocks, leave the version that they were put behind.
+fn leaves_the_rules_of_a_version(alloc: Global) -> Result<bool, NoMemory> {
+    let first = version_after(alloc, &[Command::Symbol(Some(10))])?;
+    let extended = is_extended(alloc, &first, 11)? && is_extended(alloc, &first.share()?, 12)?;
+    Ok(extended && are_right_sides(alloc, first.rules_of(0), &[10])?)
 }
 
-/// How many equal entries a version takes, up to this count, and what comes of one more.
-fn filled(alloc: Global, most: u32) -> Result<(u32, Option<Grow>), NoMemory> {
-    let entry = Arc::new(alloc, Entry::Rules(Listed::new(alloc)))?;
+// The version of so many symbols, symbol `k` with `k` as its body.
+fn symbols(alloc: Global, count: u32) -> Result<Version, NoMemory> {
     let mut version = Version::empty(alloc)?;
-    for taken in 0..most {
-        match version.append(Arc::try_clone(&entry)?) {
-            Ok(next) => version = next,
-            Err(grow) => return Ok((taken, Some(grow))),
+    for k in 0..count {
+        version = appended(&version, shared(alloc, Command::Symbol(Some(k)))?)?;
+    }
+    Ok(version)
+}
+
+// The symbol that is the body of an entry.
+fn body_at(alloc: Global, version: &Version, place: u32) -> Result<Option<u32>, NoMemory> {
+    match version.get(place) {
+        Some(
+            Entry::Symbol {
+                body: Some(body),
+                ..
+            },
+        ) => symbol_of(alloc, body),
+        _ => Ok(None),
+    }
+}
+
+// Whether a version has 33 entries, symbol `k` with `k` as its body but for the last one, which has this one.
+fn has_last(alloc: Global, version: &Version, last: u32) -> Result<bool, NoMemory> {
+    for k in 0..32 {
+        if body_at(alloc, version, k)? != Some(k) {
+            return Ok(false);
         }
     }
-    Ok((most, version.append(entry).err()))
+    Ok(version.len() == 33 && body_at(alloc, version, 32)? == Some(last))
+}
+
+// Whether two different entries behind a version of 32 give two of 33 that differ at 32 alone, and leave it as it was.
+fn leaves_the_entries_of_a_version(alloc: Global) -> Result<bool, NoMemory> {
+    let old = symbols(alloc, 32)?;
+    let first = appended(&old, shared(alloc, Command::Symbol(Some(100)))?)?;
+    let second = appended(&old, shared(alloc, Command::Symbol(Some(200)))?)?;
+    let differ = has_last(alloc, &first, 100)? && has_last(alloc, &second, 200)?;
+    Ok(differ && old.len() == 32 && old.get(32).is_none())
+}
+
+fn signature_of(alloc: Global, commands: &[Command<'_>]) -> Result<Signature, NoMemory> {
+    let mut entries = Listed::new(alloc);
+    for command in commands {
+        entries.push(entry_of(alloc, *command)?)?;
+    }
+    Ok(Signature { entries })
+}
+
+// The version of a signature, made plain and a version again.
+fn there_and_back(alloc: Global, signature: &Signature) -> Result<Version, Grow> {
+    let there = version_of(alloc, signature)?;
+    version_of(alloc, &there.plain()?)
+}
+
+fn plain_signatures_go_in_and_out(alloc: Global) -> Result<bool, NoMemory> {
+    let commands = [Command::Symbol(Some(3)), Command::Rules(&[(0, 5), (0, 4)])];
+    let signature = signature_of(alloc, &commands)?;
+    match there_and_back(alloc, &signature) {
+        Ok(back) => are_right_sides(alloc, back.rules_of(0), &[3, 5, 4]),
+        Err(_) => Ok(false),
+    }
+}
+
+fn all_equal(alloc: Global, count: u32) -> Result<Version, NoMemory> {
+    let entry = shared(alloc, Command::Symbol(None))?;
+    let mut version = Version::empty(alloc)?;
+    for _ in 0..count {
+        version = appended(&version, Arc::try_clone(&entry)?)?;
+    }
+    Ok(version)
 }
 
 fn is_full_at_the_last_place(alloc: Global) -> Result<bool, NoMemory> {
-    Ok(matches!(filled(alloc, 1_048_576)?, (1_048_576, Some(Grow::Full))))
+    let version = all_equal(alloc, 1_048_576)?;
+    let further = shared(alloc, Command::Symbol(None))?;
+    Ok(matches!(version.append(further), Err(Grow::Full)))
 }
 
 #[test]
 fn versions_are_as_written_out(rt: HostRuntime) {
     let alloc = rt.alloc();
-    let all = [
-        finds_the_body_and_then_the_rules(alloc),
-        keeps_the_order_from_block_to_block(alloc),
-        two_differ(alloc, "def x := s3. def y := s4.", 32, [3, 4]),
-        two_differ(alloc, "[] s0 --> s5. [] s0 --> s6.", 0, [5, 6]),
-        is_full_at_the_last_place(alloc),
+    let rows = [
+        ("rules of symbols", finds_the_body_and_then_the_rules(alloc)),
+        ("many entries", keeps_the_order_from_block_to_block(alloc)),
+        ("rules put behind", leaves_the_rules_of_a_version(alloc)),
+        ("entries put behind", leaves_the_entries_of_a_version(alloc)),
+        ("plain signatures", plain_signatures_go_in_and_out(alloc)),
+        ("the last place", is_full_at_the_last_place(alloc)),
     ];
-    assert_eq!(rt; all, [Ok(true); 5], "of the versions");
+    assert_eq!(rt; first_wrong(&rows), None, "of the versions");
 }

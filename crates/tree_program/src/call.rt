@@ -1,17 +1,14 @@
 //! What a call of the program does, over any shelf and sink.
-ghost use Rattle.std.specs.Prelude.{◌≡◌, ◌<◌, ◌≤◌, [], IfOk, length};
+ghost use Rattle.std.specs.Prelude.{◌≡◌, [], length};
 ghost use Rattle.board_core.specs.Machine.{IsFinished, marks_of};
-ghost use Rattle.tree_program.specs.Trials.{GoesOn};
 
-use crate::trial::Trial;
+use crate::trial::try_book;
 use crate::tried::Tried;
-use book_reader::{Root, Walker, own_module};
 use command_line::{CheckRequest, Request, read_request, usage_text};
 use dk_io::{Failed, Shelf, Sink, put, put_all};
-use dk_model::{Limits, NoMemory};
+use dk_model::Limits;
 use std::alloc::Global;
 use std::io::ErrorKind;
-use theory_walk::ModuleLimits;
 use verdict_book::{outcome_of, write_report};
 
 // The statuses of docs/report.md that no outcome of a file has.
@@ -58,29 +55,6 @@ fn put_memory<K: Sink>(sink: &mut K) -> u8 {
     told(put(sink, b"memory 0 line 0\n"), NO_MEMORY)
 }
 
-// The trial of no commands, and what is read.
-fn begin(alloc: Global, request: &CheckRequest<'_>) -> Result<(Trial, Root), NoMemory>
-    ensures trial { IfOk result (λ made. GoesOn made.0) }
-    ensures files { IfOk result (λ made.
-        (0 < made.1.most.files) × (made.1.most.files ≤ 64)) }
-{
-    let limits = Limits::standard();
-    let most = ModuleLimits {
-        files: 64,
-        modules: 1_000,
-    };
-    let own = own_module(alloc, request.file.as_bytes())?;
-    let trial = Trial::new(alloc, limits, request.budget, &own)?;
-    let file = String::from_str(alloc, request.file)?;
-    let root = Root {
-        limits,
-        most,
-        file,
-        own,
-    };
-    Ok((trial, root))
-}
-
 fn check_file<H: Shelf, K: Sink>(
     alloc: Global,
     shelf: &mut H,
@@ -89,10 +63,7 @@ fn check_file<H: Shelf, K: Sink>(
 ) -> u8
     requires shelf { H.aside shelf.old ≡ [] }
 {
-    let Ok((trial, root)) = begin(alloc, request) else {
-        return put_memory(sink);
-    };
-    let Ok(walker) = Walker::begin(alloc, root, shelf) else {
+    let Ok(()) = shelf.open_book(request.file) else {
         let line = [
             b"unopened ".as_slice(),
             request.file.as_bytes(),
@@ -100,15 +71,9 @@ fn check_file<H: Shelf, K: Sink>(
         ];
         return told(put_all(sink, &line), UNOPENED);
     };
-    let tried = trial.check(alloc, walker, shelf);
-    put_report(sink, &tried, request)
-}
-
-// The part of a file's name up to and with its last slash, or nothing.
-fn folder_of(file: &str) -> &str {
-    match file.rfind('/') {
-        Some(slash) => &file[..slash + 1],
-        None => "",
+    match try_book(alloc, Limits::standard(), request.budget, shelf) {
+        Ok(tried) => put_report(sink, &tried, request),
+        Err(_) => put_memory(sink),
     }
 }
 
@@ -118,7 +83,6 @@ fn put_report<K: Sink>(sink: &mut K, tried: &Tried, request: &CheckRequest<'_>) 
 {
     let Tried { book, titles } = tried;
     let outcome = outcome_of(book, titles);
-    let folder = folder_of(request.file);
-    let written = write_report(book, titles, request.budget, request.quiet, folder, sink);
+    let written = write_report(book, titles, request.budget, request.quiet, "", sink);
     told(written, outcome.status())
 }

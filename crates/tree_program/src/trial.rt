@@ -1,164 +1,80 @@
-//! The check of a file with the modules that it needs, command by command, on plain trees.
-ghost use Rattle.std.specs.Prelude.{◌≡◌, ◌<◌, ◌≤◌, ◌+◌, IfErr, IfOk, OnErr, OnOk, Some, length};
+//! The check of an open book, command by command, on plain trees.
+ghost use Rattle.std.specs.Prelude.{◌≡◌, ◌<◌, ◌≤◌, ◌+◌, IfErr, IfOk, OnOk, Some, length};
 ghost use Rattle.dk_model.specs.declared.code.Verdict.{Verdict};
 ghost use Rattle.board_core.specs.Machine.{IsFinished, marks_of};
-ghost use Rattle.scope_terms.specs.Names.{reading};
-ghost use Rattle.scope_terms.specs.Reading.{after_entering};
-ghost use Rattle.book_reader.specs.Ends.{IsReady};
-ghost use Rattle.book_reader.specs.Shelves.{shelf_of};
 ghost use Rattle.verdict_book.specs.Stops.{EndsByItself};
-ghost use Rattle.tree_program.specs.Trials.{GoesOn, StopsByItself};
+ghost use Rattle.tree_program.specs.Trials.{GoesOn};
 
 use crate::name::shown_name;
 use crate::tried::Tried;
 use board_core::{End, Place};
-use book_reader::{Turn, WalkEnd, Walker};
 use command_check::enter_command;
 use dk_io::Shelf;
-use dk_model::{Code, Entry, Fault, Limits, Listed, NoMemory, Scoped, Verdict};
+use dk_model::{Code, Entry, Fault, Limits, NoMemory, Scoped, Verdict};
 use dk_parser::Raw;
-use scope_terms::{Entered, Names};
+use file_reader::{ReadEnd, Reader};
+use scope_terms::Names;
 use shared_term::Stored;
 use signature_log::Version;
 use std::alloc::Global;
-use std::str::from_utf8;
 use std::sync::Arc;
 use tree_evaluation::Trees;
 use verdict_book::Title;
 
-/// What the commands so far came to. Each was accepted, but for the last one where the theory ends at it.
+/// What the commands so far came to. Each was accepted, but for the last one where the file ends at it.
 #[derive(Drop)]
 pub struct Trial {
-    // How many commands a theory may have.
+    // How many commands a file may have.
     pub most: u32,
     // The units that the check of each command may take.
     pub budget: u64,
     pub trees: Trees,
     pub names: Names,
-    // How many modules were entered besides the file's, and not left.
-    pub inside: u32,
     pub version: Version,
     pub tried: Tried,
 }
 
-/// Why no further command is checked; lines are those of the book being read.
-#[derive(Drop)]
-pub enum Halt {
-    Whole,
-    Unread,
-    Unopened(Listed<u8>),
-    Fault(u32, Verdict),
-}
-
 impl Trial {
-    /// No command yet, in the module of the file.
-    pub fn new(
-        alloc: Global,
-        limits: Limits,
-        budget: u64,
-        own: &Option<Listed<u8>>,
-    ) -> Result<Trial, NoMemory>
+    fn new(alloc: Global, limits: Limits, budget: u64) -> Result<Trial, NoMemory>
         requires { limits.commands < 4294967294 }
         ensures { IfOk result GoesOn }
     {
-        let mut names = Names::new(alloc)?;
-        enter_module(alloc, &mut names, own)?;
         Ok(Trial {
             most: limits.commands,
             budget,
             trees: Trees::new(alloc),
-            names,
-            inside: 0,
+            names: Names::new(alloc)?,
             version: Version::empty(alloc)?,
             tried: Tried::new(alloc)?,
         })
     }
 
-    /// Reads the file, which is open, and all that it needs, and checks the commands one after the other; gives the sealed
-    /// book of those that are accepted.
-    pub fn check<H: Shelf>(mut self, alloc: Global, mut walker: Walker, shelf: &mut H) -> Tried
-        requires goes_on { GoesOn self }
-        requires ready { IsReady walker (shelf_of H.Shelf shelf.old) }
-        ensures finished { IsFinished (marks_of result.book.jobs) result.book.events }
-        ensures titled { length result.titles ≡ length result.book.jobs }
-    {
-        let halt = self.read(alloc, &mut walker, shelf);
-        let Trial { mut tried, .. } = self;
-        tried.seal(end_at(alloc, walker.into_module(), halt));
-        tried
-    }
-
-    // Checks each command; or says why no other is checked.
-    fn read<H: Shelf>(&mut self, alloc: Global, walker: &mut Walker, shelf: &mut H) -> Halt
-        requires goes_on { GoesOn self.old }
-        requires ready { IsReady walker.old (shelf_of H.Shelf shelf.old) }
+    // Checks each command of the open book; or says how the book ends, by itself or at a command that isn't accepted.
+    fn read<H: Shelf>(&mut self, alloc: Global, limits: Limits, shelf: &mut H) -> End
+        requires { GoesOn self.old }
         ensures goes_on { GoesOn self.new }
-        ensures stops { StopsByItself result }
+        ensures ends { EndsByItself (Some result) }
     {
-        'turns: for _turn in 0..u64::MAX {
-            let turn = match walker.turn(alloc, shelf) {
-                Ok(turn) => turn,
-                Err(end) => return halt_at(end),
+        let mut reader = Reader::new(alloc, limits);
+        'commands: loop {
+            let raw = match reader.next(alloc, shelf) {
+                Ok(next) => next.into_raw(),
+                Err(end) => return end_at(alloc, end),
             };
-            if let Err(halt) = self.take(alloc, walker, turn) {
-                return halt;
+            if let Err(verdict) = self.enter(alloc, &raw) {
+                return End::Fault(Place::in_file(alloc, raw.line), verdict);
             }
-        }
-        // No theory has so many turns.
-        Halt::Fault(1, Verdict::Memory)
-    }
-
-    // What comes of a turn of the walk.
-    fn take(&mut self, alloc: Global, walker: &Walker, turn: Turn) -> Result<(), Halt>
-        requires { GoesOn self.old }
-        ensures goes_on { GoesOn self.new }
-        ensures stops { IfErr result StopsByItself }
-    {
-        match turn {
-            Turn::On => Ok(()),
-            Turn::Entered => match self.open(alloc, walker) {
-                Ok(()) => Ok(()),
-                Err(NoMemory) => Err(Halt::Fault(1, Verdict::Memory)),
-            },
-            Turn::Left => {
-                self.leave();
-                Ok(())
-            }
-            Turn::Command(raw) => match self.enter(alloc, walker, &raw) {
-                Ok(()) => Ok(()),
-                Err(verdict) => Err(Halt::Fault(raw.line, verdict)),
-            },
-        }
-    }
-
-    // Enters the module of the book that was opened.
-    fn open(&mut self, alloc: Global, walker: &Walker) -> Result<(), NoMemory>
-        requires { GoesOn self.old }
-        ensures { GoesOn self.new }
-    {
-        let module = walker.module(alloc)?;
-        match enter_module(alloc, &mut self.names, &module)? {
-            Entered::New => self.inside = self.inside.saturating_add(1),
-            Entered::Known | Entered::Open => {}
-        }
-        Ok(())
-    }
-
-    // Leaves the module of the book that was read to its end.
-    fn leave(&mut self)
-        requires { GoesOn self.old }
-        ensures { GoesOn self.new }
-    {
-        if self.inside > 0 {
-            self.names.leave();
-            self.inside -= 1;
         }
     }
 
     // Checks the next command over those before it and adds what it declares; or says its verdict.
-    fn enter(&mut self, alloc: Global, walker: &Walker, raw: &Raw) -> Result<(), Verdict>
+    fn enter(&mut self, alloc: Global, raw: &Raw) -> Result<(), Verdict>
         requires { GoesOn self.old }
         ensures goes_on { GoesOn self.new }
+        ensures most { self.new.most ≡ self.old.most }
+        ensures few { OnOk result (length self.new.tried.titles ≤ self.new.most) }
+        ensures more { OnOk result
+            (length self.new.tried.titles ≡ length self.old.tried.titles + 1) }
         ensures refused { IfErr result (λ v. ¬ (v ≡ Verdict.Accepted)) }
     {
         if self.tried.titles.len() >= self.most as usize {
@@ -166,23 +82,20 @@ impl Trial {
         }
         let command = scoped(alloc, &mut self.names, raw)?;
         let entry = enter_command(&mut self.trees, &self.version, &command, self.budget)?;
-        match self.add(alloc, walker, raw, entry) {
+        match self.add(alloc, raw, entry) {
             Ok(()) => Ok(()),
             Err(NoMemory) => Err(Verdict::Memory),
         }
     }
 
     // Adds an accepted command.
-    fn add(
-        &mut self,
-        alloc: Global,
-        walker: &Walker,
-        raw: &Raw,
-        entry: Entry<Stored>,
-    ) -> Result<(), NoMemory>
+    fn add(&mut self, alloc: Global, raw: &Raw, entry: Entry<Stored>) -> Result<(), NoMemory>
         requires goes_on { GoesOn self.old }
         requires few { length self.old.tried.titles < self.old.most }
-        ensures { GoesOn self.new }
+        ensures goes_on { GoesOn self.new }
+        ensures most { self.new.most ≡ self.old.most }
+        ensures more { OnOk result
+            (length self.new.tried.titles ≡ length self.old.tried.titles + 1) }
     {
         let Ok(version) = self.version.append(Arc::new(alloc, entry)?) else {
             return Err(NoMemory);
@@ -190,35 +103,14 @@ impl Trial {
         self.version = version;
         let title = Title {
             name: shown_name(alloc, &raw.form)?,
-            place: place_of(alloc, walker.module(alloc)?, raw.line),
+            place: Place::in_file(alloc, raw.line),
         };
         self.tried.add(alloc, &title)
     }
 }
 
-// Enters a module, and says how it stood.
-fn enter_module(
-    alloc: Global,
-    names: &mut Names,
-    module: &Option<Listed<u8>>,
-) -> Result<Entered, NoMemory>
-    ensures stood { IfOk result (λ stood. stood ≡ (reading names.old).standing «module».now) }
-    ensures ok { OnOk result (reading names.new ≡ after_entering (reading names.old) «module».now) }
-    ensures err { OnErr result (reading names.new ≡ reading names.old) }
-{
-    let Some(name) = module else {
-        return Ok(names.enter(alloc, None)?);
-    };
-    // A plain name is ASCII, so this is a text.
-    let Ok(text) = from_utf8(name.as_slice()) else {
-        return Err(NoMemory);
-    };
-    Ok(names.enter(alloc, Some(text))?)
-}
-
 // The command with its names as numbers. There are as many as accepted commands, so they don't run out before these do.
 fn scoped(alloc: Global, names: &mut Names, raw: &Raw) -> Result<Scoped, Verdict>
-    ensures entered { (reading names.new).entered ≡ (reading names.old).entered }
     ensures refused { IfErr result (λ v. ¬ (v ≡ Verdict.Accepted)) }
 {
     if names.count() == u32::MAX {
@@ -231,35 +123,35 @@ fn scoped(alloc: Global, names: &mut Names, raw: &Raw) -> Result<Scoped, Verdict
     }
 }
 
-fn halt_at(end: WalkEnd) -> Halt
-    ensures { StopsByItself result }
-{
-    match end {
-        WalkEnd::Whole => Halt::Whole,
-        WalkEnd::Unread => Halt::Unread,
-        WalkEnd::Unopened(name, _) => Halt::Unopened(name),
-        WalkEnd::Refused(line, code) => Halt::Fault(line, Verdict::Refused(code)),
-        WalkEnd::NoMemory(line) => Halt::Fault(line, Verdict::Memory),
-    }
-}
-
-// A line of the book of a module, or of the file.
-fn place_of(alloc: Global, module: Option<Listed<u8>>, line: u32) -> Place {
-    match module {
-        Some(module) => Place { line, module },
-        None => Place::in_file(alloc, line),
-    }
-}
-
-// How the theory ends where this is the book being read. Takes no memory.
-fn end_at(alloc: Global, module: Option<Listed<u8>>, halt: Halt) -> End
-    requires { StopsByItself halt }
+// How the file ends where reading it ended so.
+fn end_at(alloc: Global, read_end: ReadEnd) -> End
     ensures { EndsByItself (Some result) }
 {
-    match halt {
-        Halt::Whole => End::Whole,
-        Halt::Unread => End::Unread(place_of(alloc, module, 0)),
-        Halt::Unopened(name) => End::Unopened(name),
-        Halt::Fault(line, verdict) => End::Fault(place_of(alloc, module, line), verdict),
+    match read_end {
+        ReadEnd::Whole => End::Whole,
+        ReadEnd::Unread => End::Unread(Place::in_file(alloc, 0)),
+        ReadEnd::Refused(line, code) => {
+            End::Fault(Place::in_file(alloc, line), Verdict::Refused(code))
+        }
+        ReadEnd::NoMemory(line) => End::Fault(Place::in_file(alloc, line), Verdict::Memory),
     }
+}
+
+/// Reads the open book within these limits and checks its commands one after the other, each with this budget; gives the
+/// sealed book of those that are accepted. `NoMemory` comes before anything is read.
+pub fn try_book<H: Shelf>(
+    alloc: Global,
+    limits: Limits,
+    budget: u64,
+    shelf: &mut H,
+) -> Result<Tried, NoMemory>
+    requires { limits.commands < 4294967294 }
+    ensures finished { IfOk result (λ t. IsFinished (marks_of t.book.jobs) t.book.events) }
+    ensures titled { IfOk result (λ t. length t.titles ≡ length t.book.jobs) }
+{
+    let mut trial = Trial::new(alloc, limits, budget)?;
+    let end = trial.read(alloc, limits, shelf);
+    let Trial { mut tried, .. } = trial;
+    tried.seal(end);
+    Ok(tried)
 }
