@@ -581,62 +581,29 @@ turn-returns-in_ok-head-in-Whole-clause-serves t c = c.turn_head.ensures.serves
 pub turn-returns-in_err-head-in-Whole-clause-keeps : goal.turn-returns-in_err-head-in-Whole-clause-keeps
 turn-returns-in_err-head-in-Whole-clause-keeps t c = extends_none c.args.self.now.pool
 
-pub turn-returns-in_err-head-in-Whole-clause-serves : goal.turn-returns-in_err-head-in-Whole-clause-serves
-turn-returns-in_err-head-in-Whole-clause-serves t c = c.requires.serves
-
 pub compare-returns-clause-keeps : goal.compare-returns-clause-keeps
 compare-returns-clause-keeps t c = c.loop-step.invariant.keeps
 
 pub compare-returns-clause-serves : goal.compare-returns-clause-serves
 compare-returns-clause-serves t c = c.loop-step.invariant.serves
 
-pub compare-returns-in_err-alike-clause-keeps : goal.compare-returns-in_err-alike-clause-keeps
-compare-returns-in_err-alike-clause-keeps t c = c.in_err-alike.ensures.keeps
-
-pub compare-returns-in_err-alike-clause-serves : goal.compare-returns-in_err-alike-clause-serves
-compare-returns-in_err-alike-clause-serves t c = c.in_err-alike.ensures.serves
-
 pub compare-returns-in_err-alike-in-Pair-clause-keeps : goal.compare-returns-in_err-alike-in-Pair-clause-keeps
 compare-returns-in_err-alike-in-Pair-clause-keeps t c = extends_more c.args.self.now.pool c.loop-step.self.pool c.compare_pair-then-alike.new.self.pool c.loop-step.invariant.keeps c.in_err-alike-in-Pair.ensures.keeps
-
-pub compare-returns-in_err-alike-in-Pair-clause-serves : goal.compare-returns-in_err-alike-in-Pair-clause-serves
-compare-returns-in_err-alike-in-Pair-clause-serves t c = c.in_err-alike-in-Pair.ensures.serves
 
 pub compare_pair-returns-then-left-eq0-clause-keeps : goal.compare_pair-returns-then-left-eq0-clause-keeps
 compare_pair-returns-then-left-eq0-clause-keeps t c = extends_none c.args.self.now.pool
 
-pub compare_pair-returns-then-left-eq0-clause-serves : goal.compare_pair-returns-then-left-eq0-clause-serves
-compare_pair-returns-then-left-eq0-clause-serves t c = c.requires.serves
-
 pub compare_pair-returns-then-same-clause-keeps : goal.compare_pair-returns-then-same-clause-keeps
 compare_pair-returns-then-same-clause-keeps t c = extends_none c.args.self.now.pool
-
-pub compare_pair-returns-then-same-clause-serves : goal.compare_pair-returns-then-same-clause-serves
-compare_pair-returns-then-same-clause-serves t c = c.requires.serves
 
 pub compare_pair-returns-then-left-found-clause-keeps : goal.compare_pair-returns-then-left-found-clause-keeps
 compare_pair-returns-then-left-found-clause-keeps t c = extends_none c.args.self.now.pool
 
-pub compare_pair-returns-then-left-found-clause-serves : goal.compare_pair-returns-then-left-found-clause-serves
-compare_pair-returns-then-left-found-clause-serves t c = c.requires.serves
-
 pub compare_pair-returns-in-Some-clause-keeps : goal.compare_pair-returns-in-Some-clause-keeps
 compare_pair-returns-in-Some-clause-keeps t c = extends_none c.args.self.now.pool
 
-pub compare_pair-returns-in-Some-clause-serves : goal.compare_pair-returns-in-Some-clause-serves
-compare_pair-returns-in-Some-clause-serves t c = c.requires.serves
-
-pub compare_pair-returns-in_err-x-clause-keeps : goal.compare_pair-returns-in_err-x-clause-keeps
-compare_pair-returns-in_err-x-clause-keeps t c = c.in_err-x.ensures.keeps
-
-pub compare_pair-returns-in_err-x-clause-serves : goal.compare_pair-returns-in_err-x-clause-serves
-compare_pair-returns-in_err-x-clause-serves t c = c.in_err-x.ensures.serves
-
 pub compare_pair-returns-in_err-y-clause-keeps : goal.compare_pair-returns-in_err-y-clause-keeps
 compare_pair-returns-in_err-y-clause-keeps t c = extends_more c.args.self.now.pool c.evaluate.new.self.pool c.evaluate-2.new.self.pool c.in_ok-x.ensures.keeps c.in_err-y.ensures.keeps
-
-pub compare_pair-returns-in_err-y-clause-serves : goal.compare_pair-returns-in_err-y-clause-serves
-compare_pair-returns-in_err-y-clause-serves t c = c.in_err-y.ensures.serves
 
 pub compare_pair-returns-clause-keeps : goal.compare_pair-returns-clause-keeps
 compare_pair-returns-clause-keeps t c = extends_more c.args.self.now.pool c.evaluate.new.self.pool c.evaluate-2.new.self.pool c.in_ok-x.ensures.keeps c.in_ok-y.ensures.keeps
@@ -677,9 +644,6 @@ descend-returns-in-Some-clause-serves t c = c.loop-left.invariant.serves
 pub descend-returns-in_err-value-clause-keeps : goal.descend-returns-in_err-value-clause-keeps
 descend-returns-in_err-value-clause-keeps t c = extends_more c.args.self.now.pool c.loop-left.self.pool c.evaluate.new.self.pool c.loop-left.invariant.keeps c.in_err-value.ensures.keeps
 
-pub descend-returns-in_err-value-clause-serves : goal.descend-returns-in_err-value-clause-serves
-descend-returns-in_err-value-clause-serves t c = c.in_err-value.ensures.serves
-
 pub descend-returns-in_err-push_frame-clause-keeps : goal.descend-returns-in_err-push_frame-clause-keeps
 descend-returns-in_err-push_frame-clause-keeps t c = extends_more c.args.self.now.pool c.loop-left.self.pool c.evaluate.new.self.pool c.loop-left.invariant.keeps c.in_ok-value.ensures.keeps
 
@@ -701,29 +665,14 @@ descend-returns-in-Head-clause-serves t c = c.in_ok-value.ensures.serves
 pub evaluate-returns-then-left-found-clause-keeps : goal.evaluate-returns-then-left-found-clause-keeps
 evaluate-returns-then-left-found-clause-keeps t c = extends_none c.args.self.now.pool
 
-pub evaluate-returns-then-left-found-clause-serves : goal.evaluate-returns-then-left-found-clause-serves
-evaluate-returns-then-left-found-clause-serves t c = c.requires.serves
-
 pub evaluate-returns-in-Some-clause-keeps : goal.evaluate-returns-in-Some-clause-keeps
 evaluate-returns-in-Some-clause-keeps t c = extends_none c.args.self.now.pool
-
-pub evaluate-returns-in-Some-clause-serves : goal.evaluate-returns-in-Some-clause-serves
-evaluate-returns-in-Some-clause-serves t c = c.requires.serves
-
-pub evaluate-returns-in_err-id-clause-keeps : goal.evaluate-returns-in_err-id-clause-keeps
-evaluate-returns-in_err-id-clause-keeps t c = c.in_err-id.ensures.keeps
-
-pub evaluate-returns-in_err-id-clause-serves : goal.evaluate-returns-in_err-id-clause-serves
-evaluate-returns-in_err-id-clause-serves t c = c.in_err-id.ensures.serves
 
 pub evaluate-returns-clause-keeps : goal.evaluate-returns-clause-keeps
 evaluate-returns-clause-keeps t c = c.in_ok-id.ensures.keeps
 
 pub evaluated-returns-in_err-term-clause-keeps : goal.evaluated-returns-in_err-term-clause-keeps
 evaluated-returns-in_err-term-clause-keeps t c = extends_more c.args.self.now.pool c.loop-stack.self.pool c.turn.new.self.pool c.loop-stack.invariant.keeps c.in_err-term.ensures.keeps
-
-pub evaluated-returns-in_err-term-clause-serves : goal.evaluated-returns-in_err-term-clause-serves
-evaluated-returns-in_err-term-clause-serves t c = c.in_err-term.ensures.serves
 
 pub evaluated-returns-in_err-push_pause-in-Asks-clause-keeps : goal.evaluated-returns-in_err-push_pause-in-Asks-clause-keeps
 evaluated-returns-in_err-push_pause-in-Asks-clause-keeps t c = extends_more c.args.self.now.pool c.loop-stack.self.pool c.turn.new.self.pool c.loop-stack.invariant.keeps c.in_ok-term.ensures.keeps
@@ -749,26 +698,14 @@ normalise-returns-clause-keeps t c = c.loop-frame.invariant.keeps
 pub normalise-returns-clause-serves : goal.normalise-returns-clause-serves
 normalise-returns-clause-serves t c = c.loop-frame.invariant.serves
 
-pub normalise-returns-in_err-value-clause-keeps : goal.normalise-returns-in_err-value-clause-keeps
-normalise-returns-in_err-value-clause-keeps t c = c.in_err-value.ensures.keeps
-
-pub normalise-returns-in_err-value-clause-serves : goal.normalise-returns-in_err-value-clause-serves
-normalise-returns-in_err-value-clause-serves t c = c.in_err-value.ensures.serves
-
 pub normalise-returns-in_err-value-2-clause-keeps : goal.normalise-returns-in_err-value-2-clause-keeps
 normalise-returns-in_err-value-2-clause-keeps t c = extends_more c.args.self.now.pool c.loop-frame.self.pool c.resume.new.self.pool c.loop-frame.invariant.keeps c.in_err-value-2.ensures.keeps
-
-pub normalise-returns-in_err-value-2-clause-serves : goal.normalise-returns-in_err-value-2-clause-serves
-normalise-returns-in_err-value-2-clause-serves t c = c.in_err-value-2.ensures.serves
 
 pub resume-returns-in-Conclude-clause-keeps : goal.resume-returns-in-Conclude-clause-keeps
 resume-returns-in-Conclude-clause-keeps t c = extends_none c.args.self.now.pool
 
 pub resume-returns-in_err-push_frame-in-Argument-clause-keeps : goal.resume-returns-in_err-push_frame-in-Argument-clause-keeps
 resume-returns-in_err-push_frame-in-Argument-clause-keeps t c = extends_none c.args.self.now.pool
-
-pub resume-returns-in_err-push_frame-in-Argument-clause-serves : goal.resume-returns-in_err-push_frame-in-Argument-clause-serves
-resume-returns-in_err-push_frame-in-Argument-clause-serves t c = c.requires.serves
 
 pub resume-returns-in_ok-push_frame-in-Argument-clause-keeps : goal.resume-returns-in_ok-push_frame-in-Argument-clause-keeps
 resume-returns-in_ok-push_frame-in-Argument-clause-keeps t c = c.descend.ensures.keeps
@@ -779,9 +716,6 @@ resume-returns-in_ok-push_frame-in-Argument-clause-serves t c = c.descend.ensure
 pub resume-returns-in_err-push_frame-in-Annotation-clause-keeps : goal.resume-returns-in_err-push_frame-in-Annotation-clause-keeps
 resume-returns-in_err-push_frame-in-Annotation-clause-keeps t c = extends_none c.args.self.now.pool
 
-pub resume-returns-in_err-push_frame-in-Annotation-clause-serves : goal.resume-returns-in_err-push_frame-in-Annotation-clause-serves
-resume-returns-in_err-push_frame-in-Annotation-clause-serves t c = c.requires.serves
-
 pub resume-returns-in_ok-push_frame-in-Annotation-clause-keeps : goal.resume-returns-in_ok-push_frame-in-Annotation-clause-keeps
 resume-returns-in_ok-push_frame-in-Annotation-clause-keeps t c = c.descend-in-Annotation.ensures.keeps
 
@@ -791,17 +725,11 @@ resume-returns-in_ok-push_frame-in-Annotation-clause-serves t c = c.descend-in-A
 pub resume-returns-in_err-push_frame-in-Domain-clause-keeps : goal.resume-returns-in_err-push_frame-in-Domain-clause-keeps
 resume-returns-in_err-push_frame-in-Domain-clause-keeps t c = extends_none c.args.self.now.pool
 
-pub resume-returns-in_err-push_frame-in-Domain-clause-serves : goal.resume-returns-in_err-push_frame-in-Domain-clause-serves
-resume-returns-in_err-push_frame-in-Domain-clause-serves t c = c.requires.serves
-
 pub resume-returns-in_ok-push_frame-in-Domain-clause-keeps : goal.resume-returns-in_ok-push_frame-in-Domain-clause-keeps
 resume-returns-in_ok-push_frame-in-Domain-clause-keeps t c = c.descend-in-Domain.ensures.keeps
 
 pub resume-returns-in_ok-push_frame-in-Domain-clause-serves : goal.resume-returns-in_ok-push_frame-in-Domain-clause-serves
 resume-returns-in_ok-push_frame-in-Domain-clause-serves t c = c.descend-in-Domain.ensures.serves
-
-pub resume-returns-in_err-intern-in-Function-clause-keeps : goal.resume-returns-in_err-intern-in-Function-clause-keeps
-resume-returns-in_err-intern-in-Function-clause-keeps t c = c.in_err-intern-in-Function.ensures.keeps
 
 pub resume-returns-in_err-intern-in-Function-clause-serves : goal.resume-returns-in_err-intern-in-Function-clause-serves
 resume-returns-in_err-intern-in-Function-clause-serves t c = serves_grown (entries_of c.args.version.now) c.args.self.now c.intern.new.self c.args.self.now.nested c.in_err-intern-in-Function.ensures.keeps c.requires.serves
@@ -812,9 +740,6 @@ resume-returns-in_ok-intern-in-Function-clause-keeps t c = c.in_ok-intern-in-Fun
 pub resume-returns-in_ok-intern-in-Function-clause-serves : goal.resume-returns-in_ok-intern-in-Function-clause-serves
 resume-returns-in_ok-intern-in-Function-clause-serves t c = serves_grown (entries_of c.args.version.now) c.args.self.now c.intern.new.self c.args.self.now.nested c.in_ok-intern-in-Function.ensures.keeps c.requires.serves
 
-pub resume-returns-in_err-intern-in-Body-clause-keeps : goal.resume-returns-in_err-intern-in-Body-clause-keeps
-resume-returns-in_err-intern-in-Body-clause-keeps t c = c.in_err-intern-in-Body.ensures.keeps
-
 pub resume-returns-in_err-intern-in-Body-clause-serves : goal.resume-returns-in_err-intern-in-Body-clause-serves
 resume-returns-in_err-intern-in-Body-clause-serves t c = serves_grown (entries_of c.args.version.now) c.args.self.now c.intern-in-Body.new.self c.args.self.now.nested c.in_err-intern-in-Body.ensures.keeps c.requires.serves
 
@@ -824,9 +749,6 @@ resume-returns-in_ok-intern-in-Body-clause-keeps t c = c.in_ok-intern-in-Body.en
 pub resume-returns-in_ok-intern-in-Body-clause-serves : goal.resume-returns-in_ok-intern-in-Body-clause-serves
 resume-returns-in_ok-intern-in-Body-clause-serves t c = serves_grown (entries_of c.args.version.now) c.args.self.now c.intern-in-Body.new.self c.args.self.now.nested c.in_ok-intern-in-Body.ensures.keeps c.requires.serves
 
-pub resume-returns-in_err-intern-in-Annotated-clause-keeps : goal.resume-returns-in_err-intern-in-Annotated-clause-keeps
-resume-returns-in_err-intern-in-Annotated-clause-keeps t c = c.in_err-intern-in-Annotated.ensures.keeps
-
 pub resume-returns-in_err-intern-in-Annotated-clause-serves : goal.resume-returns-in_err-intern-in-Annotated-clause-serves
 resume-returns-in_err-intern-in-Annotated-clause-serves t c = serves_grown (entries_of c.args.version.now) c.args.self.now c.intern-in-Annotated.new.self c.args.self.now.nested c.in_err-intern-in-Annotated.ensures.keeps c.requires.serves
 
@@ -835,9 +757,6 @@ resume-returns-in_ok-intern-in-Annotated-clause-keeps t c = c.in_ok-intern-in-An
 
 pub resume-returns-in_ok-intern-in-Annotated-clause-serves : goal.resume-returns-in_ok-intern-in-Annotated-clause-serves
 resume-returns-in_ok-intern-in-Annotated-clause-serves t c = serves_grown (entries_of c.args.version.now) c.args.self.now c.intern-in-Annotated.new.self c.args.self.now.nested c.in_ok-intern-in-Annotated.ensures.keeps c.requires.serves
-
-pub resume-returns-in_err-intern-in-Codomain-clause-keeps : goal.resume-returns-in_err-intern-in-Codomain-clause-keeps
-resume-returns-in_err-intern-in-Codomain-clause-keeps t c = c.in_err-intern-in-Codomain.ensures.keeps
 
 pub resume-returns-in_err-intern-in-Codomain-clause-serves : goal.resume-returns-in_err-intern-in-Codomain-clause-serves
 resume-returns-in_err-intern-in-Codomain-clause-serves t c = serves_grown (entries_of c.args.version.now) c.args.self.now c.intern-in-Codomain.new.self c.args.self.now.nested c.in_err-intern-in-Codomain.ensures.keeps c.requires.serves
