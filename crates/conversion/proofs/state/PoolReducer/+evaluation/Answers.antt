@@ -581,12 +581,6 @@ turn-returns-in_ok-head-in-Whole-clause-serves t c = c.turn_head.ensures.serves
 pub turn-returns-in_err-head-in-Whole-clause-keeps : goal.turn-returns-in_err-head-in-Whole-clause-keeps
 turn-returns-in_err-head-in-Whole-clause-keeps t c = extends_none c.args.self.now.pool
 
-pub compare-returns-clause-keeps : goal.compare-returns-clause-keeps
-compare-returns-clause-keeps t c = c.loop-step.invariant.keeps
-
-pub compare-returns-clause-serves : goal.compare-returns-clause-serves
-compare-returns-clause-serves t c = c.loop-step.invariant.serves
-
 pub compare-returns-in_err-alike-in-Pair-clause-keeps : goal.compare-returns-in_err-alike-in-Pair-clause-keeps
 compare-returns-in_err-alike-in-Pair-clause-keeps t c = extends_more c.args.self.now.pool c.loop-step.self.pool c.compare_pair-then-alike.new.self.pool c.loop-step.invariant.keeps c.in_err-alike-in-Pair.ensures.keeps
 
@@ -608,38 +602,11 @@ compare_pair-returns-in_err-y-clause-keeps t c = extends_more c.args.self.now.po
 pub compare_pair-returns-clause-keeps : goal.compare_pair-returns-clause-keeps
 compare_pair-returns-clause-keeps t c = extends_more c.args.self.now.pool c.evaluate.new.self.pool c.evaluate-2.new.self.pool c.in_ok-x.ensures.keeps c.in_ok-y.ensures.keeps
 
-pub compare_pair-returns-clause-serves : goal.compare_pair-returns-clause-serves
-compare_pair-returns-clause-serves t c = c.in_ok-y.ensures.serves
-
 pub compare_pair-returns-in_err-push_step-clause-keeps : goal.compare_pair-returns-in_err-push_step-clause-keeps
 compare_pair-returns-in_err-push_step-clause-keeps t c = extends_more c.args.self.now.pool c.evaluate.new.self.pool c.evaluate-2.new.self.pool c.in_ok-x.ensures.keeps c.in_ok-y.ensures.keeps
 
-pub compare_pair-returns-in_err-push_step-clause-serves : goal.compare_pair-returns-in_err-push_step-clause-serves
-compare_pair-returns-in_err-push_step-clause-serves t c = c.in_ok-y.ensures.serves
-
 pub compare_pair-returns-in_err-alike-clause-keeps : goal.compare_pair-returns-in_err-alike-clause-keeps
 compare_pair-returns-in_err-alike-clause-keeps t c = extends_more c.args.self.now.pool c.evaluate.new.self.pool c.evaluate-2.new.self.pool c.in_ok-x.ensures.keeps c.in_ok-y.ensures.keeps
-
-pub compare_pair-returns-in_err-alike-clause-serves : goal.compare_pair-returns-in_err-alike-clause-serves
-compare_pair-returns-in_err-alike-clause-serves t c = c.in_ok-y.ensures.serves
-
-pub descend-returns-then-left-eq0-clause-keeps : goal.descend-returns-then-left-eq0-clause-keeps
-descend-returns-then-left-eq0-clause-keeps t c = c.loop-left.invariant.keeps
-
-pub descend-returns-then-left-eq0-clause-serves : goal.descend-returns-then-left-eq0-clause-serves
-descend-returns-then-left-eq0-clause-serves t c = c.loop-left.invariant.serves
-
-pub descend-returns-then-left-found-clause-keeps : goal.descend-returns-then-left-found-clause-keeps
-descend-returns-then-left-found-clause-keeps t c = c.loop-left.invariant.keeps
-
-pub descend-returns-then-left-found-clause-serves : goal.descend-returns-then-left-found-clause-serves
-descend-returns-then-left-found-clause-serves t c = c.loop-left.invariant.serves
-
-pub descend-returns-in-Some-clause-keeps : goal.descend-returns-in-Some-clause-keeps
-descend-returns-in-Some-clause-keeps t c = c.loop-left.invariant.keeps
-
-pub descend-returns-in-Some-clause-serves : goal.descend-returns-in-Some-clause-serves
-descend-returns-in-Some-clause-serves t c = c.loop-left.invariant.serves
 
 pub descend-returns-in_err-value-clause-keeps : goal.descend-returns-in_err-value-clause-keeps
 descend-returns-in_err-value-clause-keeps t c = extends_more c.args.self.now.pool c.loop-left.self.pool c.evaluate.new.self.pool c.loop-left.invariant.keeps c.in_err-value.ensures.keeps
@@ -647,20 +614,11 @@ descend-returns-in_err-value-clause-keeps t c = extends_more c.args.self.now.poo
 pub descend-returns-in_err-push_frame-clause-keeps : goal.descend-returns-in_err-push_frame-clause-keeps
 descend-returns-in_err-push_frame-clause-keeps t c = extends_more c.args.self.now.pool c.loop-left.self.pool c.evaluate.new.self.pool c.loop-left.invariant.keeps c.in_ok-value.ensures.keeps
 
-pub descend-returns-in_err-push_frame-clause-serves : goal.descend-returns-in_err-push_frame-clause-serves
-descend-returns-in_err-push_frame-clause-serves t c = c.in_ok-value.ensures.serves
-
 pub descend-returns-in_err-next-clause-keeps : goal.descend-returns-in_err-next-clause-keeps
 descend-returns-in_err-next-clause-keeps t c = extends_more c.args.self.now.pool c.loop-left.self.pool c.evaluate.new.self.pool c.loop-left.invariant.keeps c.in_ok-value.ensures.keeps
 
-pub descend-returns-in_err-next-clause-serves : goal.descend-returns-in_err-next-clause-serves
-descend-returns-in_err-next-clause-serves t c = c.in_ok-value.ensures.serves
-
 pub descend-returns-in-Head-clause-keeps : goal.descend-returns-in-Head-clause-keeps
 descend-returns-in-Head-clause-keeps t c = extends_more c.args.self.now.pool c.loop-left.self.pool c.evaluate.new.self.pool c.loop-left.invariant.keeps c.in_ok-value.ensures.keeps
-
-pub descend-returns-in-Head-clause-serves : goal.descend-returns-in-Head-clause-serves
-descend-returns-in-Head-clause-serves t c = c.in_ok-value.ensures.serves
 
 pub evaluate-returns-then-left-found-clause-keeps : goal.evaluate-returns-then-left-found-clause-keeps
 evaluate-returns-then-left-found-clause-keeps t c = extends_none c.args.self.now.pool
@@ -668,17 +626,11 @@ evaluate-returns-then-left-found-clause-keeps t c = extends_none c.args.self.now
 pub evaluate-returns-in-Some-clause-keeps : goal.evaluate-returns-in-Some-clause-keeps
 evaluate-returns-in-Some-clause-keeps t c = extends_none c.args.self.now.pool
 
-pub evaluate-returns-clause-keeps : goal.evaluate-returns-clause-keeps
-evaluate-returns-clause-keeps t c = c.in_ok-id.ensures.keeps
-
 pub evaluated-returns-in_err-term-clause-keeps : goal.evaluated-returns-in_err-term-clause-keeps
 evaluated-returns-in_err-term-clause-keeps t c = extends_more c.args.self.now.pool c.loop-stack.self.pool c.turn.new.self.pool c.loop-stack.invariant.keeps c.in_err-term.ensures.keeps
 
 pub evaluated-returns-in_err-push_pause-in-Asks-clause-keeps : goal.evaluated-returns-in_err-push_pause-in-Asks-clause-keeps
 evaluated-returns-in_err-push_pause-in-Asks-clause-keeps t c = extends_more c.args.self.now.pool c.loop-stack.self.pool c.turn.new.self.pool c.loop-stack.invariant.keeps c.in_ok-term.ensures.keeps
-
-pub evaluated-returns-in_err-push_pause-in-Asks-clause-serves : goal.evaluated-returns-in_err-push_pause-in-Asks-clause-serves
-evaluated-returns-in_err-push_pause-in-Asks-clause-serves t c = c.in_ok-term.ensures.serves
 
 pub evaluated-returns-in-None-clause-keeps : goal.evaluated-returns-in-None-clause-keeps
 evaluated-returns-in-None-clause-keeps t c = extends_more c.args.self.now.pool c.turn.new.self.pool c.wind.new.pool (extends_more c.args.self.now.pool c.loop-stack.self.pool c.turn.new.self.pool c.loop-stack.invariant.keeps c.in_ok-term.ensures.keeps) c.in_ok-value-in-Stands.ensures.keeps
@@ -692,12 +644,6 @@ evaluated-returns-in_err-value-in-Stands-clause-keeps t c = extends_more c.args.
 pub evaluated-returns-in_err-value-in-Stands-clause-serves : goal.evaluated-returns-in_err-value-in-Stands-clause-serves
 evaluated-returns-in_err-value-in-Stands-clause-serves t c = serves_grown (entries_of c.args.version.now) c.turn.new.self c.wind.new.pool c.turn.new.self.nested c.in_err-value-in-Stands.ensures.keeps c.in_ok-term.ensures.serves
 
-pub normalise-returns-clause-keeps : goal.normalise-returns-clause-keeps
-normalise-returns-clause-keeps t c = c.loop-frame.invariant.keeps
-
-pub normalise-returns-clause-serves : goal.normalise-returns-clause-serves
-normalise-returns-clause-serves t c = c.loop-frame.invariant.serves
-
 pub normalise-returns-in_err-value-2-clause-keeps : goal.normalise-returns-in_err-value-2-clause-keeps
 normalise-returns-in_err-value-2-clause-keeps t c = extends_more c.args.self.now.pool c.loop-frame.self.pool c.resume.new.self.pool c.loop-frame.invariant.keeps c.in_err-value-2.ensures.keeps
 
@@ -707,35 +653,14 @@ resume-returns-in-Conclude-clause-keeps t c = extends_none c.args.self.now.pool
 pub resume-returns-in_err-push_frame-in-Argument-clause-keeps : goal.resume-returns-in_err-push_frame-in-Argument-clause-keeps
 resume-returns-in_err-push_frame-in-Argument-clause-keeps t c = extends_none c.args.self.now.pool
 
-pub resume-returns-in_ok-push_frame-in-Argument-clause-keeps : goal.resume-returns-in_ok-push_frame-in-Argument-clause-keeps
-resume-returns-in_ok-push_frame-in-Argument-clause-keeps t c = c.descend.ensures.keeps
-
-pub resume-returns-in_ok-push_frame-in-Argument-clause-serves : goal.resume-returns-in_ok-push_frame-in-Argument-clause-serves
-resume-returns-in_ok-push_frame-in-Argument-clause-serves t c = c.descend.ensures.serves
-
 pub resume-returns-in_err-push_frame-in-Annotation-clause-keeps : goal.resume-returns-in_err-push_frame-in-Annotation-clause-keeps
 resume-returns-in_err-push_frame-in-Annotation-clause-keeps t c = extends_none c.args.self.now.pool
-
-pub resume-returns-in_ok-push_frame-in-Annotation-clause-keeps : goal.resume-returns-in_ok-push_frame-in-Annotation-clause-keeps
-resume-returns-in_ok-push_frame-in-Annotation-clause-keeps t c = c.descend-in-Annotation.ensures.keeps
-
-pub resume-returns-in_ok-push_frame-in-Annotation-clause-serves : goal.resume-returns-in_ok-push_frame-in-Annotation-clause-serves
-resume-returns-in_ok-push_frame-in-Annotation-clause-serves t c = c.descend-in-Annotation.ensures.serves
 
 pub resume-returns-in_err-push_frame-in-Domain-clause-keeps : goal.resume-returns-in_err-push_frame-in-Domain-clause-keeps
 resume-returns-in_err-push_frame-in-Domain-clause-keeps t c = extends_none c.args.self.now.pool
 
-pub resume-returns-in_ok-push_frame-in-Domain-clause-keeps : goal.resume-returns-in_ok-push_frame-in-Domain-clause-keeps
-resume-returns-in_ok-push_frame-in-Domain-clause-keeps t c = c.descend-in-Domain.ensures.keeps
-
-pub resume-returns-in_ok-push_frame-in-Domain-clause-serves : goal.resume-returns-in_ok-push_frame-in-Domain-clause-serves
-resume-returns-in_ok-push_frame-in-Domain-clause-serves t c = c.descend-in-Domain.ensures.serves
-
 pub resume-returns-in_err-intern-in-Function-clause-serves : goal.resume-returns-in_err-intern-in-Function-clause-serves
 resume-returns-in_err-intern-in-Function-clause-serves t c = serves_grown (entries_of c.args.version.now) c.args.self.now c.intern.new.self c.args.self.now.nested c.in_err-intern-in-Function.ensures.keeps c.requires.serves
-
-pub resume-returns-in_ok-intern-in-Function-clause-keeps : goal.resume-returns-in_ok-intern-in-Function-clause-keeps
-resume-returns-in_ok-intern-in-Function-clause-keeps t c = c.in_ok-intern-in-Function.ensures.keeps
 
 pub resume-returns-in_ok-intern-in-Function-clause-serves : goal.resume-returns-in_ok-intern-in-Function-clause-serves
 resume-returns-in_ok-intern-in-Function-clause-serves t c = serves_grown (entries_of c.args.version.now) c.args.self.now c.intern.new.self c.args.self.now.nested c.in_ok-intern-in-Function.ensures.keeps c.requires.serves
@@ -743,26 +668,17 @@ resume-returns-in_ok-intern-in-Function-clause-serves t c = serves_grown (entrie
 pub resume-returns-in_err-intern-in-Body-clause-serves : goal.resume-returns-in_err-intern-in-Body-clause-serves
 resume-returns-in_err-intern-in-Body-clause-serves t c = serves_grown (entries_of c.args.version.now) c.args.self.now c.intern-in-Body.new.self c.args.self.now.nested c.in_err-intern-in-Body.ensures.keeps c.requires.serves
 
-pub resume-returns-in_ok-intern-in-Body-clause-keeps : goal.resume-returns-in_ok-intern-in-Body-clause-keeps
-resume-returns-in_ok-intern-in-Body-clause-keeps t c = c.in_ok-intern-in-Body.ensures.keeps
-
 pub resume-returns-in_ok-intern-in-Body-clause-serves : goal.resume-returns-in_ok-intern-in-Body-clause-serves
 resume-returns-in_ok-intern-in-Body-clause-serves t c = serves_grown (entries_of c.args.version.now) c.args.self.now c.intern-in-Body.new.self c.args.self.now.nested c.in_ok-intern-in-Body.ensures.keeps c.requires.serves
 
 pub resume-returns-in_err-intern-in-Annotated-clause-serves : goal.resume-returns-in_err-intern-in-Annotated-clause-serves
 resume-returns-in_err-intern-in-Annotated-clause-serves t c = serves_grown (entries_of c.args.version.now) c.args.self.now c.intern-in-Annotated.new.self c.args.self.now.nested c.in_err-intern-in-Annotated.ensures.keeps c.requires.serves
 
-pub resume-returns-in_ok-intern-in-Annotated-clause-keeps : goal.resume-returns-in_ok-intern-in-Annotated-clause-keeps
-resume-returns-in_ok-intern-in-Annotated-clause-keeps t c = c.in_ok-intern-in-Annotated.ensures.keeps
-
 pub resume-returns-in_ok-intern-in-Annotated-clause-serves : goal.resume-returns-in_ok-intern-in-Annotated-clause-serves
 resume-returns-in_ok-intern-in-Annotated-clause-serves t c = serves_grown (entries_of c.args.version.now) c.args.self.now c.intern-in-Annotated.new.self c.args.self.now.nested c.in_ok-intern-in-Annotated.ensures.keeps c.requires.serves
 
 pub resume-returns-in_err-intern-in-Codomain-clause-serves : goal.resume-returns-in_err-intern-in-Codomain-clause-serves
 resume-returns-in_err-intern-in-Codomain-clause-serves t c = serves_grown (entries_of c.args.version.now) c.args.self.now c.intern-in-Codomain.new.self c.args.self.now.nested c.in_err-intern-in-Codomain.ensures.keeps c.requires.serves
-
-pub resume-returns-in_ok-intern-in-Codomain-clause-keeps : goal.resume-returns-in_ok-intern-in-Codomain-clause-keeps
-resume-returns-in_ok-intern-in-Codomain-clause-keeps t c = c.in_ok-intern-in-Codomain.ensures.keeps
 
 pub resume-returns-in_ok-intern-in-Codomain-clause-serves : goal.resume-returns-in_ok-intern-in-Codomain-clause-serves
 resume-returns-in_ok-intern-in-Codomain-clause-serves t c = serves_grown (entries_of c.args.version.now) c.args.self.now c.intern-in-Codomain.new.self c.args.self.now.nested c.in_ok-intern-in-Codomain.ensures.keeps c.requires.serves
