@@ -1,15 +1,26 @@
 -- What the typing of a declaration gives, from what its parts gave.
-use Rattle.std.proofs.Common.{[], ◌≡◌, ℕ, Option, Some, None, ap}
+use Rattle.std.proofs.Common.{[], ◌≡◌, ◌∙◌, ℕ, Option, Some, None, ap, sym as flip}
 use Rattle.dk_model.specs.Trees.{Tree}
 use Rattle.dk_model.specs.Signatures.{PlainSignature}
 use Rattle.dk_model.specs.Typing.{Judged, answer, next, not_kind, inferred, sort_of}
 use Rattle.dk_model.specs.Verdicts.{body_checked, body_type, declaration_checked}
 use Rattle.dk_model.specs.declared.stop.TypeFault.{TypeFault}
+use Rattle.infer_check.specs.Contexts.{rule_types, bound_types}
 use Rattle.infer_check.specs.Given.{Fails}
+use Rattle.infer_check.specs.declared.walk.Walk.{Walk}
+use Rattle.infer_check.proofs.Contexts.{rule_types_empty, bound_types_empty}
 use Rattle.infer_check.proofs.Judging.{fails_next}
 
 goes : {A B : Type 0} (x : Judged A) (a : A) (n : ℕ) (g : A → ℕ → Judged B) → x ≡ answer a n → next x g ≡ g a n
 goes x a n g e = ap (λ y. next y g) e
+
+-- typing without variables in the context
+module _ {R T : Type 0} (denotes : R → T → Tree) (S : PlainSignature) (r : R) (w : Walk T) (t u U : Tree) (n m : ℕ) (v : w.context.rule_vars ≡ []) (g : w.context.bound ≡ []) (e : t ≡ u) (l : w.left ≡ n) where
+  pub sorted_alone : sort_of S (rule_types denotes r w.context) (bound_types denotes r w.context) t w.left ≡ answer U m → sort_of S [] [] u n ≡ answer U m
+  sorted_alone h = (λ i. sort_of S (flip (rule_types_empty denotes r w.context v) i) (flip (bound_types_empty denotes r w.context g) i) (flip e i) (flip l i)) ∙ h
+
+  pub inferred_alone : inferred S (rule_types denotes r w.context) (bound_types denotes r w.context) t w.left ≡ answer U m → inferred S [] [] u n ≡ answer U m
+  inferred_alone h = (λ i. inferred S (flip (rule_types_empty denotes r w.context v) i) (flip (bound_types_empty denotes r w.context g) i) (flip e i) (flip l i)) ∙ h
 
 module _ (S : PlainSignature) where
   pub declared_fails : (f : TypeFault) (spare : ℕ) (A : Tree) (b : Option Tree) (n : ℕ) → Fails f spare (sort_of S [] [] A n) → Fails f spare (declaration_checked S (Some A) b n)

@@ -3,3 +3,4 @@ pub mod Entering
 pub mod Shaping
 pub mod Verdicts
 pub mod Storing
+pub mod Querying

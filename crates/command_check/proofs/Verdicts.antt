@@ -3,7 +3,7 @@ use Rattle.std.proofs.Common.{◌≡◌, ◌∙◌, ℕ, List, Some, None, ap, s
 use Rattle.std.specs.Prelude.{Result, Ok, Err, IfOk, IfErr}
 use Rattle.dk_model.specs.Trees.{Tree}
 use Rattle.dk_model.specs.Signatures.{PlainRule, PlainSignature}
-use Rattle.dk_model.specs.Scoping.{PlainCommand, declare, rule_command}
+use Rattle.dk_model.specs.Scoping.{PlainCommand, declare, rule_command, query}
 use Rattle.dk_model.specs.Typing.{Judged, by_units, answer, refused, ended, next}
 use Rattle.dk_model.specs.Verdicts.{answer_of, body_type, inferred_type, rules_checked, verdict, verdict_of}
 use Rattle.dk_model.specs.Answering.{is_untyped, IsVerdictOrMemory}
@@ -86,3 +86,4 @@ no_type_inferred S (declare s None (Some b)) budget e = cc
 no_type_inferred S (declare s None None) budget e = refl
 no_type_inferred S (declare s (Some A) b) budget e = refl
 no_type_inferred S (rule_command rs) budget e = refl
+no_type_inferred S (query demand a) budget e = refl

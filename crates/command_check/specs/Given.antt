@@ -2,9 +2,9 @@
 use Rattle.std.specs.Prelude.{ℕ, ◌≡◌, Result, Ok, Err, List, map}
 use Rattle.dk_model.specs.Trees.{Tree}
 use Rattle.dk_model.specs.Signatures.{PlainRule, PlainSignature, plain_rule, rule_by}
-use Rattle.dk_model.specs.Scoping.{PlainCommand, declare, rule_command, plain_scoped_rule}
+use Rattle.dk_model.specs.Scoping.{PlainCommand, declare, rule_command, query, plain_scoped_rule}
 use Rattle.dk_model.specs.Shapes.{kept_rules, shapes_of}
-use Rattle.dk_model.specs.Typing.{answer}
+use Rattle.dk_model.specs.Typing.{Judged, answer}
 use Rattle.dk_model.specs.Verdicts.{body_type}
 use Rattle.dk_model.specs.declared.code.Code.{Code}
 use Rattle.dk_model.specs.declared.code.Verdict.{Verdict}
@@ -14,6 +14,8 @@ use Rattle.dk_model.specs.declared.signature.Rule.{Rule}
 use Rattle.dk_model.specs.declared.stop.TypeFault.{TypeFault}
 use Rattle.dk_model.specs.declared.stop.TypeFault.TheVariants.{Refused, Ended, NoMemory}
 use Rattle.dk_model.specs.declared.term.Term.{Term}
+use Rattle.infer_check.specs.Given.{Fails}
+use Rattle.signature_log.specs.Reducers.{Makes}
 use Rattle.shared_term.specs.Storage.{stored_term}
 use Rattle.shared_term.specs.declared.stored.Stored.{Stored}
 
@@ -47,6 +49,12 @@ GivesRules due (Err f) = FailsShapes due f
 abbrev pub IsEntryFault : PlainSignature → PlainCommand → TypeFault → Type 0
 IsEntryFault S (declare s A b) f = f ≡ NoMemory
 IsEntryFault S (rule_command rs) f = FailsShapes (shapes_of S rs) f
+IsEntryFault S (query demand a) f = f ≡ NoMemory
+
+-- this term, as the reducer's own, where the typing has an answer, with the units left
+abbrev pub GivesTerm : {R T A : Type 0} → (R → T → Type 0) → (R → T → Tree) → Judged A → Tree → R → Result T TypeFault → ℕ → Type 0
+GivesTerm {R} {T} {A} owns denotes due term r (Ok t) left = ((a : A) × (due ≡ answer a left)) × Makes owns denotes r term t
+GivesTerm owns denotes due term r (Err fault) left = Fails fault left due
 
 -- that a body has this type, within the budget
 abbrev pub HasBodyType : PlainSignature → Tree → ℕ → Tree → Type 0

@@ -3,7 +3,7 @@ ghost use Rattle.std.specs.Prelude.{◌≡◌, IfErr, IfOk};
 ghost use Rattle.dk_model.specs.Signatures.{maybe_by, maybe_tree};
 ghost use Rattle.dk_model.specs.Scoping.{plain_command};
 ghost use Rattle.dk_model.specs.Verdicts.{entry_of, entry_type_of, kept_body};
-ghost use Rattle.dk_model.specs.Answering.{is_untyped};
+ghost use Rattle.dk_model.specs.Answering.{is_answered, is_untyped};
 ghost use Rattle.shared_term.specs.Storage.{stored_term};
 ghost use Rattle.signature_log.specs.Versions.{entries_of, stored_entry};
 ghost use Rattle.command_check.specs.Given.{command_shapes, GivesRules, IsEntryFault};
@@ -22,6 +22,18 @@ pub fn is_untyped(command: &Scoped) -> bool
     match command {
         Scoped::Declare { typ, body, .. } => typ.is_none() && body.is_some(),
         Scoped::Rules(_) => false,
+        Scoped::Query { .. } => false,
+    }
+}
+
+/// Whether a command is a query that only asks, so that its answer is shown.
+pub fn is_answered(command: &Scoped) -> bool
+    ensures { result ≡ is_answered (plain_command command.now) }
+{
+    match command {
+        Scoped::Declare { .. } => false,
+        Scoped::Rules(_) => false,
+        Scoped::Query { demand, .. } => !*demand,
     }
 }
 
@@ -72,7 +84,7 @@ fn entry_rules(
 
 /// The entry of an accepted command, with the type that was inferred for a definition without a declared one.
 ///
-/// Each rule of a command has its shape, or the first code of the first rule that has one (E31, E32, E33, then E30).
+/// Each rule of a command has its shape, or the first code of the first rule that has one (E31, E32, E33, then E30). A query adds no rule.
 pub fn entry_of(
     alloc: Global,
     version: &Version,
@@ -91,5 +103,6 @@ pub fn entry_of(
             body: entry_body(alloc, *sort, body)?,
         }),
         Scoped::Rules(rules) => Ok(Entry::Rules(entry_rules(alloc, version, rules)?)),
+        Scoped::Query { .. } => Ok(Entry::Rules(Listed::new(alloc))),
     }
 }

@@ -9,12 +9,12 @@ ghost use Rattle.shared_term.specs.Storage.{stored_term};
 ghost use Rattle.signature_log.specs.Versions.{stored_entry};
 ghost use Rattle.command_check.specs.Commands.{stored_command, IsEntryOf};
 
-use dk_model::{Entry, Listed, NoMemory, Scoped, ScopedRule, SymSort, Term};
+use dk_model::{Asked, Entry, Listed, NoMemory, Scoped, ScopedRule, SymSort, Term};
 use shared_term::Stored;
 use std::alloc::Global;
 
 /// A scoped command that waits for its check: its type and its body each in one block, which one thread makes and another
-/// reads.
+/// reads. Rules and queries wait as they are.
 #[derive(Drop)]
 pub enum StoredCommand {
     Declare {
@@ -25,6 +25,11 @@ pub enum StoredCommand {
         body: Option<Stored>,
     },
     Rules(Listed<ScopedRule>),
+    Query {
+        /// Whether the command is accepted only where the answer is yes.
+        demand: bool,
+        asked: Asked,
+    },
 }
 
 /// Whether no abstraction of the term has an annotation. A function is asked behind its argument, so that the calls of a
@@ -113,5 +118,6 @@ pub fn store_command(
             Entry::Rules(_) => unreachable!(),
         },
         Scoped::Rules(rules) => Ok(StoredCommand::Rules(rules)),
+        Scoped::Query { demand, asked } => Ok(StoredCommand::Query { demand, asked }),
     }
 }

@@ -21,6 +21,7 @@ use crate::StoredCommand;
 use crate::declaration::{check_declaration, infer_body};
 use crate::entry::{entry_of, is_untyped};
 use crate::kept::{Boxed, InLists};
+use crate::queries::judge_query;
 use crate::shapes::shapes_of;
 use dk_model::{Entry, Listed, Rule, Scoped, ScopedRule, Term, TypeFault, Verdict};
 use rule_check::check_rule;
@@ -28,7 +29,8 @@ use shared_term::Stored;
 use signature_log::{Reducer, Version};
 use typing_model::laws::accepted_has_derivation;
 
-fn fault_verdict(fault: TypeFault) -> Verdict
+/// The verdict of a fault, which is never `Accepted`.
+pub(crate) fn fault_verdict(fault: TypeFault) -> Verdict
     ensures { result ≡ fault_verdict fault }
 {
     match fault {
@@ -98,6 +100,7 @@ fn judge<R: Reducer>(
             check_declaration::<R, Boxed>(r, version, typ, body, left)
         }
         Scoped::Rules(rules) => check_rules(r, version, rules, left),
+        Scoped::Query { demand, asked } => judge_query(r, version, *demand, asked, left),
     }
 }
 
@@ -121,6 +124,7 @@ fn judge_stored<R: Reducer>(
             check_declaration::<R, InLists>(r, version, typ, body, left)
         }
         StoredCommand::Rules(rules) => check_rules(r, version, rules, left),
+        StoredCommand::Query { demand, asked } => judge_query(r, version, *demand, asked, left),
     }
 }
 
@@ -237,6 +241,7 @@ pub fn infer_type<R: Reducer>(
             },
         },
         Scoped::Rules(_) => unreachable!(),
+        Scoped::Query { .. } => unreachable!(),
     }
 }
 

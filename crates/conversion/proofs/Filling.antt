@@ -10,7 +10,7 @@ use Rattle.conversion.specs.declared.putting.Filling.{Filling}
 use Rattle.conversion.specs.declared.putting.Filling.TheVariants.{Captures, Argument}
 use Rattle.conversion.specs.Machine.{behind, AreWithin, wound}
 use Rattle.conversion.specs.Fillings.{IsFilling, put_by}
-use Rattle.conversion.proofs.Winding.{behind_grown, wound_pushed}
+use Rattle.shared_term.proofs.Winding.{behind_grown, wound_pushed}
 
 pub filling_within : (old new : List Node) (filling : Filling) → Extends old new → IsFilling (length old) filling → IsFilling (length new) filling
 filling_within old new (Captures cs) e h = captures_within old new cs.now e h

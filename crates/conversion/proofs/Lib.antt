@@ -10,7 +10,6 @@ mod Pausing
 mod Evaluating
 mod Comparing
 mod Waiting
-mod References
 mod Pooling
 mod Treeing
 pub mod Raising

@@ -14,7 +14,7 @@ use Rattle.conversion.specs.declared.evaluate.Pause.{Pause}
 use Rattle.conversion.specs.Machine.{behind, wound}
 use Rattle.conversion.specs.Pausing.{IsSelection, continued, awaited, IsPause, ArePauses, Await}
 use Rattle.conversion.specs.Turning.{rewritten_by}
-use Rattle.conversion.proofs.Winding.{behind_grown, within_grown}
+use Rattle.shared_term.proofs.Winding.{behind_grown, within_grown}
 
 -- a larger pool
 

@@ -12,7 +12,8 @@ use Rattle.conversion.specs.declared.table.Table.{Table}
 use Rattle.conversion.specs.declared.state.Value.{Value}
 use Rattle.conversion.specs.Tables.{Remembers}
 use Rattle.conversion.specs.Reducers.{IsValue, AreValues}
-use Rattle.conversion.proofs.Winding.{wound_tree, extends_none}
+use Rattle.dk_model.proofs.Winding.{wound_pushed as wound_tree}
+use Rattle.conversion.proofs.Winding.{extends_none}
 use Rattle.conversion.proofs.Turning.{stands, symbol_selects, tree_stuck}
 use Rattle.conversion.proofs.Unfolding.{rule_stands}
 use Rattle.conversion.proofs.Serving.{value_made}

@@ -30,7 +30,7 @@ use Rattle.conversion.specs.Machine.{behind, AreWithin, wound, from_top}
 use Rattle.conversion.specs.Pausing.{selected, awaited, continued}
 use Rattle.conversion.specs.Reducers.{right_at, IsLoaded, IsValue}
 use Rattle.conversion.specs.Turning.{TurnsTo, rewritten_by, waiting_due}
-use Rattle.conversion.proofs.Winding.{behind_grown}
+use Rattle.shared_term.proofs.Winding.{behind_grown}
 use Rattle.conversion.proofs.Opening.{put_before}
 
 -- what is left of a selection, and what it makes of the weak head form

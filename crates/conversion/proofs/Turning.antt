@@ -27,7 +27,8 @@ use Rattle.conversion.specs.declared.turn.Turn.{Turn}
 use Rattle.conversion.specs.Machine.{behind, AreWithin, wound, from_top, unbound, is_application, is_stuck}
 use Rattle.conversion.specs.Pausing.{IsSelection, StartsOver, selected}
 use Rattle.conversion.specs.Turning.{TurnsTo, rule_due, rewritten_by}
-use Rattle.conversion.proofs.Winding.{wound_tree, behind_pushed, behind_grown}
+use Rattle.dk_model.proofs.Winding.{wound_pushed as wound_tree}
+use Rattle.shared_term.proofs.Winding.{behind_pushed, behind_grown}
 use Rattle.conversion.specs.Reducers.{unfolding_rule}
 use Rattle.conversion.proofs.Unfolding.{rule_unfolds, rule_stands}
 

@@ -7,7 +7,6 @@ pub mod Pausing
 pub mod Turning
 pub mod Pending
 pub mod Waiting
-pub mod Spine
 pub mod Owned
 pub mod Given
 pub mod Clauses

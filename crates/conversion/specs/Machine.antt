@@ -2,7 +2,8 @@
 use Rattle.std.specs.Prelude.{Bool, true, false}
 use Rattle.dk_model.specs.Trees.{Tree, symbol, apply, bare}
 use Rattle.dk_model.specs.Matrix.{Column}
-pub use Rattle.rule_match.specs.Columns.{behind, AreWithin, wound, from_top, is_application}
+pub use Rattle.shared_term.specs.Winding.{behind, AreWithin, wound, is_application}
+pub use Rattle.rule_match.specs.Columns.{from_top}
 
 -- a column of an argument, where no pattern binds a variable yet
 abbrev pub unbound : Tree → Column

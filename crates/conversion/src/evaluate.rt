@@ -9,14 +9,14 @@ ghost use Rattle.conversion.specs.Turning.{IsNext, next_rank, turn_rank};
 ghost use Rattle.conversion.specs.Clauses.{Evaluates, Turns};
 
 use crate::PoolReducer;
-use crate::machine::{unwind, wind};
+use crate::machine::wind;
 use crate::selection::Selection;
 use crate::state::Value;
 use crate::trees::Trees;
 use crate::turn::Turn;
 use dk_model::{NoMemory, Stop};
 use rule_match::{Answer, Matcher};
-use shared_term::TermId;
+use shared_term::{TermId, unwind};
 use signature_log::Version;
 
 /// A selection that waits for the value of a column.
@@ -81,7 +81,7 @@ impl PoolReducer {
 
     /// The same, of a term whose form isn't remembered.
     #[cycle(evaluation)]
-    #[tactic(auto, using(crate::proofs::Winding::extends_none, crate::proofs::Winding::extends_more, crate::proofs::Serving::loaded_grown, crate::proofs::Serving::heads_grown, crate::proofs::Serving::values_grown, crate::proofs::Serving::normals_grown, crate::proofs::Serving::answers_grown, crate::proofs::Winding::within_grown, crate::proofs::Pausing::pauses_grown, crate::proofs::Pausing::pauses_pushed, crate::proofs::Pausing::pauses_popped, crate::proofs::Pausing::popped_pause, crate::proofs::Pausing::awaits_none))]
+    #[tactic(auto, using(crate::proofs::Winding::extends_none, crate::proofs::Winding::extends_more, crate::proofs::Serving::loaded_grown, crate::proofs::Serving::heads_grown, crate::proofs::Serving::values_grown, crate::proofs::Serving::normals_grown, crate::proofs::Serving::answers_grown, shared_term::proofs::Winding::within_grown, crate::proofs::Pausing::pauses_grown, crate::proofs::Pausing::pauses_pushed, crate::proofs::Pausing::pauses_popped, crate::proofs::Pausing::popped_pause, crate::proofs::Pausing::awaits_none))]
     fn evaluated(
         &mut self,
         version: &Version,

@@ -1,17 +1,15 @@
 //! Bringing a boxed term into a pool.
-ghost use Rattle.std.specs.Prelude.{◌≡◌, ◌+◌, ◌≤◌, ◌<◌, length, IfOk};
-ghost use Rattle.dk_model.specs.Trees.{tree, apply};
+ghost use Rattle.std.specs.Prelude.{◌≡◌, ◌<◌, length, IfOk};
+ghost use Rattle.dk_model.specs.Trees.{tree};
 ghost use Rattle.shared_term.specs.Pools.{term, Extends};
-ghost use Rattle.conversion.specs.Machine.{wound};
-ghost use Rattle.conversion.specs.Spine.{behind_references, size, total_size};
 
-use dk_model::{NoMemory, NodeOf, Term};
+use dk_model::{NoMemory, NodeOf, Term, spine};
 use shared_term::{Pool, TermId};
 use std::alloc::Global;
 
 /// Brings a boxed term into a pool. It nests with the levels of the term, and not with the length
 /// of a long application.
-#[tactic(auto, using(crate::proofs::Winding::extends_none, crate::proofs::Winding::extends_more, crate::proofs::References::references_pushed, crate::proofs::References::total_pushed))]
+#[tactic(auto, using(crate::proofs::Winding::extends_none, crate::proofs::Winding::extends_more, dk_model::proofs::Winding::references_pushed, dk_model::proofs::Winding::references_total))]
 pub(crate) fn loaded(alloc: Global, pool: &mut Pool, it: &Term) -> Result<TermId, NoMemory>
     ensures there { IfOk result (λ t. t.0 < length pool.new) }
     ensures is { IfOk result (λ t. term pool.new t ≡ tree it.now) }
@@ -75,28 +73,5 @@ fn is_application(it: &Term) -> bool {
     match it {
         Term::App(..) => true,
         _ => false,
-    }
-}
-
-/// The head of `f a`, and its arguments on a stack, the first one on top.
-#[tactic(auto, using(crate::proofs::References::references_pushed, crate::proofs::References::total_pushed))]
-fn spine<'a>(alloc: Global, f: &'a Term, a: &'a Term) -> Result<(&'a Term, Vec<&'a Term>), NoMemory>
-    ensures whole { IfOk result (λ s. wound (tree s.0.now) (behind_references s.1.items)
-        ≡ apply (tree f.now) (tree a.now)) }
-    ensures smaller { IfOk result (λ s. size (tree s.0.now) + total_size (behind_references s.1.items)
-        ≤ size (tree f.now) + size (tree a.now)) }
-{
-    let mut arguments = Vec::new(alloc);
-    arguments.push(a)?;
-    let mut head = f;
-    loop {
-        match head {
-            Term::App(g, b) => {
-                let b: &'a Term = b;
-                arguments.push(b)?;
-                head = g;
-            }
-            other => return Ok((other, arguments)),
-        }
     }
 }

@@ -31,7 +31,7 @@ fn filled(pool: &mut Pool, whole: TermId, filling: Filling<'_>) -> Result<TermId
 }
 
 /// The head of the term with this in the place of its variables; its arguments go onto the stack, the first one on top.
-#[tactic(auto, using(crate::proofs::Filling::put_pushed, crate::proofs::Filling::put_last, crate::proofs::Filling::filling_within, crate::proofs::Winding::within_grown, crate::proofs::Winding::within_pushed, crate::proofs::Winding::extends_more, crate::proofs::Winding::extends_none))]
+#[tactic(auto, using(crate::proofs::Filling::put_pushed, crate::proofs::Filling::put_last, crate::proofs::Filling::filling_within, shared_term::proofs::Winding::within_grown, shared_term::proofs::Winding::within_pushed, crate::proofs::Winding::extends_more, crate::proofs::Winding::extends_none))]
 pub(crate) fn put(
     pool: &mut Pool,
     whole: TermId,

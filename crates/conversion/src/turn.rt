@@ -46,7 +46,7 @@ pub(crate) enum Turn<'v> {
 
 impl PoolReducer {
     /// The turn of a head before the arguments of a stack. It takes a unit.
-    #[tactic(auto, using(crate::proofs::Winding::extends_none, crate::proofs::Winding::extends_more, crate::proofs::Serving::loaded_grown, crate::proofs::Serving::heads_grown, crate::proofs::Serving::values_grown, crate::proofs::Serving::normals_grown, crate::proofs::Serving::answers_grown, crate::proofs::Winding::within_grown, crate::proofs::Winding::within_popped, crate::proofs::Winding::popped_within, crate::proofs::Turning::turn_out, crate::proofs::Turning::turn_contracts, crate::proofs::Turning::turn_bare, crate::proofs::Turning::turn_stuck))]
+    #[tactic(auto, using(crate::proofs::Winding::extends_none, crate::proofs::Winding::extends_more, crate::proofs::Serving::loaded_grown, crate::proofs::Serving::heads_grown, crate::proofs::Serving::values_grown, crate::proofs::Serving::normals_grown, crate::proofs::Serving::answers_grown, shared_term::proofs::Winding::within_grown, crate::proofs::Winding::within_popped, crate::proofs::Winding::popped_within, crate::proofs::Turning::turn_out, crate::proofs::Turning::turn_contracts, crate::proofs::Turning::turn_bare, crate::proofs::Turning::turn_stuck))]
     pub(crate) fn turn_head<'v>(
         &mut self,
         version: &'v Version,
@@ -167,7 +167,7 @@ impl PoolReducer {
     /// A selection with its answer, up to what it asks for next, over the arguments of a stack: the turn of its symbol
     /// where a rule is taken or none.
     #[cycle(evaluation)]
-    #[tactic(auto, using(crate::proofs::Winding::extends_none, crate::proofs::Winding::extends_more, crate::proofs::Serving::loaded_grown, crate::proofs::Serving::heads_grown, crate::proofs::Serving::values_grown, crate::proofs::Serving::normals_grown, crate::proofs::Serving::answers_grown, crate::proofs::Winding::within_grown))]
+    #[tactic(auto, using(crate::proofs::Winding::extends_none, crate::proofs::Winding::extends_more, crate::proofs::Serving::loaded_grown, crate::proofs::Serving::heads_grown, crate::proofs::Serving::values_grown, crate::proofs::Serving::normals_grown, crate::proofs::Serving::answers_grown, shared_term::proofs::Winding::within_grown))]
     pub(crate) fn turn_selection<'v>(
         &mut self,
         version: &'v Version,
@@ -275,7 +275,7 @@ impl PoolReducer {
     }
 
     /// The right side of a rule that was taken, in the place of the arguments of its patterns.
-    #[tactic(auto, using(crate::proofs::Winding::extends_none, crate::proofs::Winding::extends_more, crate::proofs::Serving::loaded_grown, crate::proofs::Serving::heads_grown, crate::proofs::Serving::values_grown, crate::proofs::Serving::normals_grown, crate::proofs::Serving::answers_grown, crate::proofs::Winding::within_grown, crate::proofs::Winding::within_taken, rule_match::proofs::Growing::captures_within))]
+    #[tactic(auto, using(crate::proofs::Winding::extends_none, crate::proofs::Winding::extends_more, crate::proofs::Serving::loaded_grown, crate::proofs::Serving::heads_grown, crate::proofs::Serving::values_grown, crate::proofs::Serving::normals_grown, crate::proofs::Serving::answers_grown, shared_term::proofs::Winding::within_grown, crate::proofs::Winding::within_taken, rule_match::proofs::Growing::captures_within))]
     fn put_right(
         &mut self,
         version: &Version,

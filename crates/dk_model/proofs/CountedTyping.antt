@@ -5,11 +5,11 @@ use Rattle.std.proofs.Common.{List, [], ◌∷◌, ◌++◌, ℕ, zero, suc, ◌
 use Rattle.std.proofs.lemmas.Bool.Decides.{nat_tests}
 use Rattle.dk_model.specs.Trees.{Tree}
 use Rattle.dk_model.specs.Signatures.{PlainSignature}
-use Rattle.dk_model.specs.Scoping.{PlainCommand}
+use Rattle.dk_model.specs.Scoping.{PlainAsked, typed, alike, type_of, value_of, PlainFound, no, PlainCommand, query}
 use Rattle.dk_model.specs.Units.{Units}
 use Rattle.dk_model.specs.TypingOver.{Evaluator, answer, refused, ended, after, next, agreed, as_product, inferred, checked}
 use Rattle.dk_model.specs.RuleTypingOver.{convertible}
-use Rattle.dk_model.specs.CommandTypingOver.{command_checked}
+use Rattle.dk_model.specs.CommandTypingOver.{or_no, found_by, command_checked}
 use Rattle.dk_model.specs.Typing.{Judged, by_units}
 use Rattle.dk_model.specs.Verdicts.{verdict, verdict_of}
 use Rattle.dk_model.specs.Bindings.{Bindings, under, bound}
@@ -21,7 +21,7 @@ use Rattle.dk_model.specs.declared.code.Verdict.TheVariants.{Ended}
 use Rattle.dk_model.proofs.Counting as evaluation
 use Rattle.dk_model.proofs.Fuel as fuel
 use Rattle.dk_model.proofs.Solving.{solved_alike}
-use Rattle.dk_model.proofs.RelatedTyping.{IsRespected, as_product_related, inferred_related, checked_related, command_related}
+use Rattle.dk_model.proofs.RelatedTyping.{IsRespected, as_product_related, inferred_related, checked_related, asked_related, command_related}
 
 -- the same with `d` units fewer left, or the end where there are fewer
 abbrev pub lowered : {A : Type 0} → ℕ → Judged A → Judged A
@@ -130,6 +130,35 @@ convertible_counts : (b : Bool) → Counts (convertible b)
 convertible_counts true = counts_answer tt
 convertible_counts false = counts_refused _
 
+-- ---- queries: the answer no leaves as many units as the refusal
+
+or_no_lowered : (d : ℕ) (y : Judged PlainFound) → or_no (lowered d y) ≡ lowered d (or_no y)
+or_no_lowered d ended = refl
+or_no_lowered d (answer f n) = below_or_from n d (or_no (lowered d (answer f n)) ≡ lowered d (answer f n))
+    (λ l. ap or_no (too_few n d ended (answer f (n - d)) l) ∙ flip (too_few n d ended (answer f (n - d)) l))
+    (λ l. ap or_no (enough n d ended (answer f (n - d)) l) ∙ flip (enough n d ended (answer f (n - d)) l))
+or_no_lowered d (refused c n) = below_or_from n d (or_no (lowered d (refused c n)) ≡ lowered d (answer no n))
+    (λ l. ap or_no (too_few n d ended (refused c (n - d)) l) ∙ flip (too_few n d ended (answer no (n - d)) l))
+    (λ l. ap or_no (enough n d ended (refused c (n - d)) l) ∙ flip (enough n d ended (answer no (n - d)) l))
+
+or_no_falls : (b : ℕ) (y : Judged PlainFound) → Within b y → Within b (or_no y)
+or_no_falls b ended w = tt
+or_no_falls b (answer f n) w = w
+or_no_falls b (refused c n) w = w
+
+or_no_counts : {F : ℕ → Judged PlainFound} → Counts F → Counts (λ n. or_no (F n))
+or_no_counts {F} h = record {
+  lowers = λ n d. ap or_no (h.lowers n d) ∙ or_no_lowered d (F (n + d));
+  falls = λ n. or_no_falls (suc n) (F n) (h.falls n);
+}
+
+found_counts : {F : ℕ → Judged PlainFound} (demand : Bool) (a : PlainAsked) → Counts F → Counts (λ n. found_by demand a (F n))
+found_counts true a h = h
+found_counts false (typed t A) h = or_no_counts h
+found_counts false (alike t u) h = or_no_counts h
+found_counts false (type_of t) h = h
+found_counts false (value_of t) h = h
+
 -- ---- solving
 
 abbrev SolverCounts : Solver → Type 0
@@ -184,7 +213,6 @@ module _ (E : Evaluator ℕ) (K : EvaluatorCounts E) where
     normal = λ B t h k y. counts_after (K.normal t) y;
     same = λ t u. counts_after (K.same t u) agreed_counts;
     convertible = λ t u. counts_after (K.same t u) convertible_counts;
-    solve = K.solve;
   }
 
   pub as_product_counts : (c : Code) (T : Tree) → Counts (as_product E c T)
@@ -196,8 +224,11 @@ module _ (E : Evaluator ℕ) (K : EvaluatorCounts E) where
   pub checked_counts : (S : PlainSignature) (V G : List Tree) (t T : Tree) → Counts (checked E S V G t T)
   checked_counts S V G t T = checked_related OfFirst E E typing_counts S V G t T
 
+  query_counts : (S : PlainSignature) (demand : Bool) (a : PlainAsked) → Counts (command_checked E S (query demand a))
+  query_counts S demand a = counts_next (found_counts demand a (asked_related OfFirst E E typing_counts S a)) (λ f. counts_answer tt)
+
   pub command_counts : (S : PlainSignature) (c : PlainCommand) → Counts (command_checked E S c)
-  command_counts S c = command_related OfFirst E E typing_counts S c
+  command_counts S c = command_related OfFirst E E typing_counts K.solve S (query_counts S) c
 
 -- evaluation with units
 pub units_count : (S : PlainSignature) → EvaluatorCounts (by_units S)

@@ -8,12 +8,12 @@ use Rattle.dk_model.specs.Substitution.{shift, substitute}
 use Rattle.dk_model.specs.Erasure.{erased}
 use Rattle.dk_model.specs.Signatures.{Pattern, Patterns, no_patterns, more_patterns, rule_variable_pattern, wildcard_pattern, guard_pattern, symbol_pattern, variable_pattern, abstraction_pattern, PlainRule, PlainSignature}
 use Rattle.dk_model.specs.Shapes.{shapes_of}
-use Rattle.dk_model.specs.Scoping.{PlainCommand, declare, rule_command}
+use Rattle.dk_model.specs.Scoping.{PlainAsked, typed, alike, type_of, value_of, PlainFound, yes, of_type, value, PlainCommand, declare, rule_command, query}
 use Rattle.dk_model.specs.Captures.{mentions_others, renamed}
 use Rattle.dk_model.specs.Bindings.{Bindings, under}
 use Rattle.dk_model.specs.TypingOver.{Evaluator, JudgedIn, answer, refused, ended, after, next, symbol_type, variable_type, rule_variable_type, parts_of_product, a_sort, the_star, agreed, not_kind, as_product, as_sort, as_star, as_same, against, application_type, product_type, abstraction_type, annotated_fits, inferred, checked, sort_of}
 use Rattle.dk_model.specs.RuleTypingOver.{Guard, Found, Walked, Posed, found_type, outermost_first, occurrence, with_type, with_wildcard, with_bindings, guard_walked, convertible, allowed, as_convertible, confined, bound_type, first_type, first_typed, later_type, rule_variable_walked, wildcard_walked, as_expected, walked, spine_walked, types_under, notes_agree, guards_fit, sides_fit, left_walked, rule_checked, rules_typed}
-use Rattle.dk_model.specs.CommandTypingOver.{body_checked, body_type, rules_checked, command_checked}
+use Rattle.dk_model.specs.CommandTypingOver.{body_checked, body_type, declaration_checked, rules_checked, compared, evaluated, asked_found, query_found, command_checked}
 use Rattle.dk_model.specs.declared.code.Code.{Code}
 use Rattle.dk_model.specs.declared.code.Code.TheVariants.{E20, E22, E23, E24, E25, E34, E35}
 
@@ -29,7 +29,6 @@ pub record IsRespected {X Y : Type 0} (Q : (A : Type 0) → (X → JudgedIn X A)
       → Q B (λ n. after (E.normal n t) h) (λ n. after (E'.normal n t) k)
   pub same : (t u : Tree) → Q (Unit {0}) (λ n. after (E.same n t u) agreed) (λ n. after (E'.same n t u) agreed)
   pub convertible : (t u : Tree) → Q (Unit {0}) (λ n. after (E.same n t u) convertible) (λ n. after (E'.same n t u) convertible)
-  pub solve : (s : Bindings) (t u : Tree) → Q Bindings (λ n. E.solve n s t u) (λ n. E'.solve n s t u)
 
 module _ {X Y : Type 0} (Q : (A : Type 0) → (X → JudgedIn X A) → (Y → JudgedIn Y A) → Type 0) (E : Evaluator X) (E' : Evaluator Y) (R : IsRespected Q E E') where
   answer_related : {A : Type 0} (a : A) → Q A (λ n. answer a n) (λ n. answer a n)
@@ -146,86 +145,9 @@ module _ {X Y : Type 0} (Q : (A : Type 0) → (X → JudgedIn X A) → (Y → Ju
       checked_related G (variable k) T = against_related T (answer_related (variable_type G k))
       checked_related G (rule_variable k) T = against_related T (answer_related (shift 0 (length G) (rule_variable_type V k)))
 
-  -- ---- rules
-
-  as_convertible_related : (T U : Tree) → Q (Unit {0}) (as_convertible E T U) (as_convertible E' T U)
-  as_convertible_related T U = R.convertible T U
-
-  confined_related : (d : ℕ) (xs : List ℕ) (T : Tree) → Q Tree (confined E d xs T) (confined E' d xs T)
-  confined_related d xs T = if_related (mentions_others 0 d xs T) (R.normal _ T _ _ (allowed_related d xs)) (answer_related T)
-
-  bound_type_related : (G : List Tree) (xs : List ℕ) (T : Tree) → Q Tree (bound_type E G xs T) (bound_type E' G xs T)
-  bound_type_related G xs T = next_related (confined_related (length G) xs T) (λ U. answer_related (renamed 0 (length G) xs U))
-
-  first_type_related : (G : List Tree) (before xs : List ℕ) (A : Tree) → Q Tree (first_type E G before xs A) (first_type E' G before xs A)
-  first_type_related G before [] A = bound_type_related G before A
-  first_type_related G before (x ∷ xs) A = next_related (bound_type_related G before (variable_type G x)) (λ D.
-      next_related (first_type_related G (before ++ (x ∷ [])) xs A) (λ B. answer_related (product D B)))
-
-  solve_related : (s : Bindings) (t u : Tree) → Q Bindings (λ n. E.solve n s t u) (λ n. E'.solve n s t u)
-  solve_related s t u = R.solve s t u
-
-  later_type_related : (G : List Tree) (xs : List ℕ) (F : Tree) (s : Bindings) → Q Posed (later_type E G xs F s) (later_type E' G xs F s)
-  later_type_related G [] F s = answer_related (record { typ = F; bindings = s })
-  later_type_related G (x ∷ xs) F s = next_related (as_product_related E34 (under s F)) (λ p.
-      next_related (solve_related s (variable_type G x) p.0) (λ r. later_type_related G xs (substitute 0 (variable x) p.1) r))
-
-  first_typed_related : (s : Bindings) (G : List Tree) (xs : List ℕ) (A : Tree) → Q Tree (first_typed E s G xs A) (first_typed E' s G xs A)
-  first_typed_related s G xs A = first_type_related (map (under s) G) [] xs (under s A)
-
-  rule_variable_related : (G : List Tree) (k : ℕ) (xs : List ℕ) (o : Option Tree) (A : Tree) (w : Found) → Q Walked (rule_variable_walked E G k xs o A w) (rule_variable_walked E' G k xs o A w)
-  rule_variable_related G k xs None A w = next_related (first_typed_related w.bindings G xs A) (λ T. answer_related (record { term = occurrence k xs; typ = A; found = with_type w k T }))
-  rule_variable_related G k xs (Some F) A w = next_related (later_type_related G xs (shift 0 (length G) F) w.bindings) (λ T.
-      next_related (solve_related T.bindings T.typ A) (λ s. answer_related (record { term = occurrence k xs; typ = A; found = with_bindings w s })))
-
-  wildcard_related : (G : List Tree) (A : Tree) (w : Found) → Q Walked (wildcard_walked E G A w) (wildcard_walked E' G A w)
-  wildcard_related G A w = next_related (first_typed_related w.bindings G (outermost_first (length G)) A) (λ T.
-      answer_related (record { term = occurrence (length w.types) (outermost_first (length G)); typ = A; found = with_wildcard w T }))
-
-  as_expected_related : (A : Tree) (w : Walked) → Q Walked (as_expected E A w) (as_expected E' A w)
-  as_expected_related A w = next_related (solve_related w.found.bindings w.typ A) (λ s. answer_related (record { term = w.term; typ = A; found = with_bindings w.found s }))
-
-  notes_related : (s : Bindings) (notes types : List (Option Tree)) → Q (Unit {0}) (notes_agree E s notes types) (notes_agree E' s notes types)
-  notes_related s [] types = answer_related tt
-  notes_related s (None ∷ notes) [] = answer_related tt
-  notes_related s (Some b ∷ notes) [] = answer_related tt
-  notes_related s (None ∷ notes) (o ∷ types) = notes_related s notes types
-  notes_related s (Some b ∷ notes) (None ∷ types) = notes_related s notes types
-  notes_related s (Some b ∷ notes) (Some U ∷ types) = next_related (as_convertible_related (under s (erased b)) (under s U)) (λ u. notes_related s notes types)
+  -- ---- declarations and queries
 
   module _ (S : PlainSignature) where
-    mutual
-      walked_related : (G : List Tree) (p : Pattern) (A : Tree) (w : Found) → Q Walked (walked E S G p A w) (walked E' S G p A w)
-      walked_related G (rule_variable_pattern k xs) A w = rule_variable_related G k xs (found_type w.types k) A w
-      walked_related G wildcard_pattern A w = wildcard_related G A w
-      walked_related G (guard_pattern t) A w = answer_related (guard_walked G t A w)
-      walked_related G (symbol_pattern k ps) A w = next_related (spine_related G (symbol k) (symbol_type S k) ps w) (as_expected_related A)
-      walked_related G (variable_pattern k ps) A w = next_related (spine_related G (variable k) (variable_type G k) ps w) (as_expected_related A)
-      walked_related G (abstraction_pattern p) A w = next_related (as_product_related E34 (under w.bindings A)) (λ q.
-          next_related (walked_related (q.0 ∷ G) p q.1 w) (λ b. answer_related (record { term = bare b.term; typ = A; found = b.found })))
-
-      spine_related : (G : List Tree) (t F : Tree) (ps : Patterns) (w : Found) → Q Walked (spine_walked E S G t F ps w) (spine_walked E' S G t F ps w)
-      spine_related G t F no_patterns w = answer_related (record { term = t; typ = F; found = w })
-      spine_related G t F (more_patterns p ps) w = next_related (as_product_related E34 (under w.bindings F)) (λ q.
-          next_related (walked_related G p q.0 w) (λ b. spine_related G (apply t b.term) (substitute 0 b.term q.1) ps b.found))
-
-    guards_related : (s : Bindings) (V : List Tree) (gs : List Guard) → Q (Unit {0}) (guards_fit E S s V gs) (guards_fit E' S s V gs)
-    guards_related s V [] = answer_related tt
-    guards_related s V (g ∷ gs) = next_related (checked_related S V (map (under s) g.context) (under s g.term) (under s g.typ)) (λ u. guards_related s V gs)
-
-    sides_related : (notes : List (Option Tree)) (right : Tree) (w : Walked) → Q (Unit {0}) (sides_fit E S notes right w) (sides_fit E' S notes right w)
-    sides_related notes right w = let s : Bindings = w.found.bindings in let V : List Tree = types_under s w.found.types in next_related (notes_related s notes w.found.types) (λ u.
-        next_related (guards_related s V w.found.guards) (λ v. checked_related S V [] (under s right) (under s w.typ)))
-
-    rule_related : (r : PlainRule) → Q (Unit {0}) (rule_checked E S r) (rule_checked E' S r)
-    rule_related r = next_related (spine_related [] _ _ _ _) (sides_related r.notes r.right)
-
-    rules_related : (rs : List PlainRule) → Q (Unit {0}) (rules_typed E S rs) (rules_typed E' S rs)
-    rules_related [] = answer_related tt
-    rules_related (r ∷ rs) = next_related (rule_related r) (λ u. rules_related rs)
-
-    -- ---- commands
-
     sort_of_related : (A : Tree) → Q Tree (sort_of E S [] [] A) (sort_of E' S [] [] A)
     sort_of_related A = next_related (inferred_related S [] [] A) as_sort_related
 
@@ -236,12 +158,109 @@ module _ {X Y : Type 0} (Q : (A : Type 0) → (X → JudgedIn X A) → (Y → Ju
     body_type_related : (b : Tree) → Q Tree (body_type E S b) (body_type E' S b)
     body_type_related b = next_related (inferred_related S [] [] b) not_kind_related
 
-    rules_checked_related : (rs : Result (List PlainRule) Code) → Q (Unit {0}) (rules_checked E S rs) (rules_checked E' S rs)
-    rules_checked_related (Ok rs) = rules_related rs
-    rules_checked_related (Err c) = refused_related c
+    declaration_related : (A b : Option Tree) → Q (Unit {0}) (declaration_checked E S A b) (declaration_checked E' S A b)
+    declaration_related (Some A) b = next_related (sort_of_related A) (λ t. body_checked_related A b)
+    declaration_related None (Some b) = next_related (body_type_related b) (λ T. answer_related tt)
+    declaration_related None None = answer_related tt
 
-    pub command_related : (c : PlainCommand) → Q (Unit {0}) (command_checked E S c) (command_checked E' S c)
-    command_related (declare s (Some A) b) = next_related (sort_of_related A) (λ t. body_checked_related A b)
-    command_related (declare s None (Some b)) = next_related (body_type_related b) (λ T. answer_related tt)
-    command_related (declare s None None) = answer_related tt
-    command_related (rule_command rs) = rules_checked_related (shapes_of S rs)
+    compared_related : (t u : Tree) → Q (Unit {0}) (compared E S t u) (compared E' S t u)
+    compared_related t u = next_related (inferred_related S [] [] t) (λ T. next_related (inferred_related S [] [] u) (λ U. as_same_related (erased t) (erased u)))
+
+    evaluated_related : (t : Tree) → Q Tree (evaluated E S t) (evaluated E' S t)
+    evaluated_related t = next_related (inferred_related S [] [] t) (λ T. R.normal _ (erased t) _ _ answer_related)
+
+    -- what the check of a query finds, before a refusal is made an answer
+    pub asked_related : (a : PlainAsked) → Q PlainFound (asked_found E S a) (asked_found E' S a)
+    asked_related (typed t A) = next_related (declaration_related (Some A) (Some t)) (λ v. answer_related yes)
+    asked_related (alike t u) = next_related (compared_related t u) (λ v. answer_related yes)
+    asked_related (type_of t) = next_related (inferred_related S [] [] t) (λ T. answer_related (of_type T))
+    asked_related (value_of t) = next_related (evaluated_related t) (λ v. answer_related (value v))
+
+  -- ---- rules, where equations are solved too
+
+  module _ (solve_related : (s : Bindings) (t u : Tree) → Q Bindings (λ n. E.solve n s t u) (λ n. E'.solve n s t u)) where
+    as_convertible_related : (T U : Tree) → Q (Unit {0}) (as_convertible E T U) (as_convertible E' T U)
+    as_convertible_related T U = R.convertible T U
+
+    confined_related : (d : ℕ) (xs : List ℕ) (T : Tree) → Q Tree (confined E d xs T) (confined E' d xs T)
+    confined_related d xs T = if_related (mentions_others 0 d xs T) (R.normal _ T _ _ (allowed_related d xs)) (answer_related T)
+
+    bound_type_related : (G : List Tree) (xs : List ℕ) (T : Tree) → Q Tree (bound_type E G xs T) (bound_type E' G xs T)
+    bound_type_related G xs T = next_related (confined_related (length G) xs T) (λ U. answer_related (renamed 0 (length G) xs U))
+
+    first_type_related : (G : List Tree) (before xs : List ℕ) (A : Tree) → Q Tree (first_type E G before xs A) (first_type E' G before xs A)
+    first_type_related G before [] A = bound_type_related G before A
+    first_type_related G before (x ∷ xs) A = next_related (bound_type_related G before (variable_type G x)) (λ D.
+        next_related (first_type_related G (before ++ (x ∷ [])) xs A) (λ B. answer_related (product D B)))
+
+    later_type_related : (G : List Tree) (xs : List ℕ) (F : Tree) (s : Bindings) → Q Posed (later_type E G xs F s) (later_type E' G xs F s)
+    later_type_related G [] F s = answer_related (record { typ = F; bindings = s })
+    later_type_related G (x ∷ xs) F s = next_related (as_product_related E34 (under s F)) (λ p.
+        next_related (solve_related s (variable_type G x) p.0) (λ r. later_type_related G xs (substitute 0 (variable x) p.1) r))
+
+    first_typed_related : (s : Bindings) (G : List Tree) (xs : List ℕ) (A : Tree) → Q Tree (first_typed E s G xs A) (first_typed E' s G xs A)
+    first_typed_related s G xs A = first_type_related (map (under s) G) [] xs (under s A)
+
+    rule_variable_related : (G : List Tree) (k : ℕ) (xs : List ℕ) (o : Option Tree) (A : Tree) (w : Found) → Q Walked (rule_variable_walked E G k xs o A w) (rule_variable_walked E' G k xs o A w)
+    rule_variable_related G k xs None A w = next_related (first_typed_related w.bindings G xs A) (λ T. answer_related (record { term = occurrence k xs; typ = A; found = with_type w k T }))
+    rule_variable_related G k xs (Some F) A w = next_related (later_type_related G xs (shift 0 (length G) F) w.bindings) (λ T.
+        next_related (solve_related T.bindings T.typ A) (λ s. answer_related (record { term = occurrence k xs; typ = A; found = with_bindings w s })))
+
+    wildcard_related : (G : List Tree) (A : Tree) (w : Found) → Q Walked (wildcard_walked E G A w) (wildcard_walked E' G A w)
+    wildcard_related G A w = next_related (first_typed_related w.bindings G (outermost_first (length G)) A) (λ T.
+        answer_related (record { term = occurrence (length w.types) (outermost_first (length G)); typ = A; found = with_wildcard w T }))
+
+    as_expected_related : (A : Tree) (w : Walked) → Q Walked (as_expected E A w) (as_expected E' A w)
+    as_expected_related A w = next_related (solve_related w.found.bindings w.typ A) (λ s. answer_related (record { term = w.term; typ = A; found = with_bindings w.found s }))
+
+    notes_related : (s : Bindings) (notes types : List (Option Tree)) → Q (Unit {0}) (notes_agree E s notes types) (notes_agree E' s notes types)
+    notes_related s [] types = answer_related tt
+    notes_related s (None ∷ notes) [] = answer_related tt
+    notes_related s (Some b ∷ notes) [] = answer_related tt
+    notes_related s (None ∷ notes) (o ∷ types) = notes_related s notes types
+    notes_related s (Some b ∷ notes) (None ∷ types) = notes_related s notes types
+    notes_related s (Some b ∷ notes) (Some U ∷ types) = next_related (as_convertible_related (under s (erased b)) (under s U)) (λ u. notes_related s notes types)
+
+    module _ (S : PlainSignature) where
+      mutual
+        walked_related : (G : List Tree) (p : Pattern) (A : Tree) (w : Found) → Q Walked (walked E S G p A w) (walked E' S G p A w)
+        walked_related G (rule_variable_pattern k xs) A w = rule_variable_related G k xs (found_type w.types k) A w
+        walked_related G wildcard_pattern A w = wildcard_related G A w
+        walked_related G (guard_pattern t) A w = answer_related (guard_walked G t A w)
+        walked_related G (symbol_pattern k ps) A w = next_related (spine_related G (symbol k) (symbol_type S k) ps w) (as_expected_related A)
+        walked_related G (variable_pattern k ps) A w = next_related (spine_related G (variable k) (variable_type G k) ps w) (as_expected_related A)
+        walked_related G (abstraction_pattern p) A w = next_related (as_product_related E34 (under w.bindings A)) (λ q.
+            next_related (walked_related (q.0 ∷ G) p q.1 w) (λ b. answer_related (record { term = bare b.term; typ = A; found = b.found })))
+
+        spine_related : (G : List Tree) (t F : Tree) (ps : Patterns) (w : Found) → Q Walked (spine_walked E S G t F ps w) (spine_walked E' S G t F ps w)
+        spine_related G t F no_patterns w = answer_related (record { term = t; typ = F; found = w })
+        spine_related G t F (more_patterns p ps) w = next_related (as_product_related E34 (under w.bindings F)) (λ q.
+            next_related (walked_related G p q.0 w) (λ b. spine_related G (apply t b.term) (substitute 0 b.term q.1) ps b.found))
+
+      guards_related : (s : Bindings) (V : List Tree) (gs : List Guard) → Q (Unit {0}) (guards_fit E S s V gs) (guards_fit E' S s V gs)
+      guards_related s V [] = answer_related tt
+      guards_related s V (g ∷ gs) = next_related (checked_related S V (map (under s) g.context) (under s g.term) (under s g.typ)) (λ u. guards_related s V gs)
+
+      sides_related : (notes : List (Option Tree)) (right : Tree) (w : Walked) → Q (Unit {0}) (sides_fit E S notes right w) (sides_fit E' S notes right w)
+      sides_related notes right w = let s : Bindings = w.found.bindings in let V : List Tree = types_under s w.found.types in next_related (notes_related s notes w.found.types) (λ u.
+          next_related (guards_related s V w.found.guards) (λ v. checked_related S V [] (under s right) (under s w.typ)))
+
+      rule_related : (r : PlainRule) → Q (Unit {0}) (rule_checked E S r) (rule_checked E' S r)
+      rule_related r = next_related (spine_related [] _ _ _ _) (sides_related r.notes r.right)
+
+      rules_related : (rs : List PlainRule) → Q (Unit {0}) (rules_typed E S rs) (rules_typed E' S rs)
+      rules_related [] = answer_related tt
+      rules_related (r ∷ rs) = next_related (rule_related r) (λ u. rules_related rs)
+
+      -- ---- commands
+
+      rules_checked_related : (rs : Result (List PlainRule) Code) → Q (Unit {0}) (rules_checked E S rs) (rules_checked E' S rs)
+      rules_checked_related (Ok rs) = rules_related rs
+      rules_checked_related (Err c) = refused_related c
+
+      -- queries need not be related as the others are: a refusal may be the answer no
+      pub command_related : ((demand : Bool) (a : PlainAsked) → Q (Unit {0}) (command_checked E S (query demand a)) (command_checked E' S (query demand a)))
+          → (c : PlainCommand) → Q (Unit {0}) (command_checked E S c) (command_checked E' S c)
+      command_related asked (declare s A b) = declaration_related S A b
+      command_related asked (rule_command rs) = rules_checked_related (shapes_of S rs)
+      command_related asked (query demand a) = asked demand a

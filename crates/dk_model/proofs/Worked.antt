@@ -13,7 +13,7 @@ use Rattle.dk_model.specs.declared.code.Code.TheVariants.{E20, E21, E22, E23, E2
 -- nat : Type. z : nat. s : nat -> nat. def plus : nat -> nat -> nat.
 -- [n] plus z n --> n  [m, n] plus (s m) n --> s (plus m n).
 -- eq : nat -> nat -> Type. refl : n : nat -> eq n n.
-abbrev numbers : PlainSignature
+abbrev pub numbers : PlainSignature
 numbers = symbol_entry Static star None ∷ symbol_entry Static (symbol 0) None ∷ symbol_entry Static (product (symbol 0) (symbol 0)) None
     ∷ symbol_entry Definable (product (symbol 0) (product (symbol 0) (symbol 0))) None
     ∷ rules_entry (record { head = 3; vars = 1; pats = symbol_pattern 1 no_patterns ∷ rule_variable_pattern 0 [] ∷ []; notes = None ∷ []; right = rule_variable 0 }
@@ -27,11 +27,11 @@ numbers = symbol_entry Static star None ∷ symbol_entry Static (symbol 0) None 
     ∷ symbol_entry Static (product (symbol 0) (product (symbol 0) star)) None
     ∷ symbol_entry Static (product (symbol 0) (apply (apply (symbol 5) (variable 0)) (variable 0))) None ∷ []
 
-abbrev numeral : ℕ → Tree
+abbrev pub numeral : ℕ → Tree
 numeral zero = symbol 1
 numeral (suc k) = apply (symbol 2) (numeral k)
 
-abbrev plus : Tree → Tree → Tree
+abbrev pub plus : Tree → Tree → Tree
 plus a b = apply (apply (symbol 3) a) b
 
 abbrev eq : Tree → Tree → Tree
@@ -73,7 +73,7 @@ pub two_ended : verdict_of numbers two 54 ≡ Ended
 two_ended = refl
 
 -- nat : Type. z : nat. thm t : nat := z. takes 2
-abbrev nat_z : PlainSignature
+abbrev pub nat_z : PlainSignature
 nat_z = symbol_entry Static star None ∷ symbol_entry Static (symbol 0) None ∷ []
 
 pub theorem_accepted : verdict_of nat_z (declare Theorem (Some (symbol 0)) (Some (symbol 1))) 2 ≡ Accepted

@@ -14,6 +14,7 @@ pub mod Scoping
 pub mod Units
 pub mod Taking
 pub mod Spines
+pub mod Winding
 pub mod SymbolRules
 pub mod Matrix
 pub mod Captures

@@ -15,6 +15,7 @@ mod scoped;
 mod signature;
 mod stop;
 mod term;
+mod unwinding;
 
 pub use carry::{Carry, carry_entry, carry_pattern, carry_rule, carry_rules};
 pub use code::{Code, Fault, Verdict};
@@ -22,7 +23,8 @@ pub use limits::Limits;
 pub use listed::Listed;
 pub use memory::NoMemory;
 pub use node::NodeOf;
-pub use scoped::{Left, Scoped, ScopedRule};
+pub use scoped::{Asked, Left, Scoped, ScopedRule};
 pub use signature::{Entry, Pat, Rule, Signature, SymSort};
 pub use stop::{Stop, TypeFault};
 pub use term::{Term, make_annotated, make_app, make_bare, make_product};
+pub use unwinding::spine;

@@ -12,6 +12,24 @@ pub enum Scoped {
         body: Option<Term>,
     },
     Rules(Listed<ScopedRule>),
+    Query {
+        /// Whether the command is accepted only where the answer is yes, as `#ASSERT`.
+        demand: bool,
+        asked: Asked,
+    },
+}
+
+/// What a query asks.
+#[derive(Drop)]
+pub enum Asked {
+    /// Whether the term has the type.
+    Typed(Term, Term),
+    /// Whether the terms are the same.
+    Equal(Term, Term),
+    /// The type of the term.
+    Infer(Term),
+    /// The normal form of the term.
+    Eval(Term),
 }
 
 /// A scoped rule, before its left side is known to be a pattern.

@@ -13,7 +13,8 @@ use Rattle.infer_check.specs.Contexts.{with_bound, rule_types, bound_types, Owns
 use Rattle.infer_check.specs.Given.{GivesType, GivesFit}
 use Rattle.infer_check.specs.Spine.{size, total_size, argument_type, domain_fits}
 use Rattle.infer_check.proofs.Contexts.{context_kept, context_bound, rule_types_kept, bound_types_kept, bound_types_pushed}
-use Rattle.infer_check.proofs.Spines.{map_pushed, total_pushed}
+use Rattle.dk_model.proofs.Winding.{total_pushed}
+use Rattle.infer_check.proofs.Spines.{map_pushed}
 
 module _ {R T : Type 0} {owns : R → T → Type 0} {denotes : R → T → Tree} (old new : R) (k : Keeps owns denotes old new) where
   pub same_size : (t : T) → owns old t → size (denotes new t) ≡ size (denotes old t)

@@ -42,14 +42,6 @@ pub map_pushed : {T : Type 0} (f : T → Tree) (ts : List T) (t : T) → map f (
 map_pushed f [] t = refl
 map_pushed f (x ∷ ts) t = ap (λ (l : List Tree). f x ∷ l) (map_pushed f ts t)
 
-pub wound_pushed : (h a : Tree) (xs : List Tree) → wound h (xs ++ (a ∷ [])) ≡ wound (apply h a) xs
-wound_pushed h a [] = refl
-wound_pushed h a (x ∷ xs) = ap (λ (u : Tree). apply u x) (wound_pushed h a xs)
-
-pub total_pushed : (xs : List Tree) (x : Tree) → total_size (xs ++ (x ∷ [])) ≡ total_size xs + size x
-total_pushed [] x = omega arith
-total_pushed (y ∷ xs) x = let q : total_size (xs ++ (x ∷ [])) ≡ total_size xs + size x = total_pushed xs x in omega (arith, q)
-
 pub size_positive : (t : Tree) → 0 < size t
 size_positive (apply f a) = omega arith
 size_positive (bare b) = omega arith

@@ -82,7 +82,7 @@ pub(crate) fn infer_taken<R: Reducer>(
 
 /// The type of a term by its outermost node: that of its head, then by each argument.
 #[cycle(typing)]
-#[tactic(auto, using(crate::proofs::Spines::head_fails, crate::proofs::Spines::head_given, crate::proofs::Spines::argument_fails, crate::proofs::Spines::argument_given, crate::proofs::Spines::total_pushed, crate::proofs::Spines::map_pushed, crate::proofs::Contexts::owned_front, crate::proofs::Contexts::owned_last, crate::proofs::Contexts::owned_kept, crate::proofs::Contexts::types_kept, crate::proofs::Contexts::context_kept, crate::proofs::Contexts::rule_types_kept, crate::proofs::Contexts::bound_types_kept, signature_log::proofs::Keeping::keeps_further, crate::proofs::Walks::continues, crate::proofs::Walks::ready))]
+#[tactic(auto, using(crate::proofs::Spines::head_fails, crate::proofs::Spines::head_given, crate::proofs::Spines::argument_fails, crate::proofs::Spines::argument_given, dk_model::proofs::Winding::total_pushed, crate::proofs::Spines::map_pushed, crate::proofs::Contexts::owned_front, crate::proofs::Contexts::owned_last, crate::proofs::Contexts::owned_kept, crate::proofs::Contexts::types_kept, crate::proofs::Contexts::context_kept, crate::proofs::Contexts::rule_types_kept, crate::proofs::Contexts::bound_types_kept, signature_log::proofs::Keeping::keeps_further, crate::proofs::Walks::continues, crate::proofs::Walks::ready))]
 pub(crate) fn infer_node<R: Reducer>(
     r: &mut R,
     version: &Version,

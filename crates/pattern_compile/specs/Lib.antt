@@ -1,4 +1,3 @@
 pub mod Answers
 pub mod Patterns
 pub mod Marks
-pub mod Spines

@@ -1,38 +1,14 @@
 //! Copies of terms, with and without annotations. They nest with brackets and binders, and not with the arguments of an
 //! application.
-ghost use Rattle.std.specs.Prelude.{◌≡◌, ◌+◌, ◌≤◌, IfOk};
-ghost use Rattle.dk_model.specs.Trees.{tree, apply};
+ghost use Rattle.std.specs.Prelude.{◌≡◌, IfOk};
+ghost use Rattle.dk_model.specs.Trees.{tree};
 ghost use Rattle.dk_model.specs.Erasure.{erased};
-ghost use Rattle.pattern_compile.specs.Spines.{applied, behind_references, size, total_size};
 
-use dk_model::{NoMemory, Term, make_annotated, make_app, make_bare, make_product};
+use dk_model::{NoMemory, Term, make_annotated, make_app, make_bare, make_product, spine};
 use std::alloc::Global;
 
-/// The head of `f a`, and its arguments on a stack, the first one on top.
-#[tactic(auto, using(crate::proofs::Spines::applied_pushed, crate::proofs::Spines::total_pushed))]
-fn spine<'a>(alloc: Global, f: &'a Term, a: &'a Term) -> Result<(&'a Term, Vec<&'a Term>), NoMemory>
-    ensures whole { IfOk result (λ s. applied (tree s.0.now) (behind_references s.1.items)
-        ≡ apply (tree f.now) (tree a.now)) }
-    ensures smaller { IfOk result (λ s. size (tree s.0.now) + total_size (behind_references s.1.items)
-        ≤ size (tree f.now) + size (tree a.now)) }
-{
-    let mut arguments = Vec::new(alloc);
-    arguments.push(a)?;
-    let mut head = f;
-    loop {
-        match head {
-            Term::App(g, b) => {
-                let b: &'a Term = b;
-                arguments.push(b)?;
-                head = g;
-            }
-            other => return Ok((other, arguments)),
-        }
-    }
-}
-
 /// The same term in memory of its own.
-#[tactic(auto, using(crate::proofs::Spines::applied_pushed, crate::proofs::Spines::total_pushed))]
+#[tactic(auto, using(dk_model::proofs::Winding::references_pushed, dk_model::proofs::Winding::references_total))]
 pub(crate) fn copied(alloc: Global, term: &Term) -> Result<Term, NoMemory>
     ensures { IfOk result (λ t. tree t ≡ tree term.now) }
 {
@@ -59,7 +35,7 @@ pub(crate) fn copied(alloc: Global, term: &Term) -> Result<Term, NoMemory>
 }
 
 /// The term with every annotation of an abstraction removed.
-#[tactic(auto, using(crate::proofs::Spines::erased_applied, crate::proofs::Spines::erased_pushed, crate::proofs::Spines::total_pushed))]
+#[tactic(auto, using(crate::proofs::Spines::erased_applied, crate::proofs::Spines::erased_pushed, dk_model::proofs::Winding::references_total))]
 pub(crate) fn erased(alloc: Global, term: &Term) -> Result<Term, NoMemory>
     ensures { IfOk result (λ t. tree t ≡ erased (tree term.now)) }
 {

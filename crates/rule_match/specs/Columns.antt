@@ -1,10 +1,11 @@
 -- For callers: how the code holds columns of terms, and a term as a head beside a stack of arguments.
-use Rattle.std.specs.Prelude.{ℕ, zero, suc, ◌≡◌, ◌<◌, ◌+◌, Bool, true, false, List, [], ◌∷◌, ◌++◌, map, take, drop, length}
-use Rattle.dk_model.specs.Trees.{Tree, apply}
+use Rattle.std.specs.Prelude.{ℕ, zero, suc, ◌≡◌, ◌<◌, ◌+◌, List, [], ◌∷◌, ◌++◌, map, take, drop, length}
+use Rattle.dk_model.specs.Trees.{Tree}
 use Rattle.dk_model.specs.Spines.{head, arguments}
 use Rattle.dk_model.specs.Matrix.{Column as PlainColumn}
 use Rattle.shared_term.specs.declared.id.TermId.{TermId}
 use Rattle.shared_term.specs.Pools.{Node, term}
+pub use Rattle.shared_term.specs.Winding.{behind, AreWithin, wound, is_application}
 use Rattle.rule_match.specs.declared.value.Column.{Column}
 
 -- a column of terms of a pool
@@ -23,28 +24,10 @@ abbrev pub AreColumns : ℕ → List Column → Type 0
 AreColumns n [] = Unit {0}
 AreColumns n (c ∷ cs) = (c.term.0 < n) × AreColumns n cs
 
--- the terms of a stack
-abbrev pub behind : List Node → List TermId → List Tree
-behind ns ids = map (term ns) ids
-
--- each of these is a term of a pool of so many nodes
-abbrev pub AreWithin : ℕ → List TermId → Type 0
-AreWithin n [] = Unit {0}
-AreWithin n (i ∷ ids) = (i.0 < n) × AreWithin n ids
-
--- the head applied to the arguments of a stack, whose last item is the first argument
-abbrev pub wound : Tree → List Tree → Tree
-wound t [] = t
-wound t (x ∷ xs) = apply (wound t xs) x
-
 -- the items of a stack, the last one first: its arguments from left to right
 abbrev pub from_top : {A : Type 0} → List A → List A
 from_top [] = []
 from_top (x ∷ xs) = from_top xs ++ (x ∷ [])
-
-abbrev pub is_application : Tree → Bool
-is_application (apply f a) = true
-is_application t = false
 
 -- the head of this value, which has so many arguments
 pub record IsHeadOf (h : Tree) (count : ℕ) (v : Tree) : Type 0 where

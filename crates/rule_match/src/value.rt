@@ -1,15 +1,15 @@
 //! The value of a column: its head, and the columns that it opens.
-ghost use Rattle.std.specs.Prelude.{◌≡◌, ◌+◌, ◌≤◌, ◌<◌, [], ◌∷◌, IfOk, OnOk, Some, false, List, length, map, take, slice_get, slice_set, vec_len};
+ghost use Rattle.std.specs.Prelude.{◌≡◌, ◌+◌, ◌≤◌, ◌<◌, [], ◌∷◌, IfOk, Some, List, length, map, take, slice_get, slice_set, vec_len};
 ghost use Rattle.dk_model.specs.Trees.{Tree};
 ghost use Rattle.dk_model.specs.Spines.{arguments};
 ghost use Rattle.dk_model.specs.Matrix.{opened_columns, is_bare};
 ghost use Rattle.shared_term.specs.Pools.{term, denoted};
 ghost use Rattle.rule_match.specs.Keys.{key_at, key_of};
-ghost use Rattle.rule_match.specs.Columns.{value_put, plain, argument_column, behind, wound, from_top, is_application, AreWithin, AreColumns, IsHeadOf};
+ghost use Rattle.rule_match.specs.Columns.{value_put, plain, argument_column, behind, from_top, AreWithin, AreColumns, IsHeadOf};
 
 use crate::key::Key;
 use dk_model::{NoMemory, NodeOf};
-use shared_term::{Node, Pool, TermId};
+use shared_term::{Node, Pool, TermId, unwind};
 use std::alloc::Global;
 
 /// A part of the arguments.
@@ -28,33 +28,6 @@ pub(crate) fn column_of(columns: &[Column], at: usize) -> Column
     match columns.get(at) {
         Some(column) => *column,
         None => unreachable!(),
-    }
-}
-
-/// Takes a term apart: its arguments go onto the stack, the first one on top.
-#[tactic(auto, using(crate::proofs::Winding::wound_pushed, crate::proofs::Winding::within_pushed))]
-pub(crate) fn unwind(
-    pool: &Pool,
-    whole: TermId,
-    stack: &mut Vec<TermId>,
-) -> Result<TermId, NoMemory>
-    requires whole { whole.0 < length pool.now }
-    requires stack { AreWithin (length pool.now) stack.old.items }
-    ensures same { IfOk result (λ h. wound (term pool.now h) (behind pool.now stack.new.items)
-        ≡ wound (term pool.now whole) (behind pool.now stack.old.items)) }
-    ensures head { IfOk result (λ h. is_application (term pool.now h) ≡ false) }
-    ensures there { IfOk result (λ h. h.0 < length pool.now) }
-    ensures stack { OnOk result (AreWithin (length pool.now) stack.new.items) }
-{
-    let mut head = whole;
-    loop {
-        match pool.get(head) {
-            NodeOf::App(f, a) => {
-                stack.push(a)?;
-                head = f;
-            }
-            _ => return Ok(head),
-        }
     }
 }
 

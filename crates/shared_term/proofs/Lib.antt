@@ -11,3 +11,4 @@ pub mod Places
 pub mod Parts
 pub mod Spelt
 pub mod Boxes
+pub mod Winding

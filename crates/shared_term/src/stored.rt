@@ -71,7 +71,7 @@ impl Stored {
     }
 
     /// The place of the outermost node.
-    pub(crate) fn root(&self) -> TermId
+    pub fn root(&self) -> TermId
         ensures value { result ≡ self.now.1 }
         ensures within { result.0 < length self.now.0 }
     {
@@ -79,7 +79,7 @@ impl Stored {
     }
 
     /// The node at a place.
-    pub(crate) fn get(&self, at: usize) -> Node
+    pub fn get(&self, at: usize) -> Node
         requires { at < length self.now.0 }
         ensures node { slice_get self.now.0 at ≡ Some result }
         ensures within { IsWithin at result }

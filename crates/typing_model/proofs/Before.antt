@@ -1,21 +1,36 @@
 -- What is accepted without binding a rule variable is accepted, with the same units: each comparison says yes.
-use Rattle.std.proofs.Common.{ℕ, ◌≡◌, ◌∙◌, Bool, true, false, refl, ap}
+use Rattle.std.proofs.Common.{Option, ℕ, ◌≡◌, ◌∙◌, Bool, true, false, refl, ap, sym as flip, None, Some}
 use Rattle.dk_model.specs.Trees.{Tree}
 use Rattle.dk_model.specs.Signatures.{PlainSignature}
 use Rattle.dk_model.specs.Evaluation.{whnf_of, comparison_of, normal_of}
 use Rattle.dk_model.specs.Bindings.{Bindings, under}
-use Rattle.dk_model.specs.TypingOver.{JudgedIn, answer, after, next}
+use Rattle.dk_model.specs.Scoping.{PlainAsked, PlainFound, query}
+use Rattle.dk_model.specs.TypingOver.{answer, refused, ended, after, next}
+use Rattle.dk_model.specs.CommandTypingOver.{found_by, command_checked}
 use Rattle.dk_model.specs.RuleTypingOver.{convertible}
 use Rattle.dk_model.specs.Solving.{solved, heads_solved, unless_same}
 use Rattle.dk_model.specs.Typing.{Judged, by_units}
 use Rattle.dk_model.proofs.Solving.{solved_is}
-use Rattle.dk_model.proofs.RelatedTyping.{IsRespected, command_related}
+use Rattle.dk_model.proofs.RelatedTyping.{IsRespected, asked_related, command_related}
 use Rattle.typing_model.specs.Laws.{by_conversion, StaysAccepted}
 use Rattle.typing_model.proofs.Typing.{from_after, from_next}
 
 -- what the one answers the other does
 abbrev Answers : (A : Type 0) → (ℕ → Judged A) → (ℕ → Judged A) → Type 0
 Answers A f g = (n m : ℕ) (a : A) → f n ≡ answer a m → g n ≡ answer a m
+
+-- the same answers, refusals and ends
+abbrev Same : (A : Type 0) → (ℕ → Judged A) → (ℕ → Judged A) → Type 0
+Same A f g = (n : ℕ) → f n ≡ g n
+
+next_same : {A B : Type 0} (h k : A → ℕ → Judged B) → ((a : A) → Same B (h a) (k a)) → (x : Judged A) → next x h ≡ next x k
+next_same h k y (answer a n) = y a n
+next_same h k y (refused c n) = refl
+next_same h k y ended = refl
+
+after_same : {A B : Type 0} (h k : A → ℕ → Judged B) → ((a : A) → Same B (h a) (k a)) → (o : Option (A × ℕ)) → after o h ≡ after o k
+after_same h k y None = refl
+after_same h k y (Some p) = y p.0 p.1
 
 convertible_is : (b : Bool) (n m : ℕ) (u : Unit {0}) → convertible b n ≡ answer u m → (b ≡ true) × (n ≡ m)
 convertible_is true n m u e = (refl, cc)
@@ -41,8 +56,23 @@ module _ (S : PlainSignature) where
     normal = λ B t h k y n m b e. from_after (after (normal_of S n t) k ≡ answer b m) (normal_of S n t) h b m e (λ p e1 e2. ap (λ z. after z k) e1 ∙ y p.0 p.1 m b e2);
     same = λ t u n m b e. e;
     convertible = λ t u n m b e. e;
-    solve = solve_answers;
   }
 
+  same_typing : IsRespected Same (by_conversion S) (by_units S)
+  same_typing = record {
+    answers = λ A a n. refl;
+    refuses = λ A c n. refl;
+    goes_on = λ A B f g h k x y n. ap (λ z. next z h) (x n) ∙ next_same h k y (g n);
+    whnf = λ B t h k y n. after_same h k y (whnf_of S n t);
+    normal = λ B t h k y n. after_same h k y (normal_of S n t);
+    same = λ t u n. refl;
+    convertible = λ t u n. refl;
+  }
+
+  -- a query solves no equation, so it is the same
+  query_answers : (demand : Bool) (a : PlainAsked) → Answers (Unit {0}) (command_checked (by_conversion S) S (query demand a)) (command_checked (by_units S) S (query demand a))
+  query_answers demand a n m u e =
+      ap (λ (x : Judged PlainFound). next (found_by demand a x) (λ f i. answer tt i)) (flip (asked_related Same (by_conversion S) (by_units S) same_typing S a n)) ∙ e
+
   pub stays_accepted : StaysAccepted S
-  stays_accepted c n m u e = command_related Answers (by_conversion S) (by_units S) typing_answers S c n m u e
+  stays_accepted c n m u e = command_related Answers (by_conversion S) (by_units S) typing_answers solve_answers S query_answers c n m u e

@@ -3,7 +3,7 @@ use Rattle.std.specs.Prelude.{Result, Ok, Err, map, take, slice_get}
 use Rattle.std.proofs.Common.{List, [], ◌∷◌, ◌++◌, ℕ, zero, suc, ◌≡◌, Option, Some, None, refl, sym as flip, subst as along}
 use Rattle.dk_model.specs.Trees.{Tree}
 use Rattle.dk_model.specs.Signatures.{PlainRule, PlainEntry, symbol_entry, rules_entry, PlainSignature}
-use Rattle.dk_model.specs.Scoping.{PlainScopedRule, PlainCommand, declare, rule_command}
+use Rattle.dk_model.specs.Scoping.{PlainScopedRule, PlainCommand, declare, rule_command, query}
 use Rattle.dk_model.specs.Shapes.{shapes_of, erased_rule, kept_rules}
 use Rattle.dk_model.specs.Verdicts.{entry_of, inferred_type, maybe_erased, kept_body}
 use Rattle.dk_model.specs.WellFormed.{IsKeptBody, AreRulesOver, IsEntryOver, before, IsSignature}
@@ -88,3 +88,4 @@ pub command_entry : (S : PlainSignature) → IsSignature S → (c : PlainCommand
 command_entry S formed (declare s A b) budget = let numbered : IsNumbered S = formed_numbered S formed in
     ((entry_plain S (formed_plain S formed) (units_reduce S numbered) (declare s A b) budget).0, body_kept s b)
 command_entry S formed (rule_command rs) budget = kept_over S rs (shapes_of S rs) refl
+command_entry S formed (query demand a) budget = ([], [], refl, refl)

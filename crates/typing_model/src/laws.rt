@@ -27,6 +27,7 @@ ghost use Rattle.typing_model.specs.Laws.{
   TypedRuleHasDerivation,
   WhnfReduces,
 };
+ghost use Rattle.typing_model.specs.Queries.{FoundIsSo};
 
 /// A term reduces to what evaluation answers, and terms that the comparison finds alike are joinable.
 ///
@@ -83,6 +84,14 @@ pub fn accepted_has_derivation()
     ensures declaration { (S : _) → IsNumbered S → DeclarationHasDerivation S (by_units S) }
 {
     // Proved for each command and budget.
+}
+
+/// What a query finds is so: where it finds yes the term fits the type, or the terms are joinable; a type that it finds is
+/// the term's, and a value is what the term reduces to.
+pub fn found_is_so()
+    ensures { (S : _) → IsNumbered S → FoundIsSo S (by_units S) }
+{
+    // Proved for each query and budget.
 }
 
 /// A rule whose shape is typed over a signature has a derivation there.

@@ -2,7 +2,7 @@ use Rattle.std.proofs.Common.{◌≡◌, ◌<◌, length, vec_len}
 use Rattle.dk_model.specs.Trees.{tree}
 use Rattle.shared_term.specs.Pools.{term, Extends}
 use Rattle.conversion.specs.Machine.{wound}
-use Rattle.conversion.specs.Spine.{behind_references, size, total_size}
+use Rattle.dk_model.specs.Winding.{behind_references, size, total_size}
 use Rattle.conversion.proofs.loading.+loaded.Given as goal
 
 abbrev pub decreases-loaded : goal.decreases-loaded

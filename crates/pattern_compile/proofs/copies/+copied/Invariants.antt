@@ -1,6 +1,6 @@
 use Rattle.std.proofs.Common.{◌≡◌, ◌<◌, vec_len}
 use Rattle.dk_model.specs.Trees.{tree}
-use Rattle.pattern_compile.specs.Spines.{applied, behind_references, size, total_size}
+use Rattle.dk_model.specs.Winding.{wound, behind_references, size, total_size}
 use Rattle.pattern_compile.proofs.copies.+copied.Given as goal
 
 abbrev pub decreases-copied : goal.decreases-copied
@@ -8,7 +8,7 @@ decreases-copied l = size (tree l.term.now)
 
 abbrev pub invariant-loop-argument : goal.invariant-loop-argument
 invariant-loop-argument l = record {
-  same : applied (tree l.whole) (behind_references l.arguments.items) ≡ tree l.fn.term;
+  same : wound (tree l.whole) (behind_references l.arguments.items) ≡ tree l.fn.term;
   smaller : total_size (behind_references l.arguments.items) < size (tree l.fn.term);
 }
 

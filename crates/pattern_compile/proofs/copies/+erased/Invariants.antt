@@ -1,7 +1,7 @@
 use Rattle.std.proofs.Common.{◌≡◌, ◌<◌, map, vec_len}
 use Rattle.dk_model.specs.Trees.{tree}
 use Rattle.dk_model.specs.Erasure.{erased}
-use Rattle.pattern_compile.specs.Spines.{applied, behind_references, size, total_size}
+use Rattle.dk_model.specs.Winding.{wound, behind_references, size, total_size}
 use Rattle.pattern_compile.proofs.copies.+erased.Given as goal
 
 abbrev pub decreases-erased : goal.decreases-erased
@@ -9,7 +9,7 @@ decreases-erased l = size (tree l.term.now)
 
 abbrev pub invariant-loop-argument : goal.invariant-loop-argument
 invariant-loop-argument l = record {
-  same : applied (tree l.whole) (map erased (behind_references l.arguments.items)) ≡ erased (tree l.fn.term);
+  same : wound (tree l.whole) (map erased (behind_references l.arguments.items)) ≡ erased (tree l.fn.term);
   smaller : total_size (behind_references l.arguments.items) < size (tree l.fn.term);
 }
 

@@ -1,8 +1,7 @@
 use Rattle.std.proofs.Common.{◌≡◌, ◌+◌, ◌≤◌}
 use Rattle.dk_model.specs.Trees.{tree, apply}
-use Rattle.conversion.specs.Machine.{wound}
-use Rattle.conversion.specs.Spine.{behind_references, size, total_size}
-use Rattle.conversion.proofs.loading.spine.Given as goal
+use Rattle.dk_model.specs.Winding.{wound, behind_references, size, total_size}
+use Rattle.dk_model.proofs.unwinding.spine.Given as goal
 
 abbrev pub invariant-loop-head : goal.invariant-loop-head
 invariant-loop-head l = record {
