@@ -1,92 +1,67 @@
 -- Terms under bindings, and a further binding.
-use Rattle.std.specs.Prelude.{map, replicate, length, slice_set, Result, Ok, Err, IfOk, OnOk, Bool, true, false, IsTrue, ◌||◌}
-use Rattle.std.proofs.Common.{List, [], ◌∷◌, ◌++◌, append-nil, ◌≡◌, ◌<◌, ◌≤◌, ◌+◌, ℕ, zero, suc, Option, Some, None, refl, ap, ◌∙◌, sym as flip, subst, arith}
-use Rattle.dk_model.specs.Trees.{Tree, star, kind, symbol, variable, rule_variable, apply, bare, annotated, product}
+use Rattle.std.specs.Prelude.{Result, Ok, Err, IfOk, OnOk, get_or, slice_set, length, Bool, true, false, IsTrue, Vec}
+use Rattle.std.specs.declared.alloc.Global.{Global}
+use Rattle.std.proofs.Common.{List, [], ◌∷◌, ◌++◌, ◌≡◌, ◌<◌, ◌≤◌, ℕ, zero, suc, Option, Some, None, refl, ap, ◌∙◌, sym as flip, subst, arith}
+use Rattle.dk_model.specs.Trees.{Tree}
 use Rattle.dk_model.specs.Bounds.{IsClosedAt}
 use Rattle.dk_model.specs.Captures.{capture_at, filled}
 use Rattle.dk_model.specs.Signatures.{maybe_by}
-use Rattle.dk_model.specs.Bindings.{Bindings as PlainBindings, bound_or, under, under_option, with_binding, bound, mentions_rule_variable}
-use Rattle.dk_model.proofs.Closed.{closed_further}
-use Rattle.dk_model.proofs.Unders.{mapped_at, under_none, filled_under}
+use Rattle.dk_model.specs.Bindings.{Bindings as PlainBindings, under, under_option, with_binding, bound, mentions_rule_variable}
+use Rattle.dk_model.proofs.Unders.{filled_under}
 use Rattle.dk_model.specs.declared.memory.NoMemory.{NoMemory}
 use Rattle.signature_log.specs.Reducers.{Keeps, Makes, OwnsSome, OwnsSomes}
-use Rattle.signature_log.proofs.Keeping.{keeps_further}
 use Rattle.rule_check.specs.declared.found.Bindings.{Bindings}
 use Rattle.rule_check.specs.Founds.{types_of, terms_of, AreClosed, OwnsBindings}
-use Rattle.rule_check.specs.Mentioned.{is_marked, stands_in, may_mention, IsNoted}
-use Rattle.rule_check.specs.Bindings.{with_term, IsSomeUnder, AreUnder, IsReplaced, IsBound}
-use Rattle.rule_check.proofs.Founds.{maybe_kept, types_of_kept, owned_types_kept}
-use Rattle.rule_check.proofs.Moving.{moved_over_options}
-use Rattle.rule_check.proofs.Marks.{all_without, bound_covered}
+use Rattle.rule_check.specs.Mentioned.{may_mention, IsNoted}
+use Rattle.rule_check.specs.Levels.{rounds, resolved, behind_first, IsFree, with_rounds, put_into, put_into_each, IsAt, IsPlaced, IsJoined, IsBeforeLast, AreLevelled}
+use Rattle.rule_check.specs.Bindings.{with_term, IsSomeUnder, ArePut, MayBind, IsStill, HasRoom, IsBound}
+use Rattle.rule_check.proofs.Founds.{some_kept, mentioned_kept, types_of_kept, owned_types_kept, terms_kept, bindings_kept}
+use Rattle.rule_check.proofs.Resolved.{at_more, levels_cover, levels_under, levels_free, levels_joined, joined_same, begun_ranked, begun_same, levels_further, further_same}
 
--- ---- with nothing bound, and where all is closed
+-- ---- terms under the bindings
 
-pub none_there : {T : Type 0} (os : List (Option T)) → length os < 1 → os ≡ []
-none_there [] l = refl
-none_there (o ∷ os) l = absurd (omega arith)
+pub makes_is : {R T : Type 0} (owns : R → T → Type 0) (denotes : R → T → Tree) (r : R) {t u : Tree} (o : Result T NoMemory) → t ≡ u → IfOk o (Makes owns denotes r t) → IfOk o (Makes owns denotes r u)
+makes_is owns denotes r o e h = subst (λ z. IfOk o (Makes owns denotes r z)) e h
 
-pub with_none : {R T : Type 0} (denotes : R → T → Tree) (r : R) (b : Bindings T) (os : List (Option T)) (t : Tree) → os ≡ b.terms.items → length os < 1 → under (terms_of denotes r b) t ≡ t
-with_none denotes r b os t e l = ap (λ bs. under (types_of denotes r bs) t) (flip e ∙ none_there os l) ∙ under_none t
+-- the bindings are put into a term once more
+pub round_more : {R T : Type 0} (owns : R → T → Type 0) (denotes : R → T → Tree) (old at : R) (k : Keeps owns denotes old at) (b : Bindings T) (os : List (Option T)) (n : ℕ) (t u v : Tree) → OwnsBindings owns denotes old b → os ≡ b.terms.items
+    → u ≡ rounds (types_of denotes old b.terms.items) n t → v ≡ filled (types_of denotes at os) 0 u → v ≡ rounds (types_of denotes old b.terms.items) (suc n) t
+round_more owns denotes old at k b os n t u v w e f g =
+    let s : PlainBindings = types_of denotes old b.terms.items in
+    g ∙ ap (λ x. filled (types_of denotes at x) 0 u) e ∙ ap (λ x. filled x 0 u) (types_of_kept old at k b.terms.items w.own) ∙ filled_under s w.levels.closed 0 u ∙ ap (under s) f
 
-pub filled_is : {R T : Type 0} (owns : R → T → Type 0) (denotes : R → T → Tree) (r : R) (b : Bindings T) (os : List (Option T)) (t : Tree) → os ≡ b.terms.items → OwnsBindings owns denotes r b
-    → filled (types_of denotes r os) 0 t ≡ under (terms_of denotes r b) t
-filled_is owns denotes r b os t e h = ap (λ bs. filled (types_of denotes r bs) 0 t) e ∙ filled_under (terms_of denotes r b) h.closed 0 t
+pub all_rounds : {R T : Type 0} (owns : R → T → Type 0) (denotes : R → T → Tree) (r : R) (b : Bindings T) (n : ℕ) (t u : Tree) → OwnsBindings owns denotes r b → n ≡ length b.levels.items → u ≡ rounds (types_of denotes r b.terms.items) n t
+    → u ≡ under (terms_of denotes r b) t
+all_rounds owns denotes r b n t u w e f = f ∙ ap (λ i. rounds (types_of denotes r b.terms.items) i t) e ∙ levels_under w.levels t
 
-module _ (s : PlainBindings) (closed : AreClosed s) where
-  or_closed : (c k : ℕ) (o : Option Tree) → capture_at s k ≡ o → IsClosedAt c (bound_or k o)
-  or_closed c k None e = tt
-  or_closed c k (Some u) e = closed_further 0 c u (omega arith) (closed k u e)
+-- a term under the bindings mentions no rule variable that is bound
+pub under_free : {R T : Type 0} (owns : R → T → Type 0) (denotes : R → T → Tree) (old new : R) (k : Keeps owns denotes old new) (b : Bindings T) (t u : Tree) → OwnsBindings owns denotes old b → u ≡ under (terms_of denotes old b) t
+    → IsFree (terms_of denotes new b) u
+under_free owns denotes old new k b t u w e = subst (λ s. IsFree s u) (flip (terms_kept old new k b w)) (subst (IsFree (terms_of denotes old b)) (flip e) (levels_free w.levels t))
 
-  under_closed : (c : ℕ) (t : Tree) → IsClosedAt c t → IsClosedAt c (under s t)
-  under_closed c star h = tt
-  under_closed c kind h = tt
-  under_closed c (symbol k) h = tt
-  under_closed c (variable k) h = h
-  under_closed c (rule_variable k) h = or_closed c k (capture_at s k) refl
-  under_closed c (apply f a) h = (under_closed c f h.0, under_closed c a h.1)
-  under_closed c (bare b) h = under_closed (c + 1) b h
-  under_closed c (annotated n b) h = (under_closed c n h.0, under_closed (c + 1) b h.1)
-  under_closed c (product a b) h = (under_closed c a h.0, under_closed (c + 1) b h.1)
+-- ---- what is bound
 
-  option_closed : (r : PlainBindings) → AreClosed r → (k : ℕ) (o : Option Tree) (u : Tree) → capture_at r k ≡ o → under_option s o ≡ Some u → IsClosedAt 0 u
-  option_closed r c k None u e q = cc
-  option_closed r c k (Some t) u e q = let i : under s t ≡ u = cc in subst (IsClosedAt 0) i (under_closed 0 t (c k t e))
+pub some_filled : {R T : Type 0} (owns : R → T → Type 0) (denotes : R → T → Tree) (old new : R) (ts : List (Option T)) (o : Option T) (t u : T) → o ≡ Some t → AreClosed (types_of denotes old ts)
+    → Makes owns denotes new (filled (types_of denotes old ts) 0 (denotes old t)) u → IsSomeUnder owns denotes old ts (maybe_by (denotes old) o) new (Some u)
+some_filled owns denotes old new ts o t u e c m = record {
+  same = ap (λ (z : Tree). Some z) (m.0 ∙ filled_under (types_of denotes old ts) c 0 (denotes old t)) ∙ flip (ap (λ z. under_option (types_of denotes old ts) (maybe_by (denotes old) z)) e);
+  own = m.1;
+}
 
-  pub all_closed : (r : PlainBindings) → AreClosed r → AreClosed (map (under_option s) r)
-  all_closed r c k u e = option_closed r c k (capture_at r k) u refl (flip (mapped_at r s k) ∙ e)
+-- what stands at a place
+pub bound_at : {R T : Type 0} (owns : R → T → Type 0) (denotes : R → T → Tree) (r : R) (ts : List (Option T)) (k : ℕ) (p : Option T) → k < length ts → p ≡ get_or ts k p → OwnsSomes owns r ts
+    → (maybe_by (denotes r) p ≡ capture_at (types_of denotes r ts) k) × OwnsSome owns r p
+bound_at owns denotes r [] k p l e h = absurd (omega (arith, l))
+bound_at owns denotes r (t ∷ ts) zero p l e h = (ap (maybe_by (denotes r)) e, subst (OwnsSome owns r) (flip e) h.0)
+bound_at owns denotes r (t ∷ ts) (suc k) p l e h = bound_at owns denotes r ts k p (omega (arith, l)) e h.1
 
--- ---- a binding alone, and one more
+nothing_at : {R T : Type 0} (denotes : R → T → Tree) (r : R) (ts : List (Option T)) (k : ℕ) → length ts ≤ k → capture_at (types_of denotes r ts) k ≡ None
+nothing_at denotes r [] k l = refl
+nothing_at denotes r (t ∷ ts) zero l = absurd (omega (arith, l))
+nothing_at denotes r (t ∷ ts) (suc k) l = nothing_at denotes r ts k (omega (arith, l))
 
-alone_is : (k : ℕ) (u : Tree) → replicate k None ++ Some u ∷ [] ≡ with_binding [] k u
-alone_is zero u = refl
-alone_is (suc k) u = ap (λ (os : List (Option Tree)). None ∷ os) (alone_is k u)
-
-alone_terms : {R T : Type 0} (denotes : R → T → Tree) (r : R) (k : ℕ) (t : T) → types_of denotes r (replicate k None ++ Some t ∷ []) ≡ replicate k None ++ Some (denotes r t) ∷ []
-alone_terms denotes r zero t = refl
-alone_terms denotes r (suc k) t = ap (λ (os : List (Option Tree)). None ∷ os) (alone_terms denotes r k t)
-
-pub alone_denotes : {R T : Type 0} (denotes : R → T → Tree) (r : R) (ts : List (Option T)) (k : ℕ) (t : T) → ts ≡ replicate k None ++ Some t ∷ [] → types_of denotes r ts ≡ with_binding [] k (denotes r t)
-alone_denotes denotes r ts k t e = ap (types_of denotes r) e ∙ alone_terms denotes r k t ∙ alone_is k (denotes r t)
-
-alone_owned : {R T : Type 0} (owns : R → T → Type 0) (r : R) (k : ℕ) (t : T) → owns r t → OwnsSomes owns r (replicate k None ++ Some t ∷ [])
-alone_owned owns r zero t o = (o, tt)
-alone_owned owns r (suc k) t o = (tt, alone_owned owns r k t o)
-
-one_closed : (s : PlainBindings) (k : ℕ) (u : Tree) → AreClosed s → IsClosedAt 0 u → AreClosed (with_binding s k u)
-one_closed [] zero u c h zero v e = let q : u ≡ v = cc in subst (IsClosedAt 0) q h
-one_closed [] zero u c h (suc j) v e = cc
-one_closed [] (suc k) u c h zero v e = cc
-one_closed [] (suc k) u c h (suc j) v e = one_closed [] k u (λ i w q. cc) h j v e
-one_closed (o ∷ s) zero u c h zero v e = let q : u ≡ v = cc in subst (IsClosedAt 0) q h
-one_closed (o ∷ s) zero u c h (suc j) v e = c (suc j) v e
-one_closed (o ∷ s) (suc k) u c h zero v e = c zero v e
-one_closed (o ∷ s) (suc k) u c h (suc j) v e = one_closed s k u (λ i w q. c (suc i) w q) h j v e
-
-pub all_owned : {R T : Type 0} (owns : R → T → Type 0) (r : R) (ts : List (Option T)) (k : ℕ) (t : T) → ts ≡ replicate k None ++ Some t ∷ [] → owns r t → OwnsSomes owns r ts
-all_owned owns r ts k t e o = subst (OwnsSomes owns r) (flip e) (alone_owned owns r k t o)
-
-pub alone_closed : {R T : Type 0} (denotes : R → T → Tree) (r : R) (ts : List (Option T)) (k : ℕ) (t : T) → ts ≡ replicate k None ++ Some t ∷ [] → IsClosedAt 0 (denotes r t) → AreClosed (types_of denotes r ts)
-alone_closed denotes r ts k t e h = subst AreClosed (flip (alone_denotes denotes r ts k t e)) (one_closed [] k (denotes r t) (λ i w q. cc) h)
+pub bound_nowhere : {R T : Type 0} (denotes : R → T → Tree) (r : R) (ts : List (Option T)) (k : ℕ) → length ts ≤ k → None ≡ under_option (types_of denotes r ts) (capture_at (types_of denotes r ts) k)
+bound_nowhere denotes r ts k l = flip (ap (under_option (types_of denotes r ts)) (nothing_at denotes r ts k l))
 
 -- ---- a term at a place
 
@@ -113,101 +88,111 @@ with_owned owns r [] (suc k) t h o = (tt, with_owned owns r [] k t tt o)
 with_owned owns r (x ∷ os) zero t h o = (o, h.1)
 with_owned owns r (x ∷ os) (suc k) t h o = (h.0, with_owned owns r os k t h.1 o)
 
--- a rule variable is replaced
-pub is_replaced : {R T : Type 0} (owns : R → T → Type 0) (denotes : R → T → Tree) (old mid new : R) (k : Keeps owns denotes old mid) (os alone ps : List (Option T)) (i : ℕ) (t u : T)
-    → OwnsSomes owns old os → denotes mid u ≡ denotes old t → alone ≡ replicate i None ++ Some u ∷ [] → AreUnder owns denotes mid alone os new ps → IsReplaced owns denotes old os i (denotes old t) new ps
-is_replaced owns denotes old mid new k os alone ps i t u o e f a = record {
-  same = a.same ∙ ap (λ s. map (under_option s) (types_of denotes mid os)) (alone_denotes denotes mid alone i u f ∙ ap (with_binding [] i) e)
-      ∙ ap (map (under_option (with_binding [] i (denotes old t)))) (types_of_kept old mid k os o);
-  own = a.own;
+-- ---- bindings put into one of them
+
+put_some : (s : PlainBindings) (k : ℕ) (o : Option Tree) (v : Tree) → Some v ≡ under_option s o → with_rounds s k o ≡ with_binding s k v
+put_some s k None v e = cc
+put_some s k (Some u) v e = let x : v ≡ under s u = cc in ap (with_binding s k) (flip x)
+
+put_none : (s : PlainBindings) (k : ℕ) (o : Option Tree) → None ≡ under_option s o → with_rounds s k o ≡ s
+put_none s k None e = refl
+put_none s k (Some u) e = cc
+
+module _ {R T : Type 0} (owns : R → T → Type 0) (denotes : R → T → Tree) (old mid : R) (k : Keeps owns denotes old mid) (os : List (Option T)) (w : OwnsSomes owns old os) (i : ℕ) where
+  -- a term is put in
+  pub is_put : {A E : Type 0} (t : T) (ps : List (Option T)) (o : Result A E) → IsSomeUnder owns denotes old os (capture_at (types_of denotes old os) i) mid (Some t) → OnOk o (ps ≡ with_term os i t)
+      → OnOk o (ArePut owns denotes (put_into (types_of denotes old os) i) mid ps)
+  is_put t ps (Ok a) h e =
+      let s : PlainBindings = types_of denotes old os in
+      record {
+        same = ap (types_of denotes mid) e ∙ with_terms denotes mid os i t ∙ ap (λ x. with_binding x i (denotes mid t)) (types_of_kept old mid k os w) ∙ flip (put_some s i (capture_at s i) (denotes mid t) h.same);
+        own = subst (OwnsSomes owns mid) (flip e) (with_owned owns mid os i t (owned_types_kept old mid k os w) h.own);
+      }
+  is_put t ps (Err x) h e = e
+
+  -- nothing is bound
+  pub is_not_put : IsSomeUnder owns denotes old os (capture_at (types_of denotes old os) i) mid None → ArePut owns denotes (put_into (types_of denotes old os) i) mid os
+  is_not_put h = record { same = types_of_kept old mid k os w ∙ flip (put_none (types_of denotes old os) i (capture_at (types_of denotes old os) i) h.same); own = owned_types_kept old mid k os w }
+
+-- ---- the same bindings in other levels
+
+module _ {R T : Type 0} (owns : R → T → Type 0) (denotes : R → T → Tree) (old new : R) (k : Keeps owns denotes old new) (b d : Bindings T) (w : OwnsBindings owns denotes old b) where
+  -- two levels are joined
+  pub is_still : (js : List ℕ) → IsBeforeLast b.levels.items js → IsJoined b.levels.items d.levels.items → ArePut owns denotes (put_into_each (types_of denotes old b.terms.items) js) new d.terms.items → d.mentioned ≡ b.mentioned
+      → IsStill owns denotes old b new d
+  is_still js l j a m = record {
+    same = ap (resolved (behind_first d.levels.items)) a.same ∙ joined_same w.levels js d.levels.items l j;
+    own = record {
+      own = a.own;
+      noted = subst (λ x. OwnsSome owns new x.term) (flip m) (some_kept old new k b.mentioned.term w.noted);
+      levels = subst (AreLevelled (may_mention denotes new d.mentioned) d.levels.items) (flip a.same) (levels_cover (levels_joined w.levels js d.levels.items l j) (may_mention denotes new d.mentioned)
+          (λ i e. ap (λ x. may_mention denotes new x i) m ∙ mentioned_kept old new k b w i e));
+    };
+  }
+
+-- the same as before an earlier call of the reducer
+pub still_from : {R T : Type 0} (owns : R → T → Type 0) (denotes : R → T → Tree) (old mid new : R) (k : Keeps owns denotes old mid) (b d : Bindings T) → OwnsBindings owns denotes old b → IsStill owns denotes mid b new d → IsStill owns denotes old b new d
+still_from owns denotes old mid new k b d w h = record { same = h.same ∙ terms_kept old mid k b w; own = h.own }
+
+-- ---- room for a further binding
+
+-- the rule variable stands nowhere
+pub has_room : {R T : Type 0} (owns : R → T → Type 0) (denotes : R → T → Tree) (old new : R) (k : Keeps owns denotes old new) (b : Bindings T) (i : ℕ) (told : Bool) → OwnsBindings owns denotes old b → told ≡ false
+    → (may_mention denotes old b.mentioned i ≡ true → IsTrue told) → HasRoom owns denotes old b i new b
+has_room owns denotes old new k b i told w e h = record {
+  same = terms_kept old new k b w;
+  own = bindings_kept old new k b w;
+  above = λ j u q m. let x : told ≡ true = h (w.levels.covered i j u (ap (λ s. capture_at s j) (flip (types_of_kept old new k b.terms.items w.own)) ∙ q) m) in let y : true ≡ false = flip x ∙ e in cc;
 }
 
--- the same of what was a call of the reducer before
-pub replaced_before : {A E : Type 0} {R T : Type 0} (owns : R → T → Type 0) (denotes : R → T → Tree) (old mid new : R) (k : Keeps owns denotes old mid) (os ps : List (Option T)) (i : ℕ) (t : T) (o : Result A E)
-    → OwnsSomes owns old os → owns old t → OnOk o (IsReplaced owns denotes mid os i (denotes mid t) new ps) → OnOk o (IsReplaced owns denotes old os i (denotes old t) new ps)
-replaced_before owns denotes old mid new k os ps i t (Ok a) w o h = record {
-  same = h.same ∙ ap (λ u. map (under_option (with_binding [] i u)) (types_of denotes mid os)) (k.same t o) ∙ ap (map (under_option (with_binding [] i (denotes old t)))) (types_of_kept old mid k os w);
-  own = h.own;
-}
-replaced_before owns denotes old mid new k os ps i t (Err e) w o h = h
-
--- it stands nowhere
-pub stands_nowhere : {R T : Type 0} (owns : R → T → Type 0) (denotes : R → T → Tree) (old new : R) (k : Keeps owns denotes old new) (b : Bindings T) (i : ℕ) (u : Tree) (told : Bool)
-    → OwnsBindings owns denotes old b → told ≡ false → (may_mention denotes old b.mentioned i ≡ true → IsTrue told) → IsReplaced owns denotes old b.terms.items i u new b.terms.items
-stands_nowhere owns denotes old new k b i u told w e h = record {
-  same = types_of_kept old new k b.terms.items w.own ∙ flip (all_without i u (terms_of denotes old b) (λ j v q. by_case v (mentions_rule_variable i v) refl (w.covered i j v q)));
-  own = owned_types_kept old new k b.terms.items w.own;
-}
-  where
-    by_case : (v : Tree) (x : Bool) → mentions_rule_variable i v ≡ x → (mentions_rule_variable i v ≡ true → may_mention denotes old b.mentioned i ≡ true) → mentions_rule_variable i v ≡ false
-    by_case v true q g = let f : told ≡ true = h (g q) in let r : true ≡ false = flip f ∙ e in cc
-    by_case v false q g = q
-
--- a further binding: the others are put under it, its rule variables are noted, and its term stands at its place
-pub is_bound : {R T : Type 0} (owns : R → T → Type 0) (denotes : R → T → Tree) (old mid new : R) (k : Keeps owns denotes old mid) (l : Keeps owns denotes mid new) (b d : Bindings T) (all : List (Option T)) (i : ℕ) (t : T)
-    → owns old t → IsClosedAt 0 (denotes old t) → OwnsBindings owns denotes old b → IsReplaced owns denotes old b.terms.items i (denotes old t) mid all
-    → IsNoted owns denotes mid b.mentioned (denotes mid t) new d.mentioned → d.terms.items ≡ with_term all i t → IsBound owns denotes old b i t new d
-is_bound owns denotes old mid new k l b d all i t o h w a n q =
-    let u : Tree = denotes old t in
-    let s : PlainBindings = terms_of denotes old b in
-    let x : denotes new t ≡ u = (keeps_further old mid new k l).same t o in
-    let others : types_of denotes new all ≡ map (under_option (with_binding [] i u)) s = types_of_kept mid new l all a.own ∙ a.same in
-    let same : terms_of denotes new d ≡ bound s i u = ap (types_of denotes new) q ∙ with_terms denotes new all i t ∙ ap (λ r. with_binding r i (denotes new t)) others ∙ ap (with_binding (map (under_option (with_binding [] i u)) s) i) x in
-    let y : denotes mid t ≡ u = k.same t o in
-    let m : (j : ℕ) → may_mention denotes old b.mentioned j ≡ may_mention denotes mid b.mentioned j = λ j. flip (ap (λ z. is_marked b.mentioned.marks.items j || stands_in j z) (maybe_kept old mid k b.mentioned.term w.noted)) in
+-- a level begins
+pub has_level : {R T : Type 0} (owns : R → T → Type 0) (denotes : R → T → Tree) (old mid : R) (b c : Bindings T) (ls : Vec (Vec ℕ Global) Global) (l : Vec ℕ Global) (i : ℕ) → IsStill owns denotes old b mid c → ls.items ≡ c.levels.items ++ l ∷ []
+    → HasRoom owns denotes old b i mid (record { terms = c.terms; levels = ls; mentioned = c.mentioned })
+has_level owns denotes old mid b c ls l i h e =
+    let w = h.own.levels in
     record {
-      same = same;
+      same = ap (λ x. resolved (behind_first x) (types_of denotes mid c.terms.items)) e ∙ begun_same w l ∙ h.same;
       own = record {
-        own = subst (OwnsSomes owns new) (flip q) (with_owned owns new all i t (owned_types_kept mid new l all a.own) ((keeps_further old mid new k l).own t o));
-        closed = subst AreClosed (flip same) (one_closed (map (under_option (with_binding [] i u)) s) i u (all_closed (with_binding [] i u) (one_closed [] i u (λ e z f. cc) h) s w.closed) h);
+        own = h.own.own;
+        noted = h.own.noted;
+        levels = record {
+          rank = λ j. suc (w.rank j);
+          ranked = begun_ranked w l;
+          levelled = λ j u q. subst (λ x. IsAt x j (suc (w.rank j))) (flip e) (at_more c.levels.items l j (w.rank j) (w.levelled j u q));
+          closed = w.closed;
+          covered = w.covered;
+        };
+      };
+      above = λ j u q m. omega arith;
+    }
+
+-- ---- a further binding
+
+pub is_bound : {R T : Type 0} (owns : R → T → Type 0) (denotes : R → T → Tree) (old one two : R) (k : Keeps owns denotes old one) (l : Keeps owns denotes one two) (b e d : Bindings T) (i : ℕ) (t : T) → MayBind owns denotes old b i t
+    → HasRoom owns denotes old b i one e → IsPlaced e.levels.items i d.levels.items → IsNoted owns denotes one e.mentioned (denotes one t) two d.mentioned → d.terms.items ≡ with_term e.terms.items i t → IsBound owns denotes old b i t two d
+is_bound owns denotes old one two k l b e d i t m h p n q =
+    let s : PlainBindings = types_of denotes one e.terms.items in
+    let r : PlainBindings = terms_of denotes one e in
+    let u : Tree = denotes one t in
+    let x : u ≡ denotes old t = k.same t m.own in
+    let g = may_mention denotes two d.mentioned in
+    let unbound : capture_at r i ≡ None = ap (λ z. capture_at z i) h.same ∙ m.unbound in
+    let free : IsFree r u = subst (λ z. IsFree z u) (flip h.same) (subst (IsFree (terms_of denotes old b)) (flip x) m.free) in
+    let closed : IsClosedAt 0 u = subst (IsClosedAt 0) (flip x) m.closed in
+    let without : mentions_rule_variable i u ≡ false = ap (mentions_rule_variable i) x ∙ m.without in
+    let put : types_of denotes two d.terms.items ≡ with_binding s i u = ap (types_of denotes two) q ∙ with_terms denotes two e.terms.items i t ∙ ap (λ z. with_binding z i (denotes two t)) (types_of_kept one two l e.terms.items h.own.own)
+    ∙ ap (with_binding s i) (l.same t (k.own t m.own)) in
+    record {
+      same = ap (resolved (behind_first d.levels.items)) put ∙ further_same h.own.levels i u d.levels.items g p unbound free closed without h.above n.more n.kept ∙ ap (λ z. bound z i u) h.same ∙ ap (bound (terms_of denotes old b) i) x;
+      own = record {
+        own = subst (OwnsSomes owns two) (flip q) (with_owned owns two e.terms.items i t (owned_types_kept one two l e.terms.items h.own.own) (l.own t (k.own t m.own)));
         noted = n.own;
-        covered = λ j e v f. bound_covered s i u (may_mention denotes old b.mentioned) (may_mention denotes new d.mentioned) w.covered
-            (λ z g. n.more z (ap (mentions_rule_variable z) y ∙ g)) (λ z g. n.kept z (flip (m z) ∙ g)) j e v (ap (λ z. capture_at z e) (flip same) ∙ f);
+        levels = subst (AreLevelled g d.levels.items) (flip put) (levels_further h.own.levels i u d.levels.items g p unbound free closed without h.above n.more n.kept);
       };
     }
 
-pub bound_where_put : {A E : Type 0} {R T : Type 0} (owns : R → T → Type 0) (denotes : R → T → Tree) (old mid new : R) (k : Keeps owns denotes old mid) (l : Keeps owns denotes mid new) (b d : Bindings T) (all : List (Option T)) (i : ℕ) (t : T) (o : Result A E)
-    → owns old t → IsClosedAt 0 (denotes old t) → OwnsBindings owns denotes old b → IsReplaced owns denotes old b.terms.items i (denotes old t) mid all
-    → IsNoted owns denotes mid b.mentioned (denotes mid t) new d.mentioned → OnOk o (d.terms.items ≡ with_term all i t) → OnOk o (IsBound owns denotes old b i t new d)
-bound_where_put owns denotes old mid new k l b d all i t (Ok x) o h w a n q = is_bound owns denotes old mid new k l b d all i t o h w a n q
-bound_where_put owns denotes old mid new k l b d all i t (Err e) o h w a n q = q
-
--- ---- each of a list
-
-pub some_more : {R T : Type 0} {owns : R → T → Type 0} {denotes : R → T → Tree} (old at new : R) (ts : List (Option T)) → OwnsSomes owns old ts → (os done pushed rest others : List (Option T)) (x y : Option T) (k : Keeps owns denotes old at)
-    (l : Keeps owns denotes at new) → OwnsSomes owns at done → OwnsSomes owns old rest
-    → types_of denotes at done ++ map (under_option (types_of denotes old ts)) (types_of denotes old rest) ≡ map (under_option (types_of denotes old ts)) (types_of denotes old os) → rest ≡ x ∷ others
-    → IsSomeUnder owns denotes at ts x new y → pushed ≡ done ++ y ∷ []
-    → types_of denotes new pushed ++ map (under_option (types_of denotes old ts)) (types_of denotes old others) ≡ map (under_option (types_of denotes old ts)) (types_of denotes old os)
-some_more {R} {T} {owns} {denotes} old at new ts w os done pushed rest others x y k l c d e f h q =
-    let s : PlainBindings = types_of denotes old ts in
-    let o : OwnsSome owns old x × OwnsSomes owns old others = subst (OwnsSomes owns old) f d in
-    let p : maybe_by (denotes new) y ≡ under_option s (maybe_by (denotes old) x) = h.same ∙ ap (λ z. under_option z (maybe_by (denotes at) x)) (types_of_kept old at k ts w) ∙ ap (under_option s) (maybe_kept old at k x o.0) in
-    let tail : List (Option Tree) = map (under_option s) (types_of denotes old others) in
-    ap (λ zs. types_of denotes new zs ++ tail) q
-    ∙ ap (λ (zs : List (Option Tree)). zs ++ tail) (pushed_types denotes new done y ∙ ap (λ (zs : List (Option Tree)). zs ++ maybe_by (denotes new) y ∷ []) (types_of_kept at new l done c))
-    ∙ moved_over_options (types_of denotes at done) (maybe_by (denotes new) y) tail
-    ∙ ap (λ (z : Option Tree). types_of denotes at done ++ z ∷ tail) p
-    ∙ ap (λ zs. types_of denotes at done ++ map (under_option s) (types_of denotes old zs)) (flip f) ∙ e
-  where
-    pushed_types : {R T : Type 0} (denotes : R → T → Tree) (r : R) (os : List (Option T)) (o : Option T) → types_of denotes r (os ++ o ∷ []) ≡ types_of denotes r os ++ maybe_by (denotes r) o ∷ []
-    pushed_types denotes r [] o = refl
-    pushed_types denotes r (x ∷ os) o = ap (λ (xs : List (Option Tree)). maybe_by (denotes r) x ∷ xs) (pushed_types denotes r os o)
-
-pub somes_pushed : {R T : Type 0} (owns : R → T → Type 0) (r : R) (os : List (Option T)) (o : Option T) → OwnsSomes owns r os → OwnsSome owns r o → OwnsSomes owns r (os ++ o ∷ [])
-somes_pushed owns r [] o h g = (g, tt)
-somes_pushed owns r (x ∷ os) o h g = (h.0, somes_pushed owns r os o h.1 g)
-
-pub are_under : {R T : Type 0} (owns : R → T → Type 0) (denotes : R → T → Tree) (old new : R) (ts os ps : List (Option T)) → OwnsSomes owns new ps
-    → types_of denotes new ps ++ [] ≡ map (under_option (types_of denotes old ts)) (types_of denotes old os) → AreUnder owns denotes old ts os new ps
-are_under owns denotes old new ts os ps o e = record { same = flip (append-nil (types_of denotes new ps)) ∙ e; own = o }
-
-pub some_filled : {R T : Type 0} (owns : R → T → Type 0) (denotes : R → T → Tree) (old new : R) (ts : List (Option T)) (o : Option T) (t u : T) → o ≡ Some t → AreClosed (types_of denotes old ts)
-    → Makes owns denotes new (filled (types_of denotes old ts) 0 (denotes old t)) u → IsSomeUnder owns denotes old ts o new (Some u)
-some_filled owns denotes old new ts o t u e c m = record {
-  same = ap (λ (z : Tree). Some z) (m.0 ∙ filled_under (types_of denotes old ts) c 0 (denotes old t)) ∙ flip (ap (λ z. under_option (types_of denotes old ts) (maybe_by (denotes old) z)) e);
-  own = m.1;
-}
-
-pub makes_is : {R T : Type 0} (owns : R → T → Type 0) (denotes : R → T → Tree) (r : R) {t u : Tree} (o : Result T NoMemory) → t ≡ u → IfOk o (Makes owns denotes r t) → IfOk o (Makes owns denotes r u)
-makes_is owns denotes r o e h = subst (λ z. IfOk o (Makes owns denotes r z)) e h
+pub bound_where_put : {A E : Type 0} {R T : Type 0} (owns : R → T → Type 0) (denotes : R → T → Tree) (old one two : R) (k : Keeps owns denotes old one) (l : Keeps owns denotes one two) (b e d : Bindings T) (i : ℕ) (t : T) (o : Result A E)
+    → MayBind owns denotes old b i t → HasRoom owns denotes old b i one e → IsPlaced e.levels.items i d.levels.items → IsNoted owns denotes one e.mentioned (denotes one t) two d.mentioned
+    → OnOk o (d.terms.items ≡ with_term e.terms.items i t) → OnOk o (IsBound owns denotes old b i t two d)
+bound_where_put owns denotes old one two k l b e d i t (Ok x) m h p n q = is_bound owns denotes old one two k l b e d i t m h p n q
+bound_where_put owns denotes old one two k l b e d i t (Err x) m h p n q = q

@@ -1,17 +1,18 @@
 -- What is found, from one call of a reducer to the next, and with one thing more.
 use Rattle.std.proofs.Common.{List, [], ◌∷◌, ◌++◌, ◌≡◌, ◌∙◌, ℕ, zero, suc, Option, Some, None, ap, refl, sym as flip, subst}
-use Rattle.std.specs.Prelude.{slice_set, ◌||◌}
+use Rattle.std.specs.Prelude.{slice_set, ◌||◌, true}
 use Rattle.dk_model.specs.Trees.{Tree}
 use Rattle.dk_model.specs.Signatures.{maybe_by}
 use Rattle.dk_model.specs.RuleTyping.{Guard as PlainGuard, Found as PlainFound, with_bindings}
-use Rattle.dk_model.specs.Captures.{capture_at}
 use Rattle.signature_log.specs.Reducers.{Keeps, OwnsSome, OwnsSomes}
 use Rattle.infer_check.specs.Contexts.{innermost_first}
 use Rattle.infer_check.proofs.Contexts.{owned_kept, innermost_kept}
 use Rattle.rule_check.specs.declared.found.Guard.{Guard}
 use Rattle.rule_check.specs.declared.found.Found.{Found}
 use Rattle.rule_check.specs.declared.found.Bindings.{Bindings}
-use Rattle.rule_check.specs.Mentioned.{is_marked, stands_in}
+use Rattle.rule_check.specs.Mentioned.{is_marked, stands_in, may_mention}
+use Rattle.rule_check.specs.Levels.{resolved, behind_first, AreLevelled}
+use Rattle.rule_check.proofs.Resolved.{levels_cover}
 use Rattle.rule_check.specs.Founds.{types_of, terms_of, guard_of, guards_of, found_of, OwnsGuard, OwnsGuards, OwnsBindings, OwnsFound, IsRebound}
 
 pub same_found : {ts us : List (Option Tree)} {gs hs : List PlainGuard} {xs ys : List (Option Tree)} → ts ≡ us → gs ≡ hs → xs ≡ ys
@@ -55,15 +56,16 @@ module _ {R T : Type 0} {owns : R → T → Type 0} {denotes : R → T → Tree}
   guards_of_kept (g ∷ gs) h = ap (λ x. x ∷ guards_of denotes new gs) (guard_kept g h.0) ∙ ap (λ (xs : List PlainGuard). guard_of denotes old g ∷ xs) (guards_of_kept gs h.1)
 
   pub terms_kept : (b : Bindings T) → OwnsBindings owns denotes old b → terms_of denotes new b ≡ terms_of denotes old b
-  terms_kept b h = types_of_kept b.terms.items h.own
+  terms_kept b h = ap (resolved (behind_first b.levels.items)) (types_of_kept b.terms.items h.own)
+
+  pub mentioned_kept : (b : Bindings T) → OwnsBindings owns denotes old b → (j : ℕ) → may_mention denotes old b.mentioned j ≡ true → may_mention denotes new b.mentioned j ≡ true
+  mentioned_kept b h j e = ap (λ o. is_marked b.mentioned.marks.items j || stands_in j o) (maybe_kept b.mentioned.term h.noted) ∙ e
 
   pub bindings_kept : (b : Bindings T) → OwnsBindings owns denotes old b → OwnsBindings owns denotes new b
   bindings_kept b h = record {
     own = owned_types_kept b.terms.items h.own;
-    closed = λ k u e. h.closed k u (ap (λ s. capture_at s k) (flip (terms_kept b h)) ∙ e);
     noted = some_kept b.mentioned.term h.noted;
-    covered = λ j k u e m. ap (λ o. is_marked b.mentioned.marks.items j || stands_in j o) (maybe_kept b.mentioned.term h.noted)
-        ∙ h.covered j k u (ap (λ s. capture_at s k) (flip (terms_kept b h)) ∙ e) m;
+    levels = subst (AreLevelled (may_mention denotes new b.mentioned) b.levels.items) (flip (types_of_kept b.terms.items h.own)) (levels_cover h.levels (may_mention denotes new b.mentioned) (mentioned_kept b h));
   }
 
   pub found_kept : (w : Found T) → OwnsFound owns denotes old w → OwnsFound owns denotes new w

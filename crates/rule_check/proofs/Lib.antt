@@ -9,4 +9,6 @@ pub mod Continuing
 pub mod Solving
 pub mod Bound
 pub mod Noting
+pub mod Rounds
+pub mod Resolved
 pub mod Marks

@@ -25,6 +25,7 @@ use Rattle.rule_check.specs.Founds.{types_of, terms_of, guards_of, found_of, Own
 use Rattle.rule_check.specs.Given.{GivesFound, GivesBindings, GivesPosed, IsKnown}
 use Rattle.rule_check.specs.Steps.{found_at, applied_type, met_first, later_fits, met}
 use Rattle.rule_check.proofs.Judging.{first_codomain_fails, first_given, meet_later_given, meet_later_fails}
+use Rattle.rule_check.proofs.Resolved.{levels_closed}
 use Rattle.rule_check.proofs.Founds.{same_found, found_kept, found_same, rebound_same, rebound_owned, terms_kept, types_set, types_of_kept, guards_of_kept, owned_set, types_pushed, owned_type_pushed}
 use Rattle.infer_check.proofs.Judging.{fails_next, fails_is, next_next}
 
@@ -66,7 +67,7 @@ module _ {R T : Type 0} {owns : R → T → Type 0} {denotes : R → T → Tree}
         → GivesType owns denotes (bound_type S (bound_types denotes old c) xs A n) new r m → BindsArgument owns denotes S old c b xs x n new r m
     argument_moved new xs x A n m r e g =
         let H : List Tree = map (under (terms_of denotes old b)) (bound_types denotes old c) in
-        let q : A ≡ variable_type H x = e ∙ variable_under (terms_of denotes old b) o.closed (bound_types denotes old c) x in
+        let q : A ≡ variable_type H x = e ∙ variable_under (terms_of denotes old b) (levels_closed o.levels) (bound_types denotes old c) x in
         let P : Tree → Type 0 = λ X. GivesType owns denotes (bound_type S (bound_types denotes old c) xs X n) new r m in
         let Q : ℕ → Type 0 = λ d. GivesType owns denotes (bound_by d xs (variable_type H x) n) new r m in
         subst Q (flip (map_length (under (terms_of denotes old b)) (bound_types denotes old c))) (subst P q g)

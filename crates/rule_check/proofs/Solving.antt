@@ -6,7 +6,8 @@ use Rattle.dk_model.specs.Trees.{Tree, star, kind, symbol, variable, rule_variab
 use Rattle.dk_model.specs.Signatures.{PlainSignature}
 use Rattle.dk_model.specs.Spines.{head, pairs_of}
 use Rattle.dk_model.specs.Bounds.{IsClosedAt}
-use Rattle.dk_model.specs.Bindings.{Bindings as PlainBindings, under, bound, may_bind}
+use Rattle.dk_model.specs.Captures.{capture_at}
+use Rattle.dk_model.specs.Bindings.{Bindings as PlainBindings, under, bound, mentions_rule_variable, may_bind}
 use Rattle.dk_model.specs.Evaluation.{whnf_of, comparison_of}
 use Rattle.dk_model.specs.Typing.{Judged, answer, refused, ended, after, next}
 use Rattle.dk_model.specs.RuleTyping.{Posed, later_type}
@@ -30,7 +31,8 @@ use Rattle.rule_check.specs.declared.found.Bindings.{Bindings}
 use Rattle.rule_check.specs.Founds.{terms_of, OwnsBindings}
 use Rattle.rule_check.specs.Given.{GivesBindings}
 use Rattle.rule_check.specs.Steps.{later_fits}
-use Rattle.rule_check.specs.Bindings.{IsBound}
+use Rattle.rule_check.specs.Levels.{IsFree}
+use Rattle.rule_check.specs.Bindings.{MayBind, IsBound}
 use Rattle.rule_check.proofs.Founds.{terms_kept, bindings_kept}
 use Rattle.rule_check.specs.Equations.{same_due, pair_of, pending, OwnsEquation, OwnsEquations, behind, set_apart, divided, heads_due, Divides, StepsTo, GivesEquations}
 
@@ -300,20 +302,37 @@ applied_step {owns = owns} {denotes = D} S at mid new k l one other one' other' 
 
 -- ---- a binding, or parts
 
-may_closed : (b : Bool) (j k : ℕ) (u : Tree) → may_bind j u ≡ b → Some k ≡ (if b then Some j else None) → IsClosedAt 0 u
-may_closed true j k u e q = (may_bind_is j u e).1
-may_closed false j k u e q = cc
+may_is : (b : Bool) (j k : ℕ) (u : Tree) → may_bind j u ≡ b → Some k ≡ (if b then Some j else None) → (j ≡ k) × (mentions_rule_variable k u ≡ false) × IsClosedAt 0 u
+may_is true j k u e q = let i = may_bind_is j u e in let x : j ≡ k = cc in (x, subst (λ l. mentions_rule_variable l u ≡ false) x i.0, i.1)
+may_is false j k u e q = cc
 
-pub binder_closed : (t u : Tree) (k : ℕ) → Some k ≡ binder_of t u → IsClosedAt 0 u
-binder_closed star u k e = cc
-binder_closed kind u k e = cc
-binder_closed (symbol j) u k e = cc
-binder_closed (variable j) u k e = cc
-binder_closed (rule_variable j) u k e = may_closed (may_bind j u) j k u refl e
-binder_closed (apply f a) u k e = cc
-binder_closed (bare b) u k e = cc
-binder_closed (annotated n b) u k e = cc
-binder_closed (product a b) u k e = cc
+-- the rule variable that may be bound to a term is the other one, doesn't stand in it, and the term is closed
+pub binder_is : (t u : Tree) (k : ℕ) → Some k ≡ binder_of t u → (t ≡ rule_variable k) × (mentions_rule_variable k u ≡ false) × IsClosedAt 0 u
+binder_is star u k e = cc
+binder_is kind u k e = cc
+binder_is (symbol j) u k e = cc
+binder_is (variable j) u k e = cc
+binder_is (rule_variable j) u k e = let i = may_is (may_bind j u) j k u refl e in (ap rule_variable i.0, i.1, i.2)
+binder_is (apply f a) u k e = cc
+binder_is (bare b) u k e = cc
+binder_is (annotated n b) u k e = cc
+binder_is (product a b) u k e = cc
+
+pub may_be_bound : {R T : Type 0} (owns : R → T → Type 0) (denotes : R → T → Tree) (old new : R) (k : Keeps owns denotes old new) (b : Bindings T) (i : ℕ) (t u : T) → OwnsBindings owns denotes old b → owns old u → IsFree (terms_of denotes old b) (denotes old t)
+    → IsFree (terms_of denotes old b) (denotes old u) → Some i ≡ binder_of (denotes old t) (denotes old u) → MayBind owns denotes new b i u
+may_be_bound owns denotes old new k b i t u w o f g e =
+    let s = terms_of denotes old b in
+    let h = binder_is (denotes old t) (denotes old u) i e in
+    let kept = terms_kept old new k b w in
+    let same : denotes new u ≡ denotes old u = k.same u o in
+    let unbound : capture_at s i ≡ None = subst (IsFree s) h.0 f in
+    record {
+      own = k.own u o;
+      closed = subst (IsClosedAt 0) (flip same) h.2;
+      free = subst (λ z. IsFree z (denotes new u)) (flip kept) (subst (IsFree s) (flip same) g);
+      unbound = ap (λ z. capture_at z i) kept ∙ unbound;
+      without = ap (mentions_rule_variable i) same ∙ h.1;
+    }
 
 abbrev rest_of : PlainSignature → Tree → Tree → PlainEquation
 rest_of S t u = parts_or (set_apart S t u) (rigid_parts S t u)

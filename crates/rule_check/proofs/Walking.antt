@@ -1,10 +1,9 @@
 -- A walk from one call of a reducer to the next, and along a spine.
-use Rattle.std.proofs.Common.{List, [], ◌∷◌, ◌++◌, ◌≡◌, ◌∙◌, ℕ, Option, Some, None, map, ap, refl, sym as flip, subst}
+use Rattle.std.proofs.Common.{List, [], ◌∷◌, ◌++◌, ◌≡◌, ◌∙◌, ℕ, Option, None, map, ap, refl, sym as flip, subst}
 use Rattle.std.specs.Prelude.{Result, replicate, zero, suc}
 use Rattle.dk_model.specs.Trees.{Tree, apply}
 use Rattle.dk_model.specs.Substitution.{substitute}
 use Rattle.dk_model.specs.Signatures.{Pattern, Patterns, more_patterns, pattern, maybe_by, PlainSignature}
-use Rattle.dk_model.specs.Captures.{capture_at}
 use Rattle.dk_model.specs.Bindings.{Bindings as PlainBindings, under}
 use Rattle.dk_model.specs.Typing.{Judged, answer, refused, ended, next, as_product}
 use Rattle.dk_model.specs.RuleTyping.{Found as PlainFound, Walked, as_expected, walked, spine_walked, types_under, type_or_kind, nothing_found}
@@ -20,9 +19,12 @@ use Rattle.infer_check.proofs.Spines.{map_pushed}
 use Rattle.rule_check.specs.declared.found.Found.{Found}
 use Rattle.rule_check.specs.declared.found.Bindings.{Bindings}
 use Rattle.rule_check.specs.Founds.{types_of, terms_of, guards_of, found_of, OwnsGuards, OwnsBindings, OwnsFound}
+use Rattle.rule_check.specs.Mentioned.{may_mention}
+use Rattle.rule_check.specs.Levels.{resolved, behind_first, AreLevelled}
 use Rattle.rule_check.specs.Steps.{argument_walked}
 use Rattle.rule_check.specs.Given.{GivesTerm}
 use Rattle.rule_check.proofs.Founds.{same_found, maybe_kept, terms_kept}
+use Rattle.rule_check.proofs.Resolved.{nothing_levelled}
 use Rattle.rule_check.proofs.Moving.{moved_over}
 use Rattle.rule_check.proofs.Sizes.{plain_patterns}
 
@@ -118,9 +120,8 @@ none_types_owned owns r (suc n) = (tt, none_types_owned owns r n)
 no_bindings : {R T : Type 0} (owns : R → T → Type 0) (denotes : R → T → Tree) (r : R) (b : Bindings T) → b.terms.items ≡ [] → b.mentioned.term ≡ None → OwnsBindings owns denotes r b
 no_bindings owns denotes r b e f = record {
   own = subst (OwnsSomes owns r) (flip e) tt;
-  closed = λ k u q. let h : capture_at [] k ≡ Some u = ap (λ bs. capture_at (types_of denotes r bs) k) (flip e) ∙ q in cc;
   noted = subst (OwnsSome owns r) (flip f) tt;
-  covered = λ j k u q m. let h : capture_at [] k ≡ Some u = ap (λ bs. capture_at (types_of denotes r bs) k) (flip e) ∙ q in cc;
+  levels = subst (AreLevelled (may_mention denotes r b.mentioned) b.levels.items) (flip (ap (types_of denotes r) e)) (nothing_levelled (may_mention denotes r b.mentioned) b.levels.items);
 }
 
 pub nothing_owned : {R T : Type 0} (owns : R → T → Type 0) (denotes : R → T → Tree) (r : R) (w : Found T) (n : ℕ) → w.types.items ≡ replicate n None → w.guards.items ≡ [] → w.bindings.terms.items ≡ [] → w.bindings.mentioned.term ≡ None
@@ -128,4 +129,4 @@ pub nothing_owned : {R T : Type 0} (owns : R → T → Type 0) (denotes : R → 
 nothing_owned owns denotes r w n e f g h = record { types = subst (OwnsSomes owns r) (flip e) (none_types_owned owns r n); guards = subst (OwnsGuards owns r) (flip f) tt; bindings = no_bindings owns denotes r w.bindings g h }
 
 pub nothing_is : {R T : Type 0} (denotes : R → T → Tree) (r : R) (w : Found T) (n : ℕ) → w.types.items ≡ replicate n None → w.guards.items ≡ [] → w.bindings.terms.items ≡ [] → found_of denotes r w ≡ nothing_found n
-nothing_is denotes r w n e f g = same_found (ap (types_of denotes r) e ∙ none_types denotes r n) (ap (guards_of denotes r) f) (ap (types_of denotes r) g)
+nothing_is denotes r w n e f g = same_found (ap (types_of denotes r) e ∙ none_types denotes r n) (ap (guards_of denotes r) f) (ap (λ bs. resolved (behind_first w.bindings.levels.items) (types_of denotes r bs)) g)

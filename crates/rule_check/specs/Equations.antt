@@ -14,6 +14,7 @@ use Rattle.dk_model.specs.declared.stop.TypeFault.TheVariants.{Refused, Ended, N
 use Rattle.infer_check.specs.Given.{Fails}
 use Rattle.rule_check.specs.declared.equation.Equation.{Equation}
 use Rattle.rule_check.specs.declared.found.Bindings.{Bindings}
+use Rattle.rule_check.specs.Levels.{IsFree}
 use Rattle.rule_check.specs.Founds.{terms_of, OwnsBindings}
 
 module _ {R T : Type 0} (denotes : R → T → Tree) (r : R) where
@@ -58,6 +59,11 @@ GivesSame due (Err fault) left = Fails fault left due
 -- the weak head forms of two terms under bindings
 abbrev pub heads_due : PlainSignature → PlainBindings → Tree → Tree → ℕ → Judged (Tree × Tree)
 heads_due S s t u n = after (whnf_of S n t) (λ v m. after (whnf_of S m u) (λ w i. answer (under s v, under s w) i))
+
+-- both sides mention no rule variable that is bound
+pub record AreBothFree {R T : Type 0} (denotes : R → T → Tree) (b : Bindings T) (r : R) (e : Equation T) : Type 0 where
+  pub one : IsFree (terms_of denotes r b) (denotes r e.one)
+  pub other : IsFree (terms_of denotes r b) (denotes r e.other)
 
 module _ {R T : Type 0} (owns : R → T → Type 0) (denotes : R → T → Tree) where
   -- both sides under bindings

@@ -1,10 +1,10 @@
 -- For proofs: what a walk has found, as terms, and that its values are a reducer's.
-use Rattle.std.specs.Prelude.{ℕ, ◌≡◌, List, [], ◌∷◌, Option, Some, map, true}
+use Rattle.std.specs.Prelude.{ℕ, ◌≡◌, List, [], ◌∷◌, Option, Some, map}
 use Rattle.dk_model.specs.Trees.{Tree}
 use Rattle.dk_model.specs.Signatures.{maybe_by}
 use Rattle.dk_model.specs.Bounds.{IsClosedAt}
 use Rattle.dk_model.specs.Captures.{capture_at}
-use Rattle.dk_model.specs.Bindings.{under, mentions_rule_variable}
+use Rattle.dk_model.specs.Bindings.{under}
 use Rattle.dk_model.specs.RuleTyping.{Guard as PlainGuard, Found as PlainFound, types_under}
 use Rattle.signature_log.specs.Reducers.{AreOwned, OwnsSome, OwnsSomes}
 use Rattle.infer_check.specs.Contexts.{innermost_first}
@@ -12,15 +12,16 @@ use Rattle.rule_check.specs.declared.found.Guard.{Guard}
 use Rattle.rule_check.specs.declared.found.Found.{Found}
 use Rattle.rule_check.specs.declared.found.Bindings.{Bindings}
 use Rattle.rule_check.specs.Mentioned.{may_mention}
+use Rattle.rule_check.specs.Levels.{resolved, behind_first, AreLevelled}
 
 module _ {R T : Type 0} (denotes : R → T → Tree) (r : R) where
   -- the types of the rule variables
   abbrev pub types_of : List (Option T) → List (Option Tree)
   types_of ts = map (maybe_by (denotes r)) ts
 
-  -- what the rule variables are bound to
+  -- what the rule variables are bound to, with the bindings put into it
   abbrev pub terms_of : Bindings T → List (Option Tree)
-  terms_of b = types_of b.terms.items
+  terms_of b = resolved (behind_first b.levels.items) (types_of b.terms.items)
 
   abbrev pub guard_of : Guard T → PlainGuard
   guard_of g = record { context = innermost_first denotes r g.bound; term = denotes r g.term; typ = denotes r g.typ }
@@ -47,12 +48,12 @@ abbrev pub AreClosed : List (Option Tree) → Type 0
 AreClosed s = (k : ℕ) (u : Tree) → capture_at s k ≡ Some u → IsClosedAt 0 u
 
 module _ {R T : Type 0} (owns : R → T → Type 0) (denotes : R → T → Tree) (r : R) where
-  -- that what rule variables are bound to is the reducer's, and closed, and that the rule variables that stand in it are noted
+  -- that what rule variables are bound to is the reducer's, and closed, mentions only what was bound behind it, and that the
+  -- rule variables that stand in it are noted
   pub record OwnsBindings (b : Bindings T) : Type 0 where
     pub own : OwnsSomes owns r b.terms.items
-    pub closed : AreClosed (terms_of denotes r b)
     pub noted : OwnsSome owns r b.mentioned.term
-    pub covered : (j k : ℕ) (u : Tree) → capture_at (terms_of denotes r b) k ≡ Some u → mentions_rule_variable j u ≡ true → may_mention denotes r b.mentioned j ≡ true
+    pub levels : AreLevelled (may_mention denotes r b.mentioned) b.levels.items (types_of denotes r b.terms.items)
 
   -- that the values of what is found are the reducer's
   pub record OwnsFound (w : Found T) : Type 0 where

@@ -1,4 +1,5 @@
 pub mod Mentioned
+pub mod Levels
 pub mod Founds
 pub mod Bindings
 pub mod Equations

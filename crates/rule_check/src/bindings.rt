@@ -1,7 +1,7 @@
 //! What rule variables are bound to while a left side is typed, and terms under these bindings.
-ghost use Rattle.std.specs.Prelude.{◌≡◌, ◌≤◌, ◌++◌, ◌∷◌, [], IfOk, OnOk, Some, None, replicate};
-ghost use Rattle.dk_model.specs.Signatures.{PlainSignature};
-ghost use Rattle.dk_model.specs.Bounds.{IsClosedAt};
+ghost use Rattle.std.specs.Prelude.{◌≡◌, ◌≤◌, ◌<◌, IfOk, OnOk, IsTrue, length};
+ghost use Rattle.dk_model.specs.Signatures.{PlainSignature, maybe_by};
+ghost use Rattle.dk_model.specs.Captures.{capture_at};
 ghost use Rattle.dk_model.specs.Bindings.{under};
 ghost use Rattle.dk_model.specs.Typing.{as_product};
 ghost use Rattle.dk_model.specs.declared.code.Code.TheVariants.{E34};
@@ -10,17 +10,17 @@ ghost use Rattle.signature_log.specs.Reducers.{Keeps, Makes, OwnsSome, OwnsSomes
 ghost use Rattle.infer_check.specs.Given.{GivesProduct};
 ghost use Rattle.infer_check.specs.Walks.{Follows};
 ghost use Rattle.rule_check.specs.Founds.{types_of, terms_of, AreClosed, OwnsBindings};
-ghost use Rattle.rule_check.specs.Bindings.{with_term, IsSomeUnder, AreUnder, IsReplaced, IsBound};
+ghost use Rattle.rule_check.specs.Levels.{put_into, put_into_each};
+ghost use Rattle.rule_check.specs.Bindings.{with_term, IsSomeUnder, ArePut, IsStill, HasRoom, MayBind, IsBound};
 
 use crate::found::Bindings;
+use crate::levels::{join, place, small_level};
 use crate::mentioned::{is_mentioned, note};
 use dk_model::{Code, NoMemory, TypeFault};
 use infer_check::{Product, into_product};
 use signature_log::{Reducer, Version};
-use std::alloc::Global;
 
 /// A term with each bound rule variable replaced.
-#[tactic(auto, using(signature_log::proofs::Keeping::keeps_none))]
 pub(crate) fn under<R: Reducer>(
     r: &mut R,
     bindings: &Bindings<R::T>,
@@ -33,17 +33,14 @@ pub(crate) fn under<R: Reducer>(
     ensures keeps { Keeps R.owns R.denotes r.old r.new }
     ensures serves { (S : PlainSignature) → R.serves S r.old → R.serves S r.new }
 {
-    match bindings.terms.as_slice() {
-        [] => Ok(term),
-        terms => {
-            let filled = r.fill(&term, terms)?;
-            Ok(filled)
-        }
+    let mut term = term;
+    for _ in 0..bindings.levels.len() {
+        term = r.fill(&term, bindings.terms.as_slice())?;
     }
+    Ok(term)
 }
 
 /// The same of a term that is needed again.
-#[tactic(auto, using(signature_log::proofs::Keeping::keeps_none))]
 pub(crate) fn copy_under<R: Reducer>(
     r: &mut R,
     bindings: &Bindings<R::T>,
@@ -56,30 +53,11 @@ pub(crate) fn copy_under<R: Reducer>(
     ensures keeps { Keeps R.owns R.denotes r.old r.new }
     ensures serves { (S : PlainSignature) → R.serves S r.old → R.serves S r.new }
 {
-    match bindings.terms.as_slice() {
-        [] => {
-            let copy = r.copy(term)?;
-            Ok(copy)
-        }
-        terms => {
-            let filled = r.fill(term, terms)?;
-            Ok(filled)
-        }
-    }
+    let copy = r.copy(term)?;
+    under(r, bindings, copy)
 }
 
-/// A term for this rule variable alone.
-fn alone<T: Drop>(alloc: Global, number: u32, term: T) -> Result<Vec<Option<T>>, NoMemory>
-    ensures { IfOk result (λ terms. terms.items ≡ replicate number None ++ Some term ∷ []) }
-{
-    let mut terms = Vec::new(alloc);
-    for _ in 0..number {
-        terms.push(None)?;
-    }
-    terms.push(Some(term))?;
-    Ok(terms)
-}
-
+/// What others are bound to, put into a term that is bound, if one is.
 fn some_under<R: Reducer>(
     r: &mut R,
     terms: &[Option<R::T>],
@@ -89,7 +67,7 @@ fn some_under<R: Reducer>(
     requires terms { OwnsSomes R.owns r.old terms.now }
     requires closed { AreClosed (types_of R.denotes r.old terms.now) }
     ensures under { IfOk result
-        (IsSomeUnder R.owns R.denotes r.old terms.now term.now r.new) }
+        (IsSomeUnder R.owns R.denotes r.old terms.now (maybe_by (R.denotes r.old) term.now) r.new) }
     ensures keeps { Keeps R.owns R.denotes r.old r.new }
     ensures serves { (S : PlainSignature) → R.serves S r.old → R.serves S r.new }
 {
@@ -99,72 +77,22 @@ fn some_under<R: Reducer>(
     }
 }
 
-/// What these rule variables are bound to, with terms for others.
-#[tactic(auto, using(signature_log::proofs::Keeping::keeps_none))]
-fn all_under<R: Reducer>(
+/// The same of what a rule variable is bound to.
+fn bound_under<R: Reducer>(
     r: &mut R,
     terms: &[Option<R::T>],
-    others: &[Option<R::T>],
-) -> Result<Vec<Option<R::T>>, NoMemory>
+    number: u32,
+) -> Result<Option<R::T>, NoMemory>
     requires terms { OwnsSomes R.owns r.old terms.now }
     requires closed { AreClosed (types_of R.denotes r.old terms.now) }
-    requires others { OwnsSomes R.owns r.old others.now }
-    ensures under { IfOk result
-        (λ all. AreUnder R.owns R.denotes r.old terms.now others.now r.new all.items) }
+    ensures under { IfOk result (IsSomeUnder R.owns R.denotes r.old terms.now
+        (capture_at (types_of R.denotes r.old terms.now) number) r.new) }
     ensures keeps { Keeps R.owns R.denotes r.old r.new }
     ensures serves { (S : PlainSignature) → R.serves S r.old → R.serves S r.new }
 {
-    let mut all = Vec::new(r.alloc());
-    let mut rest = others;
-    while let Some((first, others)) = rest.split_first() {
-        let term = some_under(r, terms, first)?;
-        all.push(term)?;
-        rest = others;
-    }
-    Ok(all)
-}
-
-/// Replaces a rule variable in what others are bound to.
-fn replace<R: Reducer>(
-    r: &mut R,
-    terms: &mut Vec<Option<R::T>>,
-    number: u32,
-    term: &R::T,
-) -> Result<(), NoMemory>
-    requires own { R.owns r.old term.now }
-    requires closed { IsClosedAt 0 (R.denotes r.old term.now) }
-    requires terms { OwnsSomes R.owns r.old terms.old.items }
-    ensures replaced { OnOk result (IsReplaced R.owns R.denotes r.old terms.old.items number
-        (R.denotes r.old term.now) r.new terms.new.items) }
-    ensures keeps { Keeps R.owns R.denotes r.old r.new }
-    ensures serves { (S : PlainSignature) → R.serves S r.old → R.serves S r.new }
-{
-    let copy = r.copy(term)?;
-    let alone = alone(r.alloc(), number, copy)?;
-    *terms = all_under(r, alone.as_slice(), terms.as_slice())?;
-    Ok(())
-}
-
-/// The same, without a look at each where it stands in none.
-fn replace_where_mentioned<R: Reducer>(
-    r: &mut R,
-    bindings: &mut Bindings<R::T>,
-    number: u32,
-    term: &R::T,
-) -> Result<(), NoMemory>
-    requires own { R.owns r.old term.now }
-    requires closed { IsClosedAt 0 (R.denotes r.old term.now) }
-    requires bindings { OwnsBindings R.owns R.denotes r.old bindings.old }
-    ensures replaced { OnOk result (IsReplaced R.owns R.denotes r.old bindings.old.terms.items
-        number (R.denotes r.old term.now) r.new bindings.new.terms.items) }
-    ensures mentioned { OnOk result (bindings.new.mentioned ≡ bindings.old.mentioned) }
-    ensures keeps { Keeps R.owns R.denotes r.old r.new }
-    ensures serves { (S : PlainSignature) → R.serves S r.old → R.serves S r.new }
-{
-    if is_mentioned(r, &bindings.mentioned, number)? {
-        replace(r, &mut bindings.terms, number, term)
-    } else {
-        Ok(())
+    match terms.get(number as usize) {
+        Some(term) => some_under(r, terms, term),
+        None => Ok(None),
     }
 }
 
@@ -180,6 +108,101 @@ fn put<T: Drop>(terms: &mut Vec<Option<T>>, number: u32, term: T) -> Result<(), 
     Ok(())
 }
 
+/// Puts what others are bound to into what a rule variable is bound to.
+fn put_into<R: Reducer>(
+    r: &mut R,
+    terms: &mut Vec<Option<R::T>>,
+    number: u32,
+) -> Result<(), NoMemory>
+    requires terms { OwnsSomes R.owns r.old terms.old.items }
+    requires closed { AreClosed (types_of R.denotes r.old terms.old.items) }
+    ensures put { OnOk result (ArePut R.owns R.denotes
+        (put_into (types_of R.denotes r.old terms.old.items) number) r.new terms.new.items) }
+    ensures keeps { Keeps R.owns R.denotes r.old r.new }
+    ensures serves { (S : PlainSignature) → R.serves S r.old → R.serves S r.new }
+{
+    match bound_under(r, terms.as_slice(), number)? {
+        Some(term) => put(terms, number, term),
+        None => Ok(()),
+    }
+}
+
+/// The same for each of these.
+fn put_into_each<R: Reducer>(
+    r: &mut R,
+    terms: &mut Vec<Option<R::T>>,
+    numbers: &[u32],
+) -> Result<(), NoMemory>
+    requires terms { OwnsSomes R.owns r.old terms.old.items }
+    requires closed { AreClosed (types_of R.denotes r.old terms.old.items) }
+    ensures put { OnOk result (ArePut R.owns R.denotes
+        (put_into_each (types_of R.denotes r.old terms.old.items) numbers.now) r.new
+        terms.new.items) }
+    ensures keeps { Keeps R.owns R.denotes r.old r.new }
+    ensures serves { (S : PlainSignature) → R.serves S r.old → R.serves S r.new }
+{
+    let mut rest = numbers;
+    while let Some((first, others)) = rest.split_first() {
+        put_into(r, terms, *first)?;
+        rest = others;
+    }
+    Ok(())
+}
+
+/// Joins the last two levels, where the one before the last isn't twice as large. Answers whether it did.
+fn join_last<R: Reducer>(r: &mut R, bindings: &mut Bindings<R::T>) -> Result<bool, NoMemory>
+    requires { OwnsBindings R.owns R.denotes r.old bindings.old }
+    ensures still { OnOk result
+        (IsStill R.owns R.denotes r.old bindings.old r.new bindings.new) }
+    ensures fewer { IfOk result (λ b. IsTrue b
+        → length bindings.new.levels.items < length bindings.old.levels.items) }
+    ensures keeps { Keeps R.owns R.denotes r.old r.new }
+    ensures serves { (S : PlainSignature) → R.serves S r.old → R.serves S r.new }
+{
+    match small_level(bindings.levels.as_slice()) {
+        Some(level) => put_into_each(r, &mut bindings.terms, level)?,
+        None => return Ok(false),
+    }
+    join(r.alloc(), &mut bindings.levels)?;
+    Ok(true)
+}
+
+/// Joins the last levels until each is at least twice as large as the one behind it.
+fn join_levels<R: Reducer>(r: &mut R, bindings: &mut Bindings<R::T>) -> Result<(), NoMemory>
+    requires { OwnsBindings R.owns R.denotes r.old bindings.old }
+    ensures still { OnOk result
+        (IsStill R.owns R.denotes r.old bindings.old r.new bindings.new) }
+    ensures keeps { Keeps R.owns R.denotes r.old r.new }
+    ensures serves { (S : PlainSignature) → R.serves S r.old → R.serves S r.new }
+{
+    loop {
+        if !join_last(r, bindings)? {
+            return Ok(());
+        }
+    }
+}
+
+/// Begins a level where the rule variable may stand in what another is bound to.
+///
+/// The last levels are joined before, so that there are few, and what is in a level is gone through few times.
+fn make_room<R: Reducer>(
+    r: &mut R,
+    bindings: &mut Bindings<R::T>,
+    number: u32,
+) -> Result<(), NoMemory>
+    requires { OwnsBindings R.owns R.denotes r.old bindings.old }
+    ensures room { OnOk result
+        (HasRoom R.owns R.denotes r.old bindings.old number r.new bindings.new) }
+    ensures keeps { Keeps R.owns R.denotes r.old r.new }
+    ensures serves { (S : PlainSignature) → R.serves S r.old → R.serves S r.new }
+{
+    if is_mentioned(r, &bindings.mentioned, number)? {
+        join_levels(r, bindings)?;
+        bindings.levels.push(Vec::new(r.alloc()))?;
+    }
+    Ok(())
+}
+
 /// Binds a further rule variable: it is replaced in what the others are bound to.
 pub(crate) fn bind<R: Reducer>(
     r: &mut R,
@@ -187,15 +210,15 @@ pub(crate) fn bind<R: Reducer>(
     number: u32,
     term: R::T,
 ) -> Result<(), NoMemory>
-    requires own { R.owns r.old term }
-    requires closed { IsClosedAt 0 (R.denotes r.old term) }
+    requires term { MayBind R.owns R.denotes r.old bindings.old number term }
     requires bindings { OwnsBindings R.owns R.denotes r.old bindings.old }
     ensures bound { OnOk result
         (IsBound R.owns R.denotes r.old bindings.old number term r.new bindings.new) }
     ensures keeps { Keeps R.owns R.denotes r.old r.new }
     ensures serves { (S : PlainSignature) → R.serves S r.old → R.serves S r.new }
 {
-    replace_where_mentioned(r, bindings, number, &term)?;
+    make_room(r, bindings, number)?;
+    place(r.alloc(), &mut bindings.levels, number)?;
     note(r, &mut bindings.mentioned, &term)?;
     put(&mut bindings.terms, number, term)
 }

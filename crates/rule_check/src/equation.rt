@@ -10,7 +10,7 @@ ghost use Rattle.infer_check.specs.Spine.{is_application};
 ghost use Rattle.infer_check.specs.Walks.{Follows, Continues};
 ghost use Rattle.rule_check.specs.Founds.{terms_of, OwnsBindings, IsRebound};
 ghost use Rattle.rule_check.specs.Given.{GivesBindings};
-ghost use Rattle.rule_check.specs.Equations.{pending, divided, set_apart, same_due, heads_due, OwnsEquation, OwnsEquations, AreBothUnder, GivesSame, GivesPair, Divides, StepsTo, GivesEquations};
+ghost use Rattle.rule_check.specs.Equations.{pending, divided, set_apart, same_due, heads_due, OwnsEquation, OwnsEquations, AreBothUnder, AreBothFree, GivesSame, GivesPair, Divides, StepsTo, GivesEquations};
 
 use crate::bindings::{bind, under};
 use crate::found::{Bindings, LeftWalk};
@@ -139,6 +139,7 @@ fn both_under<R: Reducer>(
     requires bindings { OwnsBindings R.owns R.denotes r.old bindings.now }
     ensures under { IfOk result
         (AreBothUnder R.owns R.denotes r.old bindings.now equation r.new) }
+    ensures free { IfOk result (AreBothFree R.denotes bindings.now r.new) }
     ensures keeps { Keeps R.owns R.denotes r.old r.new }
     ensures serves { (S : PlainSignature) → R.serves S r.old → R.serves S r.new }
 {
@@ -162,6 +163,7 @@ fn heads<R: Reducer>(
     ensures gives { GivesPair R.owns R.denotes (heads_due (entries_of version.now)
         (terms_of R.denotes r.old bindings.now) (R.denotes r.old equation.one)
         (R.denotes r.old equation.other) left.old) r.new result left.new }
+    ensures free { IfOk result (AreBothFree R.denotes bindings.now r.new) }
     ensures follows { Follows R.owns R.denotes R.serves (entries_of version.now) r.old r.new }
     ensures spent { left.new ≤ left.old }
 {
@@ -200,6 +202,7 @@ fn step<R: Reducer>(
 ) -> Result<Vec<Equation<R::T>>, TypeFault>
     requires own { OwnsEquation R.owns r.old equation }
     requires bindings { OwnsBindings R.owns R.denotes r.old bindings.old }
+    requires free { AreBothFree R.denotes bindings.old r.old equation }
     ensures steps { StepsTo R.owns R.denotes (terms_of R.denotes r.old bindings.old)
         (equation_of (entries_of version.now) (R.denotes r.old equation.one)
         (R.denotes r.old equation.other)) r.new bindings.new result }

@@ -29,9 +29,14 @@ pub struct Found<T> {
 }
 
 /// What rule variables are bound to by the equations so far, each at the place of its number.
+///
+/// A term may mention rule variables that were bound behind it: those of the levels behind its own. So a term is under all
+/// bindings once each was put into it as often as there are levels.
 #[derive(Drop)]
 pub struct Bindings<T> {
     pub terms: Vec<Option<T>>,
+    /// The rule variables that are bound.
+    pub levels: Vec<Vec<u32>>,
     pub mentioned: Mentioned<T>,
 }
 
@@ -81,6 +86,7 @@ impl<T: Drop> Found<T> {
             guards: Vec::new(alloc),
             bindings: Bindings {
                 terms: Vec::new(alloc),
+                levels: Vec::new(alloc),
                 mentioned: Mentioned {
                     marks: Vec::new(alloc),
                     term: None,

@@ -8,6 +8,7 @@ mod compare;
 mod equation;
 mod found;
 mod guards;
+mod levels;
 mod mentioned;
 mod occurrence;
 mod sides;

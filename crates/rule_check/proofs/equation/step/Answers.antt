@@ -1,20 +1,18 @@
-use Rattle.std.proofs.Common.{rules, ◌≡◌, ◌∙◌, ap, Some, None, [], sym as flip, subst}
-use Rattle.dk_model.specs.Bounds.{IsClosedAt}
+use Rattle.std.proofs.Common.{rules, ◌≡◌, ◌∙◌, ap, Some, None, [], sym as flip}
 use Rattle.dk_model.specs.Solving.{binder_of, equation_of}
 use Rattle.signature_log.specs.Versions.{entries_of}
 use Rattle.signature_log.proofs.Keeping.{keeps_further}
 use Rattle.rule_check.specs.Founds.{terms_of}
 use Rattle.rule_check.specs.Equations.{divided}
 use Rattle.rule_check.proofs.Founds.{bindings_kept, terms_kept}
-use Rattle.rule_check.proofs.Solving.{binder_closed, binders_same, first_binds, second_binds, no_binds, step_binds, step_parts}
+use Rattle.rule_check.proofs.Solving.{may_be_bound, binders_same, first_binds, second_binds, no_binds, step_binds, step_parts}
 use Rattle.rule_check.proofs.equation.step.Goals as goal
 
-pub bind-requires-clause-closed : goal.bind-requires-clause-closed
-bind-requires-clause-closed g c =
-    let D = g.R.Reducer.denotes in
-    let r = c.args.r.now in
+pub bind-requires-clause-term : goal.bind-requires-clause-term
+bind-requires-clause-term g c =
     let e = c.args.equation in
-    subst (IsClosedAt 0) (flip (c.in_ok-number.ensures.keeps.same e.other c.requires.own.other)) (binder_closed (D r e.one) (D r e.other) c.in-Some.number (flip c.in-Some.is ∙ c.in_ok-number.ensures.binder))
+    may_be_bound g.R.Reducer.owns g.R.Reducer.denotes c.args.r.now c.binder.new.r c.in_ok-number.ensures.keeps c.args.bindings.now c.in-Some.number e.one e.other c.requires.bindings c.requires.own.other c.requires.free.one c.requires.free.other
+    (flip c.in-Some.is ∙ c.in_ok-number.ensures.binder)
 
 pub bind-requires-clause-bindings : goal.bind-requires-clause-bindings
 bind-requires-clause-bindings g c = bindings_kept c.args.r.now c.binder.new.r c.in_ok-number.ensures.keeps c.args.bindings.now c.requires.bindings
@@ -28,14 +26,14 @@ returns-in-Some-clause-steps g c =
     step_binds g.R.Reducer.owns D r c.binder.new.r c.bind.new.r c.in_ok-number.ensures.keeps c.args.bindings.now c.bind.new.bindings (equation_of S (D r e.one) (D r e.other)) e.other c.in-Some.number c.new.result
     c.requires.bindings c.requires.own.other (first_binds S (D r e.one) (D r e.other) c.in-Some.number (flip c.in-Some.is ∙ c.in_ok-number.ensures.binder)) c.in_ok-bind.ensures.bound c.new.ensures.items
 
-pub bind-requires-in-Some-2-clause-closed : goal.bind-requires-in-Some-2-clause-closed
-bind-requires-in-Some-2-clause-closed g c =
-    let D = g.R.Reducer.denotes in
+pub bind-requires-in-Some-2-clause-term : goal.bind-requires-in-Some-2-clause-term
+bind-requires-in-Some-2-clause-term g c =
     let r = c.args.r.now in
-    let mid = c.binder.new.r in
     let e = c.args.equation in
-    subst (IsClosedAt 0) (flip (c.in_ok-number-2.ensures.keeps.same e.one (c.in_ok-number.ensures.keeps.own e.one c.requires.own.one)))
-    (binder_closed (D mid e.other) (D mid e.one) c.in-Some-2.number (flip c.in-Some-2.is ∙ c.in_ok-number-2.ensures.binder))
+    let k = c.in_ok-number.ensures.keeps in
+    may_be_bound g.R.Reducer.owns g.R.Reducer.denotes r c.binder-2.new.r (keeps_further r c.binder.new.r c.binder-2.new.r k c.in_ok-number-2.ensures.keeps) c.args.bindings.now c.in-Some-2.number e.other e.one c.requires.bindings c.requires.own.one
+    c.requires.free.other c.requires.free.one
+    (binders_same (Some c.in-Some-2.number) (flip c.in-Some-2.is ∙ c.in_ok-number-2.ensures.binder) (k.same e.other c.requires.own.other) (k.same e.one c.requires.own.one))
 
 pub bind-requires-in-Some-2-clause-bindings : goal.bind-requires-in-Some-2-clause-bindings
 bind-requires-in-Some-2-clause-bindings g c = bindings_kept c.args.r.now c.binder-2.new.r (keeps_further c.args.r.now c.binder.new.r c.binder-2.new.r c.in_ok-number.ensures.keeps c.in_ok-number-2.ensures.keeps) c.args.bindings.now c.requires.bindings
