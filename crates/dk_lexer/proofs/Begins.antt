@@ -32,6 +32,7 @@ colon_leaves (c ∷ cs) = colon_by (class_of c) (length cs)
 
 equals_by : (c : Class) (left : ℕ) → Leaves (suc left) (equals_before c left)
 equals_by class.Greater left = omega arith
+equals_by class.Equals left = omega arith
 equals_by _ left = omega arith
 
 pub equals_leaves : (bs : List ℕ) → Leaves (length bs) (behind_equals bs)

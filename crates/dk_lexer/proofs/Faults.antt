@@ -156,6 +156,7 @@ colon_told l c b = settles_told l (kind.Sign sign.Colon) [] c b
 
 equals_tells : (l : Lexer) (c : Class) (b : ℕ) → Tells (equals_step l c b)
 equals_tells l class.Greater b = completes_tells l (kind.Sign sign.DoubleArrow) [] b
+equals_tells l class.Equals b = completes_tells l (kind.Sign sign.Equal) [] b
 equals_tells l _ b = refl
 
 minus_tells : (l : Lexer) (c : Class) (b : ℕ) → Tells (minus_step l c b)

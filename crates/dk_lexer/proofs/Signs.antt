@@ -71,6 +71,7 @@ colon_does e total l c b bs ih is at fits = settles_mid e total l (kind.Sign sig
 pub equals_does : (e : Ending) (total : ℕ) (l : Lexer) (c : Class) (b : ℕ) (bs : List ℕ) → AllAgree e total bs → l.here.offset + suc (length bs) ≡ total → FitsOwn l →
     does (one (equals_step l c b)) bs e ≡ mid l e total (equals_before c (length bs)) (b ∷ bs)
 equals_does e total l class.Greater b bs ih at fits = completes_mid e total l (kind.Sign sign.DoubleArrow) [] b bs ih at fits
+equals_does e total l class.Equals b bs ih at fits = completes_mid e total l (kind.Sign sign.Equal) [] b bs ih at fits
 equals_does e total l c b bs ih at fits = wrong_mid e total l E01 b bs at fits
 
 pub two_minus_does : (e : Ending) (total : ℕ) (l : Lexer) (c : Class) (b : ℕ) (bs : List ℕ) → AllAgree e total bs → l.here.offset + suc (length bs) ≡ total → FitsOwn l →

@@ -207,6 +207,9 @@ sign_by class.Colon (Some e) (d ∷ ds) l ts b p c_is n_is is fits =
 sign_by class.Equals (Some class.Greater) (d ∷ ds) l ts b p c_is n_is is fits =
     let e_is : class.Greater ≡ class_of d = cc in
     same_sign l ts (b ∷ d ∷ ds) p sign.DoubleArrow 1 (cc) fits (double_signed l ts sign.DoubleArrow part.Equals class.Equals class.Greater b d ds c_is refl e_is refl (λ m. refl) (λ m. refl))
+sign_by class.Equals (Some class.Equals) (d ∷ ds) l ts b p c_is n_is is fits =
+    let e_is : class.Equals ≡ class_of d = cc in
+    same_sign l ts (b ∷ d ∷ ds) p sign.Equal 1 (cc) fits (double_signed l ts sign.Equal part.Equals class.Equals class.Equals b d ds c_is refl e_is refl (λ m. refl) (λ m. refl))
 sign_by class.Minus (Some class.Greater) (d ∷ ds) l ts b p c_is n_is is fits =
     let e_is : class.Greater ≡ class_of d = cc in
     same_sign l ts (b ∷ d ∷ ds) p sign.Arrow 1 (cc) fits (double_signed l ts sign.Arrow part.Minus class.Minus class.Greater b d ds c_is refl e_is refl (λ m. refl) (λ m. refl))

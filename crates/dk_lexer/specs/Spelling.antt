@@ -215,6 +215,7 @@ behind_colon (c ∷ cs) = colon_before (class_of c) (length cs)
 
 abbrev pub equals_before : Class → ℕ → Spelling
 equals_before class.Greater left = sign_spelled sign.DoubleArrow left
+equals_before class.Equals left = sign_spelled sign.Equal left
 equals_before _ left = wrong E01 (suc left)
 
 abbrev pub behind_equals : List ℕ → Spelling

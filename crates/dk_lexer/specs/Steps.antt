@@ -230,6 +230,7 @@ colon_step l class b = settles l (kind.Sign sign.Colon) [] class b
 
 abbrev pub equals_step : Lexer → Class → ℕ → Move
 equals_step l class.Greater b = completes l (kind.Sign sign.DoubleArrow) [] b
+equals_step l class.Equals b = completes l (kind.Sign sign.Equal) [] b
 equals_step l class b = fails l E01
 
 abbrev pub minus_step : Lexer → Class → ℕ → Move

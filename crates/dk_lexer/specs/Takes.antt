@@ -87,6 +87,7 @@ front_sign class.CloseBrace next = Some (sign.CloseBrace, 1)
 front_sign class.Colon (Some class.Equals) = Some (sign.Defined, 2)
 front_sign class.Colon (Some next) = Some (sign.Colon, 1)
 front_sign class.Equals (Some class.Greater) = Some (sign.DoubleArrow, 2)
+front_sign class.Equals (Some class.Equals) = Some (sign.Equal, 2)
 front_sign class.Minus (Some class.Greater) = Some (sign.Arrow, 2)
 front_sign class.OpenBracket (Some class.Semicolon) = None
 front_sign class.OpenBracket (Some next) = Some (sign.OpenBracket, 1)

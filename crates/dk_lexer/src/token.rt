@@ -65,4 +65,6 @@ pub enum Sign {
     OpenBrace,
     /// `}`
     CloseBrace,
+    /// `==`
+    Equal,
 }

@@ -9,10 +9,10 @@ use Rattle.dk_lexer.specs.declared.token.Sign.{Sign}
 use Rattle.dk_lexer.specs.declared.token.Sign.TheVariants as sign
 use Rattle.dk_terms.specs.declared.terminal.Terminal.{Terminal}
 use Rattle.dk_terms.specs.declared.terminal.Terminal.TheVariants as terminal
-use Rattle.dk_terms.specs.Parsing.{at_front, domain, Application, reading, bindable, bracketed, Frame, bracket_frame, wrapping, binder_term, applied_to, ended, end_next, PatternFrame, pattern_bracket, pattern_wrapping, LeftApplication, pattern_reading, pattern_bindable, LeftSoFar, left_ended, binder_pattern, left_read, pattern_applied_to, end_left}
+use Rattle.dk_terms.specs.Parsing.{at_front, asked, domain, Application, reading, bindable, bracketed, Frame, bracket_frame, wrapping, binder_term, applied_to, ended, end_next, PatternFrame, pattern_bracket, pattern_wrapping, LeftApplication, pattern_reading, pattern_bindable, LeftSoFar, left_ended, binder_pattern, left_read, pattern_applied_to, end_left}
 use Rattle.dk_parser.specs.Written.{Written, written_star, written_product, WrittenParam, WrittenPattern, pattern_wild, pattern_guard, WrittenForm}
 use Rattle.dk_parser.specs.Grammar.{colon, dot, arrow, open_square, close_square, close_brace}
-use Rattle.dk_parser.specs.Parsing.{Head, with_param, RuleHead, with_entry, Purpose, as_param, as_type, as_entry, as_guard, CommandSoFar, command_due, name_due, head_due, binder_due, binder_colon_due, rule_name_due, rule_brace_due, square_due, context_due, entry_due, entry_named, in_left, in_term, module_due, dot_due, in_term_by, in_left_by, in_left_next, Advance, goes, ends, refuses, advanced}
+use Rattle.dk_parser.specs.Parsing.{Head, with_param, RuleHead, with_entry, Purpose, as_param, as_type, as_entry, as_guard, as_asked, as_query, asking_alike, CommandSoFar, command_due, name_due, head_due, binder_due, binder_colon_due, rule_name_due, rule_brace_due, square_due, context_due, entry_due, entry_named, in_left, in_term, module_due, dot_due, in_term_by, in_left_by, in_left_next, Advance, goes, ends, refuses, advanced}
 use Rattle.dk_parser.proofs.Complete as machine
 use Rattle.dk_parser.proofs.Complete.{run_by, run, Enders, at, head_of}
 
@@ -88,6 +88,9 @@ term_ends_at purpose (wrapping g ∷ fs) a = term_ends_at purpose fs (g a)
 term_ends_at purpose (bracket_frame at_front o ∷ fs) a =
     let b = applied_to o a in
     record { next = sign.CloseBracket; takes = λ p. refl; alive = read_alive purpose fs (reading at_front (Some b)) (term_ends_at purpose fs b) }
+term_ends_at purpose (bracket_frame asked o ∷ fs) a =
+    let b = applied_to o a in
+    record { next = sign.CloseBracket; takes = λ p. refl; alive = read_alive purpose fs (reading asked (Some b)) (term_ends_at purpose fs b) }
 term_ends_at purpose (bracket_frame (domain v) o ∷ fs) a =
     let k = term_ends_at purpose fs (written_product v (applied_to o a) written_star) in
     record { next = sign.CloseBracket; takes = λ p. refl; alive = before arrow refl (due_by purpose (wrapping (λ b. written_product v (applied_to o a) b) ∷ fs) k) }
@@ -95,6 +98,7 @@ term_ends_at (as_param h v) [] a = record { next = sign.CloseBracket; takes = λ
 term_ends_at (as_type h) [] a = type_ends_at h.sort h.name h.params a
 term_ends_at (as_entry h n) [] a = record { next = sign.CloseSquare; takes = λ p. refl; alive = left_alive (with_entry h n (Some a)) [] (pattern_reading None) }
 term_ends_at (as_guard h part) [] a = record { next = sign.CloseBrace; takes = λ p. refl; alive = left_alive h part.frames (pattern_reading (Some (pattern_applied_to (left_read part.application) (pattern_guard a)))) }
+term_ends_at (as_asked d) [] a = record { next = sign.Equal; takes = λ p. refl; alive = due_by (as_query (asking_alike d a)) [] (record { next = sign.Dot; takes = λ p. refl; alive = whole }) }
 term_ends_at purpose [] a = record { next = sign.Dot; takes = λ p. refl; alive = whole }
 
 due_alive : (purpose : Purpose) (fs : List Frame) → Alive (at purpose fs (reading at_front None))
@@ -106,6 +110,8 @@ domain_alive purpose fs v a = due_alive purpose (wrapping (λ b. written_product
 term_alive : (purpose : Purpose) (fs : List Frame) (s : Application) → Alive (at purpose fs s)
 term_alive purpose fs (reading at_front None) = due_alive purpose fs
 term_alive purpose fs (reading at_front (Some a)) = read_alive purpose fs (reading at_front (Some a)) (term_ends_at purpose fs a)
+term_alive purpose fs (reading asked None) = before terminal.Star refl (read_alive purpose fs (reading asked (Some written_star)) (term_ends_at purpose fs written_star))
+term_alive purpose fs (reading asked (Some a)) = read_alive purpose fs (reading asked (Some a)) (term_ends_at purpose fs a)
 term_alive purpose fs (bindable v) = read_alive purpose fs (bindable v) (term_ends_at purpose fs (binder_term v))
 term_alive purpose fs (reading (domain v) None) = before terminal.Star refl (before arrow refl (domain_alive purpose fs v written_star))
 term_alive purpose fs (reading (domain v) (Some a)) = before arrow refl (domain_alive purpose fs v a)

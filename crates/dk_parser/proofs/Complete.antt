@@ -1,19 +1,19 @@
 -- The parts of a command, one terminal after the other; what is spelt so is read so.
 use Rattle.std.proofs.Common.{◌≡◌, ℕ, List, [], ◌∷◌, ◌++◌, refl, sym, ap, ◌∙◌, append_assoc, append-nil}
-use Rattle.std.specs.Prelude.{Option, Some, None, true, if◌then◌else◌}
+use Rattle.std.specs.Prelude.{Option, Some, None, Bool, true, if◌then◌else◌}
 use Rattle.dk_model.specs.declared.signature.SymSort.{SymSort}
 use Rattle.dk_model.specs.declared.signature.SymSort.TheVariants.{Static, Definable, Theorem}
 use Rattle.dk_lexer.specs.declared.token.Sign.{Sign}
 use Rattle.dk_lexer.specs.declared.token.Sign.TheVariants as sign
 use Rattle.dk_terms.specs.declared.terminal.Terminal.{Terminal}
 use Rattle.dk_terms.specs.declared.terminal.Terminal.TheVariants as terminal
-use Rattle.dk_terms.specs.Parsing.{Role, at_front, domain, Application, reading, bindable, Frame, bracket_frame, wrapping, TermSoFar, term_due, TermStep, binder_term, applied_to, end_next, term_next, PatternFrame, pattern_bracket, pattern_wrapping, LeftApplication, pattern_reading, pattern_bindable, left_due, binder_pattern, left_read, pattern_applied_to}
+use Rattle.dk_terms.specs.Parsing.{Role, at_front, asked, domain, Application, reading, bindable, Frame, bracket_frame, wrapping, TermSoFar, term_due, asked_due, TermStep, binder_term, applied_to, end_next, term_next, PatternFrame, pattern_bracket, pattern_wrapping, LeftApplication, pattern_reading, pattern_bindable, left_due, binder_pattern, left_read, pattern_applied_to}
 use Rattle.dk_parser.specs.Written.{Written, written_arrow, written_product, written_bare, written_annotated, WrittenPattern, pattern_guard, pattern_bare, WrittenParam, WrittenNote, WrittenRule, WrittenForm, written_declare, written_rules}
 use Rattle.dk_lexer.specs.Spelling.{is_plain_name}
 use Rattle.dk_parser.specs.declared.directive_part.Directive.{Directive}
 use Rattle.dk_parser.specs.declared.directive_part.Directive.TheVariants as directive
-use Rattle.dk_parser.specs.Grammar.{colon, arrow, double_arrow, open_bracket, close_bracket, open_brace, close_brace, long_arrow, SpellsBinder, spells_binder, spells_no_binder, SpellsAtom, spells_name, spells_qualified, spells_star, spells_wildcard, spells_brackets, SpellsApplication, spells_head, spells_applied, SpellsTerm, spells_application, spells_arrow, spells_product, spells_bracketed_product, spells_bare, spells_annotated, SpellsPatternAtom, spells_pattern_name, spells_pattern_qualified, spells_pattern_wildcard, spells_guard, spells_pattern_brackets, SpellsPatternApplication, spells_pattern_head, spells_pattern_applied, SpellsPattern, spells_pattern_application, spells_pattern_bare, defined, dot, open_square, close_square, comma, param, rule, SpellsParams, spells_no_params, spells_params, SpellsEntry, spells_entry, spells_typed_entry, SpellsEntries, spells_last_entry, spells_more_entries, SpellsContext, spells_no_context, spells_context, spells_no_rule_name, spells_rule_name, spells_qualified_rule_name, SpellsRule, spells_rule, SpellsRules, spells_last_rule, spells_more_rules, SpellsForm, spells_static, spells_definable, spells_definition, spells_typed_definition, spells_theorem, spells_rules, spells_module, spells_require}
-use Rattle.dk_parser.specs.Parsing.{Purpose, as_guard, as_right, RuleHead, CommandSoFar, in_left, in_term, in_term_by, behind_term, Head, with_entry, as_param, as_type, as_body, as_entry, command_due, head_due, binder_due, binder_colon_due, rule_name_due, square_due, context_due, entry_due, entry_named, Advance, goes, behind_entry, named_next, advanced, ends, refuses, module_due, dot_due, directive_form}
+use Rattle.dk_parser.specs.Grammar.{colon, arrow, double_arrow, open_bracket, close_bracket, open_brace, close_brace, long_arrow, SpellsBinder, spells_binder, spells_no_binder, SpellsAtom, spells_name, spells_qualified, spells_star, spells_wildcard, spells_brackets, SpellsApplication, spells_head, spells_applied, SpellsTerm, spells_application, spells_arrow, spells_product, spells_bracketed_product, spells_bare, spells_annotated, SpellsPatternAtom, spells_pattern_name, spells_pattern_qualified, spells_pattern_wildcard, spells_guard, spells_pattern_brackets, SpellsPatternApplication, spells_pattern_head, spells_pattern_applied, SpellsPattern, spells_pattern_application, spells_pattern_bare, defined, dot, open_square, close_square, comma, equal, param, rule, SpellsParams, spells_no_params, spells_params, SpellsEntry, spells_entry, spells_typed_entry, SpellsEntries, spells_last_entry, spells_more_entries, SpellsContext, spells_no_context, spells_context, spells_no_rule_name, spells_rule_name, spells_qualified_rule_name, SpellsRule, spells_rule, SpellsRules, spells_last_rule, spells_more_rules, SpellsDemand, spells_check, spells_assert, SpellsForm, spells_static, spells_definable, spells_definition, spells_typed_definition, spells_theorem, spells_rules, spells_typed, spells_alike, spells_type_of, spells_value_of, spells_module, spells_require}
+use Rattle.dk_parser.specs.Parsing.{Purpose, as_guard, as_right, as_asked, as_query, Asking, asking_typed, asking_alike, asking_type, asking_value, query_form, RuleHead, CommandSoFar, in_left, in_term, in_term_by, behind_term, Head, with_entry, as_param, as_type, as_body, as_entry, command_due, head_due, binder_due, binder_colon_due, rule_name_due, square_due, context_due, entry_due, entry_named, Advance, goes, behind_entry, named_next, advanced, ends, refuses, module_due, dot_due, directive_form}
 
 -- the part after these terminals, or the form and what is behind it, or no command
 pub data Run : Type 0 where
@@ -89,13 +89,14 @@ module _ (purpose : Purpose) where
   -- a name or a wildcard at the front of a term is its first atom, where this stands behind it
   abbrev Follows : Role → List Terminal → Type 0
   Follows at_front zs = (fs : List Frame) (v : Option (List ℕ)) → run (at fs (bindable v)) zs ≡ run (at fs (reading at_front (Some (binder_term v)))) zs
-  Follows (domain w) zs = Unit {0}
+  Follows role zs = Unit {0}
 
   ender_follows : (e : Sign) (rest : List Terminal) → Enders e → Follows at_front (terminal.Sign e ∷ rest)
   ender_follows e rest h fs v = ends_run fs (bindable v) e rest h ∙ sym (ends_run fs (reading at_front (Some (binder_term v))) e rest h)
 
   atom_follows : {ys : List Terminal} {a : Written} → SpellsAtom ys a → (role : Role) (zs : List Terminal) → Follows role (ys ++ zs)
   atom_follows k (domain w) zs = tt
+  atom_follows k asked zs = tt
   atom_follows (spells_brackets k) at_front zs = λ fs v. refl
   atom_follows k at_front zs = λ fs v. refl
 
@@ -168,6 +169,10 @@ module _ (purpose : Purpose) where
   -- a whole term and the sign that ends it
   pub term_complete : {xs : List Terminal} {a : Written} → SpellsTerm xs a → (e : Sign) (rest : List Terminal) → Enders e → run (in_term purpose term_due) (xs ++ terminal.Sign e ∷ rest) ≡ run_by (behind_term purpose a e) (λ q. run q rest) rest
   term_complete {a = a} k e rest h = term_runs k [] e rest h ∙ ends_run [] (reading at_front (Some a)) e rest h
+
+  -- what a query asks of
+  pub application_complete : {xs : List Terminal} {a : Written} → SpellsApplication xs a → (zs : List Terminal) → run (in_term purpose asked_due) (xs ++ zs) ≡ run (at [] (reading asked (Some a))) zs
+  application_complete k zs = application_runs k [] asked zs tt
 
 -- Left sides
 
@@ -348,6 +353,15 @@ rules_complete p done t (spells_more_rules {xs} {ys} {r} {rs} s k) =
 directive_complete : (d : Directive) (m : List ℕ) → is_plain_name m ≡ true → Ends (module_due d) (terminal.Name m ∷ dot ∷ []) (directive_form d m)
 directive_complete d m plain = ap (λ b. run_by (if b then goes (dot_due d m) else refuses) (λ q. run q (dot ∷ [])) (dot ∷ [])) plain
 
+-- Queries
+
+demand_complete : {w : Terminal} {d : Bool} → SpellsDemand w d → (rest : List Terminal) → run command_due (w ∷ rest) ≡ run (in_term (as_asked d) asked_due) rest
+demand_complete spells_check rest = refl
+demand_complete spells_assert rest = refl
+
+query_complete : (q : Asking) {xs : List Terminal} {t : Written} → SpellsTerm xs t → Ends (in_term (as_query q) term_due) (xs ++ dot ∷ []) (query_form q t)
+query_complete q k = term_complete (as_query q) k sign.Dot [] (λ p. refl)
+
 -- Commands
 
 -- a command is read as what it spells
@@ -366,6 +380,12 @@ complete (spells_theorem {n} {xs} {ys} {zs} {ps} {a} h k j) =
     params_complete Theorem n [] h (colon ∷ (ys ++ defined ∷ (zs ++ dot ∷ [])))
     ∙ term_complete (as_type (head_of Theorem n ps)) k sign.Defined (zs ++ dot ∷ []) (λ p. refl)
     ∙ body_complete (head_of Theorem n ps) (Some a) j
+complete (spells_typed {d = d} {xs = xs} {ys = ys} {t = t} w k j) =
+    demand_complete w (xs ++ colon ∷ (ys ++ dot ∷ [])) ∙ application_complete (as_asked d) k (colon ∷ (ys ++ dot ∷ [])) ∙ query_complete (asking_typed d t) j
+complete (spells_alike {d = d} {xs = xs} {ys = ys} {t = t} w k j) =
+    demand_complete w (xs ++ equal ∷ (ys ++ dot ∷ [])) ∙ application_complete (as_asked d) k (equal ∷ (ys ++ dot ∷ [])) ∙ query_complete (asking_alike d t) j
+complete (spells_type_of k) = query_complete asking_type k
+complete (spells_value_of k) = query_complete asking_value k
 complete (spells_module {m} plain) = directive_complete directive.Name m plain
 complete (spells_require {m} plain) = directive_complete directive.Require m plain
 complete (spells_rules k) = rules_complete command_due [] (λ rest. refl, λ rest. refl) k

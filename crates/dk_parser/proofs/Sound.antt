@@ -11,11 +11,11 @@ use Rattle.dk_terms.specs.Parsing.{TermSoFar, term_due, TermStep, term_goes, ter
 use Rattle.dk_lexer.specs.Spelling.{is_plain_name}
 use Rattle.dk_parser.specs.declared.directive_part.Directive.{Directive}
 use Rattle.dk_parser.specs.declared.directive_part.Directive.TheVariants as directive
-use Rattle.dk_parser.specs.Written.{Written, WrittenParam, WrittenPattern, pattern_guard, WrittenNote, WrittenRule, WrittenForm, written_declare}
-use Rattle.dk_parser.specs.Grammar.{colon, defined, dot, open_bracket, close_bracket, open_square, close_square, open_brace, close_brace, comma, long_arrow, param, entry, rule, SpellsBinder, spells_binder, spells_no_binder, SpellsTerm, SpellsPatternApplication, spells_guard, SpellsParams, spells_no_params, spells_params, SpellsEntry, spells_entry, spells_typed_entry, SpellsEntries, spells_last_entry, spells_more_entries, SpellsContext, spells_no_context, spells_context, SpellsRuleName, spells_no_rule_name, spells_rule_name, spells_qualified_rule_name, SpellsRule, spells_rule, SpellsRules, spells_last_rule, spells_more_rules, SpellsForm, spells_static, spells_definable, spells_definition, spells_typed_definition, spells_theorem, spells_rules, spells_module, spells_require}
-use Rattle.dk_parser.specs.Parsing.{Head, RuleHead, with_entry, Purpose, as_param, as_type, as_body, as_entry, as_guard, as_right, CommandSoFar, command_due, name_due, head_due, binder_due, binder_colon_due, rule_name_due, rule_brace_due, square_due, context_due, entry_due, entry_named, in_left, in_term, Advance, goes, ends, refuses, behind_entry, behind_rule, behind_term, in_term_by, head_next, named_next, in_left_by, in_left_next, dot_behind_type, body_behind_type, module_due, dot_due, directive_form, advanced}
+use Rattle.dk_parser.specs.Written.{Written, WrittenParam, WrittenPattern, pattern_guard, WrittenNote, WrittenRule, asked_typed, asked_alike, WrittenForm, written_declare, written_query}
+use Rattle.dk_parser.specs.Grammar.{colon, defined, dot, open_bracket, close_bracket, open_square, close_square, open_brace, close_brace, comma, long_arrow, equal, param, entry, rule, SpellsBinder, spells_binder, spells_no_binder, SpellsApplication, SpellsTerm, SpellsPatternApplication, spells_guard, SpellsParams, spells_no_params, spells_params, SpellsEntry, spells_entry, spells_typed_entry, SpellsEntries, spells_last_entry, spells_more_entries, SpellsContext, spells_no_context, spells_context, SpellsRuleName, spells_no_rule_name, spells_rule_name, spells_qualified_rule_name, SpellsRule, spells_rule, SpellsRules, spells_last_rule, spells_more_rules, SpellsDemand, spells_check, spells_assert, SpellsForm, spells_static, spells_definable, spells_definition, spells_typed_definition, spells_theorem, spells_rules, spells_typed, spells_alike, spells_type_of, spells_value_of, spells_module, spells_require}
+use Rattle.dk_parser.specs.Parsing.{Head, RuleHead, with_entry, Purpose, as_param, as_type, as_body, as_entry, as_guard, as_right, as_asked, as_query, asking_typed, asking_alike, asking_type, asking_value, CommandSoFar, command_due, name_due, head_due, binder_due, binder_colon_due, rule_name_due, rule_brace_due, square_due, context_due, entry_due, entry_named, in_left, in_term, Advance, goes, ends, refuses, behind_entry, behind_rule, behind_term, in_term_by, head_next, named_next, in_left_by, in_left_next, dot_behind_type, body_behind_type, module_due, dot_due, directive_form, advanced}
 use Rattle.dk_parser.proofs.Complete.{ended, run, run_by, Ends}
-use Rattle.dk_parser.proofs.SoundTerms.{within_lists, nested_lists, ReachedTerm, nothing_reached, MadeTerm, term_made, ReachedLeft, left_reached_nothing, left_atom_reached, MadeLeft, left_made}
+use Rattle.dk_parser.proofs.SoundTerms.{within_lists, nested_lists, ReachedTerm, due_as, nothing_reached, SpellsWhole, whole_term, whole_application, MadeTerm, term_made, ReachedLeft, left_reached_nothing, left_atom_reached, MadeLeft, left_made}
 
 -- What leads to a part of a command
 
@@ -67,6 +67,16 @@ data Before : List Terminal → Purpose → Type 0 where
   before_entry : {xs : List Terminal} {h : RuleHead} {n : List ℕ} → ContextSoFar xs h → Before (xs ++ (terminal.Name n ∷ colon ∷ [])) (as_entry h n)
   before_guard : {xs ys : List Terminal} {h : RuleHead} {part : LeftSoFar} → ContextRead xs h → ReachedLeft ys part → Before (xs ++ (ys ++ open_brace ∷ [])) (as_guard h part)
   before_right : {xs ys : List Terminal} {h : RuleHead} {l : WrittenPattern} → ContextRead xs h → SpellsPatternApplication ys l → Before (xs ++ (ys ++ long_arrow ∷ [])) (as_right h l)
+  before_asked : {w : Terminal} {d : Bool} → SpellsDemand w d → Before (w ∷ []) (as_asked d)
+  before_type_asked : {w : Terminal} {d : Bool} {xs : List Terminal} {t : Written} → SpellsDemand w d → SpellsApplication xs t → Before (w ∷ (xs ++ colon ∷ [])) (as_query (asking_typed d t))
+  before_other_asked : {w : Terminal} {d : Bool} {xs : List Terminal} {t : Written} → SpellsDemand w d → SpellsApplication xs t → Before (w ∷ (xs ++ equal ∷ [])) (as_query (asking_alike d t))
+  before_inferred : Before (terminal.Infer ∷ []) (as_query asking_type)
+  before_evaluated : Before (terminal.Eval ∷ []) (as_query asking_value)
+
+-- whether an application is read and no longer term
+abbrev asks_of : Purpose → Bool
+asks_of (as_asked d) = true
+asks_of purpose = false
 
 -- the word of a directive
 abbrev word : Directive → Terminal
@@ -90,7 +100,7 @@ data Reached : List Terminal → CommandSoFar → Type 0 where
   at_left : {xs ys : List Terminal} {h : RuleHead} {part : LeftSoFar} → ContextRead xs h → ReachedLeft ys part → Reached (xs ++ ys) (in_left h part)
   at_module : (d : Directive) → Reached (word d ∷ []) (module_due d)
   at_dot : {m : List ℕ} (d : Directive) → is_plain_name m ≡ true → Reached (word d ∷ terminal.Name m ∷ []) (dot_due d m)
-  at_term : {xs ys : List Terminal} {purpose : Purpose} {p : TermSoFar} → Before xs purpose → ReachedTerm ys p → Reached (xs ++ ys) (in_term purpose p)
+  at_term : {xs ys : List Terminal} {purpose : Purpose} {p : TermSoFar} → Before xs purpose → ReachedTerm (asks_of purpose) ys p → Reached (xs ++ ys) (in_term purpose p)
 
 -- what a step makes of these terminals
 abbrev Made : List Terminal → Advance → Type 0
@@ -105,8 +115,8 @@ as_list a e m = subst (λ us. Made us a) e m
 there : {q : CommandSoFar} (xs ys : List Terminal) (x : Terminal) → Reached (xs ++ (ys ++ x ∷ [])) q → Reached ((xs ++ ys) ++ x ∷ []) q
 there {q} xs ys x h = as_list (goes q) (sym (append_assoc xs ys (x ∷ []))) h
 
-into_term : {xs : List Terminal} {purpose : Purpose} → Before xs purpose → Reached xs (in_term purpose term_due)
-into_term {xs} {purpose} b = as_list (goes (in_term purpose term_due)) (append-nil xs) (at_term b nothing_reached)
+into_term : {xs : List Terminal} {purpose : Purpose} → Before xs purpose → Reached xs (in_term purpose (due_as (asks_of purpose)))
+into_term {xs} {purpose} b = as_list (goes (in_term purpose (due_as (asks_of purpose)))) (append-nil xs) (at_term b (nothing_reached (asks_of purpose)))
 
 into_left : {xs : List Terminal} {h : RuleHead} → ContextRead xs h → Reached xs (in_left h left_due)
 into_left {xs} {h} c = as_list (goes (in_left h left_due)) (append-nil xs) (at_left c left_reached_nothing)
@@ -177,22 +187,37 @@ body_made Static n ps e h k j = absurd e
 body_made {xs} {ys} {zs} {a} {b} Definable n ps e h k j = as_list (ends (written_declare Definable n ps (Some a) (Some b))) (sym (append_assoc (start Definable n) xs (colon ∷ (ys ++ defined ∷ (zs ++ dot ∷ [])))) ∙ nested_lists (start Definable n ++ xs) (colon ∷ ys) zs defined dot) (spells_typed_definition h k j)
 body_made {xs} {ys} {zs} {a} {b} Theorem n ps e h k j = as_list (ends (written_declare Theorem n ps (Some a) (Some b))) (sym (append_assoc (start Theorem n) xs (colon ∷ (ys ++ defined ∷ (zs ++ dot ∷ [])))) ∙ nested_lists (start Theorem n ++ xs) (colon ∷ ys) zs defined dot) (spells_theorem h k j)
 
--- a sign behind a whole term
-behind_made : {xs ys : List Terminal} {purpose : Purpose} {a : Written} → Before xs purpose → SpellsTerm ys a → (s : Sign) → Made ((xs ++ ys) ++ terminal.Sign s ∷ []) (behind_term purpose a s)
-behind_made {ys = ys} {a = a} (before_param {x = x} {v = v} (spells_head {s} {n} {xs} {ps} h) b) k sign.CloseBracket =
+query_lists : (xs ys : List Terminal) (x y : Terminal) → xs ++ x ∷ (ys ++ y ∷ []) ≡ ((xs ++ x ∷ []) ++ ys) ++ y ∷ []
+query_lists xs ys x y = simp append_assoc
+
+type_made : {w : Terminal} {d : Bool} {xs ys : List Terminal} {t a : Written} → SpellsDemand w d → SpellsApplication xs t → SpellsTerm ys a → SpellsForm (w ∷ (((xs ++ colon ∷ []) ++ ys) ++ dot ∷ [])) (written_query d (asked_typed t a))
+type_made {w} {d} {xs} {ys} {t} {a} b k j = as_list (ends (written_query d (asked_typed t a))) (ap (λ zs. w ∷ zs) (query_lists xs ys colon dot)) (spells_typed b k j)
+
+other_made : {w : Terminal} {d : Bool} {xs ys : List Terminal} {t u : Written} → SpellsDemand w d → SpellsApplication xs t → SpellsTerm ys u → SpellsForm (w ∷ (((xs ++ equal ∷ []) ++ ys) ++ dot ∷ [])) (written_query d (asked_alike t u))
+other_made {w} {d} {xs} {ys} {t} {u} b k j = as_list (ends (written_query d (asked_alike t u))) (ap (λ zs. w ∷ zs) (query_lists xs ys equal dot)) (spells_alike b k j)
+
+-- a sign behind a whole term, or behind what a query asks of
+behind_made : {xs ys : List Terminal} {purpose : Purpose} {a : Written} → Before xs purpose → SpellsWhole (asks_of purpose) ys a → (s : Sign) → Made ((xs ++ ys) ++ terminal.Sign s ∷ []) (behind_term purpose a s)
+behind_made {ys = ys} {a = a} (before_param {x = x} {v = v} (spells_head {s} {n} {xs} {ps} h) b) (whole_term k) sign.CloseBracket =
     as_list (goes (head_due (record { sort = s; name = n; params = ps ++ param v a ∷ [] }))) (five_lists (start s n) xs (open_bracket ∷ x ∷ colon ∷ []) ys (close_bracket ∷ [])) (at_head (spells_head (param_more h b k)))
-behind_made (before_type (spells_head {s} {n} {xs} {ps} h)) k sign.Dot = dot_made s n ps h k
-behind_made (before_type (spells_head {s} {n} {xs} {ps} h)) k sign.Defined = typed_made s n ps h k
-behind_made {ys = ys} {a = b} (before_body {xs} {n} {ps} h) k sign.Dot = as_list (ends (written_declare Definable n ps None (Some b))) (five_lists (start Definable n) xs (defined ∷ []) ys (dot ∷ [])) (spells_definition h k)
-behind_made (before_typed {s = s} {n = n} {ps = ps} e h t) k sign.Dot = body_made s n ps e h t k
-behind_made {ys = ys} {a = a} (before_entry {xs} {h} {n} c) k s =
+behind_made (before_type (spells_head {s} {n} {xs} {ps} h)) (whole_term k) sign.Dot = dot_made s n ps h k
+behind_made (before_type (spells_head {s} {n} {xs} {ps} h)) (whole_term k) sign.Defined = typed_made s n ps h k
+behind_made {ys = ys} {a = b} (before_body {xs} {n} {ps} h) (whole_term k) sign.Dot = as_list (ends (written_declare Definable n ps None (Some b))) (five_lists (start Definable n) xs (defined ∷ []) ys (dot ∷ [])) (spells_definition h k)
+behind_made (before_typed {s = s} {n = n} {ps = ps} e h t) (whole_term k) sign.Dot = body_made s n ps e h t k
+behind_made {ys = ys} {a = a} (before_entry {xs} {h} {n} c) (whole_term k) s =
     subst (λ us. Made (us ++ terminal.Sign s ∷ []) (behind_entry (with_entry h n (Some a)) s)) (sym (append_assoc xs (terminal.Name n ∷ colon ∷ []) ys)) (entry_made (entry_added {n = n} c (spells_typed_entry k)) s)
-behind_made {ys = ys} {a = a} (before_guard {xs} {ys = ls} {h} {part} c l) k sign.CloseBrace =
+behind_made {ys = ys} {a = a} (before_guard {xs} {ys = ls} {h} {part} c l) (whole_term k) sign.CloseBrace =
     as_list (goes (in_left h (with_atom part (pattern_guard a)))) (nested_lists xs ls ys open_brace close_brace) (at_left c (left_atom_reached part l (spells_guard k)))
-behind_made (before_right c l) k s = rules_made (rule_read c l k) s
+behind_made (before_right c l) (whole_term k) s = rules_made (rule_read c l k) s
+behind_made (before_asked w) (whole_application k) sign.Colon = into_term (before_type_asked w k)
+behind_made (before_asked w) (whole_application k) sign.Equal = into_term (before_other_asked w k)
+behind_made (before_type_asked w t) (whole_term k) sign.Dot = type_made w t k
+behind_made (before_other_asked w t) (whole_term k) sign.Dot = other_made w t k
+behind_made before_inferred (whole_term k) sign.Dot = spells_type_of k
+behind_made before_evaluated (whole_term k) sign.Dot = spells_value_of k
 behind_made b k s = tt
 
-term_by : {xs : List Terminal} {purpose : Purpose} (ys : List Terminal) (x : Terminal) (t : TermStep) → Before xs purpose → MadeTerm ys x t → Made ((xs ++ ys) ++ x ∷ []) (in_term_by purpose t)
+term_by : {xs : List Terminal} {purpose : Purpose} (ys : List Terminal) (x : Terminal) (t : TermStep) → Before xs purpose → MadeTerm (asks_of purpose) ys x t → Made ((xs ++ ys) ++ x ∷ []) (in_term_by purpose t)
 term_by {xs} ys x (term_goes q) b m = there xs ys x (at_term b m)
 term_by {xs} {purpose} ys x (term_ends a s) b m = subst (λ x. Made ((xs ++ ys) ++ x ∷ []) (behind_term purpose a s)) (sym m.0) (behind_made b m.1 s)
 term_by ys x term_refuses b m = tt
@@ -235,6 +260,10 @@ made at_command (terminal.Sign sign.OpenBrace) = at_rule_name none_so_far
 made at_command (terminal.Sign sign.OpenSquare) = at_context (spells_named none_so_far spells_no_rule_name)
 made at_command terminal.NameWord = at_module directive.Name
 made at_command terminal.RequireWord = at_module directive.Require
+made at_command terminal.Check = into_term (before_asked spells_check)
+made at_command terminal.Assert = into_term (before_asked spells_assert)
+made at_command terminal.Infer = into_term before_inferred
+made at_command terminal.Eval = into_term before_evaluated
 made at_def (terminal.Name n) = at_head (spells_head {s = Definable} spells_no_params)
 made at_thm (terminal.Name n) = at_head (spells_head {s = Theorem} spells_no_params)
 made (at_head h) x = head_made x h

@@ -1,13 +1,13 @@
 -- Trusted: the grammar of commands and directives: which terminals spell which (Dedukti manual, syntax; docs/grammar.md).
-use Rattle.std.specs.Prelude.{◌≡◌, ℕ, true, List, [], ◌∷◌, ◌++◌, Option, Some, None, map}
+use Rattle.std.specs.Prelude.{◌≡◌, ℕ, Bool, true, false, List, [], ◌∷◌, ◌++◌, Option, Some, None, map}
 use Rattle.dk_model.specs.declared.signature.SymSort.TheVariants.{Static, Definable, Theorem}
 use Rattle.dk_lexer.specs.declared.token.Token.{Token}
 use Rattle.dk_lexer.specs.Spelling.{is_plain_name}
 use Rattle.dk_terms.specs.declared.terminal.Terminal.{Terminal}
 use Rattle.dk_terms.specs.declared.terminal.Terminal.TheVariants as terminal
 use Rattle.dk_terms.specs.Terminals.{terminal_of}
-use Rattle.dk_parser.specs.Written.{Written, WrittenParam, WrittenPattern, WrittenNote, WrittenRule, WrittenForm, written_declare, written_rules, written_module, written_require, WrittenCommand}
-pub use Rattle.dk_terms.specs.Signs.{colon, defined, dot, arrow, double_arrow, open_bracket, close_bracket, open_square, close_square, open_brace, close_brace, comma, long_arrow}
+use Rattle.dk_parser.specs.Written.{Written, WrittenParam, WrittenPattern, WrittenNote, WrittenRule, asked_typed, asked_alike, asked_type, asked_value, WrittenForm, written_declare, written_rules, written_query, written_module, written_require, WrittenCommand}
+pub use Rattle.dk_terms.specs.Signs.{colon, defined, dot, arrow, double_arrow, open_bracket, close_bracket, open_square, close_square, open_brace, close_brace, comma, long_arrow, equal}
 pub use Rattle.dk_terms.specs.Grammar.{SpellsBinder, spells_binder, spells_no_binder, SpellsAtom, SpellsApplication, SpellsTerm, SpellsPatternAtom, SpellsPatternApplication, SpellsPattern, spells_name, spells_qualified, spells_star, spells_wildcard, spells_brackets, spells_head, spells_applied, spells_application, spells_arrow, spells_product, spells_bracketed_product, spells_bare, spells_annotated, spells_pattern_name, spells_pattern_qualified, spells_pattern_wildcard, spells_guard, spells_pattern_brackets, spells_pattern_head, spells_pattern_applied, spells_pattern_application, spells_pattern_bare}
 
 -- the parameter `(v : a)`
@@ -57,7 +57,12 @@ pub data SpellsRules : List Terminal → List WrittenRule → Type 0 where
   spells_last_rule : {xs : List Terminal} {r : WrittenRule} → SpellsRule xs r → SpellsRules xs (r ∷ [])
   spells_more_rules : {xs ys : List Terminal} {r : WrittenRule} {rs : List WrittenRule} → SpellsRule xs r → SpellsRules ys rs → SpellsRules (xs ++ ys) (r ∷ rs)
 
--- this directive: `#NAME m.` or `#REQUIRE m.`, where `m` is plain; or this command: `c : A.`, `def c : A.`, `def c := t.`, `def c : A := t.` or `thm c : A := t.`, each with its parameters behind the name; or rules
+-- the word of a query that is answered yes or no; true: it is refused where the answer is no
+pub data SpellsDemand : Terminal → Bool → Type 0 where
+  spells_check : SpellsDemand terminal.Check false
+  spells_assert : SpellsDemand terminal.Assert true
+
+-- this directive: `#NAME m.` or `#REQUIRE m.`, where `m` is plain; or this command: `c : A.`, `def c : A.`, `def c := t.`, `def c : A := t.` or `thm c : A := t.`, each with its parameters behind the name; or rules; or this query: `#CHECK t : A.` or `#CHECK t == u.`, where `t` is an application, the same with `#ASSERT`, `#INFER t.` or `#EVAL t.`
 pub data SpellsForm : List Terminal → WrittenForm → Type 0 where
   spells_static : {n : List ℕ} {xs ys : List Terminal} {ps : List WrittenParam} {a : Written} → SpellsParams xs ps → SpellsTerm ys a → SpellsForm (terminal.Name n ∷ (xs ++ colon ∷ (ys ++ dot ∷ []))) (written_declare Static n ps (Some a) None)
   spells_definable : {n : List ℕ} {xs ys : List Terminal} {ps : List WrittenParam} {a : Written} → SpellsParams xs ps → SpellsTerm ys a → SpellsForm (terminal.Def ∷ terminal.Name n ∷ (xs ++ colon ∷ (ys ++ dot ∷ []))) (written_declare Definable n ps (Some a) None)
@@ -65,6 +70,10 @@ pub data SpellsForm : List Terminal → WrittenForm → Type 0 where
   spells_typed_definition : {n : List ℕ} {xs ys zs : List Terminal} {ps : List WrittenParam} {a b : Written} → SpellsParams xs ps → SpellsTerm ys a → SpellsTerm zs b → SpellsForm (terminal.Def ∷ terminal.Name n ∷ (xs ++ colon ∷ (ys ++ defined ∷ (zs ++ dot ∷ [])))) (written_declare Definable n ps (Some a) (Some b))
   spells_theorem : {n : List ℕ} {xs ys zs : List Terminal} {ps : List WrittenParam} {a b : Written} → SpellsParams xs ps → SpellsTerm ys a → SpellsTerm zs b → SpellsForm (terminal.Thm ∷ terminal.Name n ∷ (xs ++ colon ∷ (ys ++ defined ∷ (zs ++ dot ∷ [])))) (written_declare Theorem n ps (Some a) (Some b))
   spells_rules : {xs : List Terminal} {rs : List WrittenRule} → SpellsRules xs rs → SpellsForm (xs ++ dot ∷ []) (written_rules rs)
+  spells_typed : {w : Terminal} {d : Bool} {xs ys : List Terminal} {t a : Written} → SpellsDemand w d → SpellsApplication xs t → SpellsTerm ys a → SpellsForm (w ∷ (xs ++ colon ∷ (ys ++ dot ∷ []))) (written_query d (asked_typed t a))
+  spells_alike : {w : Terminal} {d : Bool} {xs ys : List Terminal} {t u : Written} → SpellsDemand w d → SpellsApplication xs t → SpellsTerm ys u → SpellsForm (w ∷ (xs ++ equal ∷ (ys ++ dot ∷ []))) (written_query d (asked_alike t u))
+  spells_type_of : {xs : List Terminal} {t : Written} → SpellsTerm xs t → SpellsForm (terminal.Infer ∷ (xs ++ dot ∷ [])) (written_query false (asked_type t))
+  spells_value_of : {xs : List Terminal} {t : Written} → SpellsTerm xs t → SpellsForm (terminal.Eval ∷ (xs ++ dot ∷ [])) (written_query false (asked_value t))
   spells_module : {m : List ℕ} → is_plain_name m ≡ true → SpellsForm (terminal.NameWord ∷ terminal.Name m ∷ dot ∷ []) (written_module m)
   spells_require : {m : List ℕ} → is_plain_name m ≡ true → SpellsForm (terminal.RequireWord ∷ terminal.Name m ∷ dot ∷ []) (written_require m)
 

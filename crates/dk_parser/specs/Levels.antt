@@ -83,7 +83,7 @@ abbrev pub brace_opened : Side → Standing → Standing
 brace_opened on_left s = record { params = s.params; side = on_left; groups = record { inner = empty_group; outer = atom_more s.groups.inner ∷ s.groups.outer } }
 brace_opened side s = with_new_groups s behind_head
 
--- a bracket of the head that closes is a parameter; a context and its commas, `-->`, `:=` and the name of a rule end a term, and the dot a command
+-- a bracket of the head that closes is a parameter; a context and its commas, `-->`, `:=`, `==` and the name of a rule end a term, and the dot a command; a query has no head
 abbrev pub standing_behind : Standing → Terminal → Standing
 standing_behind s (terminal.Sign sign.CloseBracket) = record { params = params_closed s.side s.groups.outer s.params; side = s.side; groups = groups_behind s.groups (terminal.Sign sign.CloseBracket) }
 standing_behind s (terminal.Sign sign.Colon) = record { params = s.params; side = side_at_colon s.side s.groups.outer; groups = groups_behind s.groups (terminal.Sign sign.Colon) }
@@ -94,7 +94,12 @@ standing_behind s (terminal.Sign sign.CloseSquare) = with_new_groups s on_left
 standing_behind s (terminal.Sign sign.LongArrow) = with_new_groups s behind_head
 standing_behind s (terminal.Sign sign.OpenBrace) = brace_opened s.side s
 standing_behind s (terminal.Sign sign.CloseBrace) = record { params = s.params; side = s.side; groups = closed s.groups s.groups.outer }
+standing_behind s (terminal.Sign sign.Equal) = with_new_groups s behind_head
 standing_behind s (terminal.Sign sign.Dot) = at_start
+standing_behind s terminal.Check = with_new_groups s behind_head
+standing_behind s terminal.Assert = with_new_groups s behind_head
+standing_behind s terminal.Infer = with_new_groups s behind_head
+standing_behind s terminal.Eval = with_new_groups s behind_head
 standing_behind s x = record { params = s.params; side = s.side; groups = groups_behind s.groups x }
 
 abbrev pub standing_from : Standing → List Terminal → Standing

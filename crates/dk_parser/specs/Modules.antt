@@ -1,7 +1,7 @@
 -- Trusted: directives, and the modules that a command or a directive needs, in the order of their places (docs/grammar.md).
 use Rattle.std.specs.Prelude.{ℕ, Bool, true, false, List, [], ◌∷◌, ◌++◌, Option, Some, None}
 use Rattle.std.specs.List.{flat_map}
-use Rattle.dk_parser.specs.Written.{Written, written_name, written_qualified, written_star, written_wild, written_apply, written_arrow, written_product, written_bare, written_annotated, WrittenPattern, pattern_name, pattern_qualified, pattern_wild, pattern_guard, pattern_apply, pattern_bare, WrittenParam, WrittenNote, WrittenRule, WrittenForm, written_declare, written_rules, written_module, written_require}
+use Rattle.dk_parser.specs.Written.{Written, written_name, written_qualified, written_star, written_wild, written_apply, written_arrow, written_product, written_bare, written_annotated, WrittenPattern, pattern_name, pattern_qualified, pattern_wild, pattern_guard, pattern_apply, pattern_bare, WrittenParam, WrittenNote, WrittenRule, WrittenAsked, asked_typed, asked_alike, asked_type, asked_value, WrittenForm, written_declare, written_rules, written_query, written_module, written_require}
 
 -- a directive, and no command
 abbrev pub is_directive : WrittenForm → Bool
@@ -43,9 +43,16 @@ modules_in_note n = modules_in_maybe n.note
 abbrev pub modules_in_rule : WrittenRule → List (List ℕ)
 modules_in_rule r = flat_map modules_in_note r.context ++ (modules_in_pattern r.left ++ modules_in r.right)
 
+abbrev pub modules_in_asked : WrittenAsked → List (List ℕ)
+modules_in_asked (asked_typed t a) = modules_in t ++ modules_in a
+modules_in_asked (asked_alike t u) = modules_in t ++ modules_in u
+modules_in_asked (asked_type t) = modules_in t
+modules_in_asked (asked_value t) = modules_in t
+
 -- a command needs the modules of its qualified names, `#REQUIRE m` needs `m`, and `#NAME m` needs nothing
 abbrev pub modules_of : WrittenForm → List (List ℕ)
 modules_of (written_declare sort name params typ body) = flat_map modules_in_param params ++ (modules_in_maybe typ ++ modules_in_maybe body)
 modules_of (written_rules rules) = flat_map modules_in_rule rules
+modules_of (written_query demand asked) = modules_in_asked asked
 modules_of (written_module m) = []
 modules_of (written_require m) = m ∷ []

@@ -11,11 +11,11 @@ use Rattle.dk_lexer.specs.declared.token.Sign.TheVariants as sign
 use Rattle.dk_lexer.specs.Spelling.{is_plain_name}
 use Rattle.dk_terms.specs.declared.terminal.Terminal.{Terminal}
 use Rattle.dk_terms.specs.declared.terminal.Terminal.TheVariants as terminal
-use Rattle.dk_terms.specs.Parsing.{TermSoFar, term_due, TermStep, term_goes, term_ends, term_refuses, term_next, LeftSoFar, left_due, LeftStep, left_goes, left_ends, left_refuses, left_next, with_atom}
+use Rattle.dk_terms.specs.Parsing.{TermSoFar, term_due, asked_due, TermStep, term_goes, term_ends, term_refuses, term_next, LeftSoFar, left_due, LeftStep, left_goes, left_ends, left_refuses, left_next, with_atom}
 use Rattle.dk_terms.specs.Terminals.{terminal_of}
 use Rattle.dk_parser.specs.declared.directive_part.Directive.{Directive}
 use Rattle.dk_parser.specs.declared.directive_part.Directive.TheVariants as directive
-use Rattle.dk_parser.specs.Written.{Written, WrittenParam, WrittenPattern, pattern_guard, WrittenNote, WrittenRule, WrittenForm, written_declare, written_rules, written_module, written_require, WrittenCommand}
+use Rattle.dk_parser.specs.Written.{Written, WrittenParam, WrittenPattern, pattern_guard, WrittenNote, WrittenRule, asked_typed, asked_alike, asked_type, asked_value, WrittenForm, written_declare, written_rules, written_query, written_module, written_require, WrittenCommand}
 use Rattle.dk_parser.specs.Grammar.{param, entry, rule}
 use Rattle.dk_parser.specs.Groups.{load}
 use Rattle.dk_parser.specs.Levels.{Standing, at_start, standing_behind}
@@ -47,6 +47,20 @@ with_entry h n typ = record { rules = h.rules; context = h.context ++ entry n ty
 abbrev pub with_rule : RuleHead → WrittenPattern → Written → RuleHead
 with_rule h l r = record { rules = h.rules ++ rule h.context l r ∷ []; context = [] }
 
+-- a query without its last term: behind a first one and its colon or `==`, or behind `#INFER` or `#EVAL`
+pub data Asking : Type 0 where
+  asking_typed : Bool → Written → Asking
+  asking_alike : Bool → Written → Asking
+  asking_type : Asking
+  asking_value : Asking
+
+-- with its last term
+abbrev pub query_form : Asking → Written → WrittenForm
+query_form (asking_typed d t) a = written_query d (asked_typed t a)
+query_form (asking_alike d t) u = written_query d (asked_alike t u)
+query_form asking_type t = written_query false (asked_type t)
+query_form asking_value t = written_query false (asked_value t)
+
 -- what a term is read for
 pub data Purpose : Type 0 where
   as_param : Head → Option (List ℕ) → Purpose
@@ -55,6 +69,8 @@ pub data Purpose : Type 0 where
   as_entry : RuleHead → List ℕ → Purpose
   as_guard : RuleHead → LeftSoFar → Purpose
   as_right : RuleHead → WrittenPattern → Purpose
+  as_asked : Bool → Purpose
+  as_query : Asking → Purpose
 
 -- a command that has begun, by what is due next
 pub data CommandSoFar : Type 0 where
@@ -84,6 +100,10 @@ pub data Advance : Type 0 where
 abbrev pub goes_into : Purpose → Advance
 goes_into purpose = goes (in_term purpose term_due)
 
+-- what a query asks of is due
+abbrev pub asks : Bool → Advance
+asks demand = goes (in_term (as_asked demand) asked_due)
+
 -- the dot, or `:=`, behind the type of a declaration of this sort, and `:=` behind its head
 abbrev pub dot_behind_type : SymSort → Head → Written → Advance
 dot_behind_type Theorem h a = refuses
@@ -110,6 +130,17 @@ behind_rule h sign.OpenSquare = goes (context_due h)
 behind_rule h sign.OpenBrace = goes (rule_name_due h)
 behind_rule h s = refuses
 
+-- a sign behind what a query asks of
+abbrev pub behind_asked : Bool → Written → Sign → Advance
+behind_asked d t sign.Colon = goes_into (as_query (asking_typed d t))
+behind_asked d t sign.Equal = goes_into (as_query (asking_alike d t))
+behind_asked d t s = refuses
+
+-- a sign behind the last term of a query
+abbrev pub behind_query : Asking → Written → Sign → Advance
+behind_query q t sign.Dot = ends (query_form q t)
+behind_query q t s = refuses
+
 -- a sign behind a whole term
 abbrev pub behind_term : Purpose → Written → Sign → Advance
 behind_term (as_param h v) a sign.CloseBracket = goes (head_due (with_param h v a))
@@ -119,6 +150,8 @@ behind_term (as_body h typ) b sign.Dot = ends (written_declare h.sort h.name h.p
 behind_term (as_entry h n) a s = behind_entry (with_entry h n (Some a)) s
 behind_term (as_guard h part) a sign.CloseBrace = goes (in_left h (with_atom part (pattern_guard a)))
 behind_term (as_right h l) a s = behind_rule (with_rule h l a) s
+behind_term (as_asked d) t s = behind_asked d t s
+behind_term (as_query q) t s = behind_query q t s
 behind_term purpose a s = refuses
 
 abbrev pub in_term_by : Purpose → TermStep → Advance
@@ -170,6 +203,10 @@ advanced command_due (terminal.Sign sign.OpenBrace) = goes (rule_name_due no_rul
 advanced command_due (terminal.Sign sign.OpenSquare) = goes (context_due no_rules)
 advanced command_due terminal.NameWord = goes (module_due directive.Name)
 advanced command_due terminal.RequireWord = goes (module_due directive.Require)
+advanced command_due terminal.Check = asks false
+advanced command_due terminal.Assert = asks true
+advanced command_due terminal.Infer = goes_into (as_query asking_type)
+advanced command_due terminal.Eval = goes_into (as_query asking_value)
 advanced (name_due sort) (terminal.Name n) = named sort n
 advanced (head_due h) x = head_next h x
 advanced (binder_due h) (terminal.Name n) = goes (binder_colon_due h (Some n))

@@ -6,6 +6,8 @@ use Rattle.dk_model.specs.declared.limits.Limits.{Limits}
 use Rattle.dk_lexer.specs.declared.token.Token.{Token}
 use Rattle.dk_parser.specs.declared.declare_part.Head.{Head}
 use Rattle.dk_parser.specs.declared.rule_part.RuleHead.{RuleHead}
+use Rattle.dk_parser.specs.declared.query_part.Asking.{Asking}
+use Rattle.dk_parser.specs.declared.query_part.Asking.TheVariants as asking
 use Rattle.dk_parser.specs.declared.command_so_far.Purpose.{Purpose}
 use Rattle.dk_parser.specs.declared.command_so_far.Purpose.TheVariants as purpose
 use Rattle.dk_parser.specs.declared.command_so_far.Due.{Due}
@@ -18,7 +20,7 @@ use Rattle.dk_parser.specs.declared.parser.Parser.{Parser}
 use Rattle.dk_parser.specs.declared.standing.Standing.{Standing}
 use Rattle.dk_parser.specs.declared.parser.Step.{Step}
 use Rattle.dk_parser.specs.declared.parser.Step.TheVariants as step
-use Rattle.dk_parser.specs.RawViews.{maybe_written, written_param, written_pattern, written_note, written_rule, written_form, written_command}
+use Rattle.dk_parser.specs.RawViews.{written, maybe_written, written_param, written_pattern, written_note, written_rule, written_form, written_command}
 use Rattle.dk_parser.specs.Modules.{is_directive}
 use Rattle.dk_parser.specs.Parsing as plain
 use Rattle.dk_terms.specs.Parsing as terms
@@ -32,6 +34,12 @@ plain_head h = record { sort = h.sort; name = h.name; params = map written_param
 abbrev pub plain_rule_head : RuleHead → plain.RuleHead
 plain_rule_head h = record { rules = map written_rule h.rules; context = map written_note h.context }
 
+abbrev pub plain_asking : Asking → plain.Asking
+plain_asking (asking.Typed d t) = plain.asking_typed d (written t)
+plain_asking (asking.Equal d t) = plain.asking_alike d (written t)
+plain_asking asking.Infer = plain.asking_type
+plain_asking asking.Eval = plain.asking_value
+
 abbrev pub purpose_by : plain.Head → plain.RuleHead → terms.LeftSoFar → Purpose → plain.Purpose
 purpose_by h r l (purpose.Param v) = plain.as_param h v
 purpose_by h r l purpose.Type = plain.as_type h
@@ -39,6 +47,8 @@ purpose_by h r l (purpose.Body a) = plain.as_body h (maybe_written a)
 purpose_by h r l (purpose.Entry n) = plain.as_entry r n
 purpose_by h r l purpose.Guard = plain.as_guard r l
 purpose_by h r l (purpose.Right p) = plain.as_right r (written_pattern p)
+purpose_by h r l (purpose.Asked d) = plain.as_asked d
+purpose_by h r l (purpose.Query q) = plain.as_query (plain_asking q)
 
 -- what a term is read for in a command
 abbrev pub plain_purpose : CommandSoFar → Purpose → plain.Purpose

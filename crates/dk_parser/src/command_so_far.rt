@@ -9,6 +9,7 @@ ghost use Rattle.dk_parser.specs.RawViews.{written, written_form};
 
 use crate::declare_part::Head;
 use crate::directive_part::Directive;
+use crate::query_part::Asking;
 use crate::rule_part::RuleHead;
 use crate::{Raw, RawForm, RawParam};
 use dk_lexer::Sign;
@@ -32,6 +33,10 @@ pub enum Purpose {
     Guard,
     /// The right side of the rule with this left side.
     Right(RawPat),
+    /// What `#CHECK` asks of, or `#ASSERT` with `true`.
+    Asked(bool),
+    /// The last term of a query.
+    Query(Asking),
 }
 
 /// What is due next.
@@ -199,6 +204,10 @@ impl CommandSoFar {
             }
             Terminal::NameWord => self.goes(Due::Module(Directive::Name)),
             Terminal::RequireWord => self.goes(Due::Module(Directive::Require)),
+            Terminal::Check => self.asks(alloc, false),
+            Terminal::Assert => self.asks(alloc, true),
+            Terminal::Infer => self.goes_into(alloc, Purpose::Query(Asking::Infer)),
+            Terminal::Eval => self.goes_into(alloc, Purpose::Query(Asking::Eval)),
             _ => Advance::Refuses,
         }
     }
@@ -244,6 +253,8 @@ impl CommandSoFar {
                 Ok(self.goes(Due::Left))
             }
             (Purpose::Right(left), sign) => self.rule_read(alloc, left, term, sign),
+            (Purpose::Asked(demand), sign) => Ok(self.asked_read(alloc, demand, term, sign)),
+            (Purpose::Query(asking), sign) => self.query_read(alloc, asking, term, sign),
             _ => Ok(Advance::Refuses),
         }
     }

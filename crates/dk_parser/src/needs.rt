@@ -1,10 +1,10 @@
 //! The modules that a command or a directive needs.
 ghost use Rattle.std.specs.Prelude.{◌≡◌, ◌∷◌, ◌++◌, [], map, reverse, IfOk, OnOk};
 ghost use Rattle.std.specs.List.{flat_map};
-ghost use Rattle.dk_parser.specs.Modules.{modules_in, modules_in_maybe, modules_in_note, modules_in_param, modules_in_pattern, modules_in_rule, modules_of};
-ghost use Rattle.dk_parser.specs.RawViews.{maybe_written, written, written_form, written_note, written_param, written_pattern, written_rule};
+ghost use Rattle.dk_parser.specs.Modules.{modules_in, modules_in_asked, modules_in_maybe, modules_in_note, modules_in_param, modules_in_pattern, modules_in_rule, modules_of};
+ghost use Rattle.dk_parser.specs.RawViews.{maybe_written, written, written_asked, written_form, written_note, written_param, written_pattern, written_rule};
 
-use crate::{RawForm, RawNote, RawParam, RawRule};
+use crate::{RawAsked, RawForm, RawNote, RawParam, RawRule};
 use dk_model::{Listed, NoMemory};
 use dk_terms::{RawPat, RawTerm};
 use std::alloc::Global;
@@ -50,9 +50,29 @@ impl Needs {
                 self.params(params.as_slice())
             }
             RawForm::Rules(rules) => self.rules(rules.as_slice()),
+            RawForm::Query { asked, .. } => self.asked(asked),
             RawForm::Module(_) => Ok(()),
             RawForm::Require(name) => self.add(name),
         }
+    }
+
+    fn asked(&mut self, asked: &RawAsked) -> Result<(), NoMemory>
+        ensures { OnOk result (self.new.modules.items
+            ≡ self.old.modules.items ++ reverse (modules_in_asked (written_asked asked.now))) }
+    {
+        match asked {
+            RawAsked::Typed(t, a) => self.both(t, a),
+            RawAsked::Equal(t, u) => self.both(t, u),
+            RawAsked::Infer(t) | RawAsked::Eval(t) => self.term(t),
+        }
+    }
+
+    fn both(&mut self, first: &RawTerm, second: &RawTerm) -> Result<(), NoMemory>
+        ensures { OnOk result (self.new.modules.items ≡ self.old.modules.items
+            ++ reverse (modules_in (written first.now) ++ modules_in (written second.now))) }
+    {
+        self.term(second)?;
+        self.term(first)
     }
 
     fn params(&mut self, params: &[RawParam]) -> Result<(), NoMemory>

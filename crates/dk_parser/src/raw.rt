@@ -29,10 +29,28 @@ pub enum RawForm {
     },
     /// One or more rewrite rules.
     Rules(Listed<RawRule>),
+    /// A query: with `demand` it is `#ASSERT`, which is refused where the answer is no.
+    Query {
+        demand: bool,
+        asked: RawAsked,
+    },
     /// The directive `#NAME` and a module, which changes nothing.
     Module(Listed<u8>),
     /// The directive `#REQUIRE` and the module that it needs.
     Require(Listed<u8>),
+}
+
+/// What a query asks.
+#[derive(Drop)]
+pub enum RawAsked {
+    /// Whether the first has the second as its type.
+    Typed(RawTerm, RawTerm),
+    /// Whether the two are convertible.
+    Equal(RawTerm, RawTerm),
+    /// The type of the term.
+    Infer(RawTerm),
+    /// The normal form of the term.
+    Eval(RawTerm),
 }
 
 impl RawForm {

@@ -119,6 +119,8 @@ impl Standing {
             Terminal::Sign(Sign::CloseSquare) => self.anew(alloc, Side::Left),
             Terminal::Sign(Sign::Dot) => self.start(alloc),
             Terminal::Sign(_) => self.anew(alloc, Side::BehindHead),
+            Terminal::Check | Terminal::Assert => self.anew(alloc, Side::BehindHead),
+            Terminal::Infer | Terminal::Eval => self.anew(alloc, Side::BehindHead),
             _ => (),
         }
         Ok(())

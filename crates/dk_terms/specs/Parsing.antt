@@ -6,9 +6,11 @@ use Rattle.dk_terms.specs.declared.terminal.Terminal.{Terminal}
 use Rattle.dk_terms.specs.declared.terminal.Terminal.TheVariants as terminal
 use Rattle.dk_terms.specs.Written.{Written, written_name, written_qualified, written_star, written_wild, written_apply, written_arrow, written_product, written_bare, written_annotated, WrittenPattern, pattern_name, pattern_qualified, pattern_wild, pattern_apply, pattern_bare}
 
--- where an application stands: at the front of a term, or as the domain of a binder
+-- where an application stands: at the front of a term; as what a query asks of, which is an application and no longer term,
+-- so that a name there is an atom at once and a colon ends it; or as the domain of a binder
 pub data Role : Type 0 where
   at_front : Role
+  asked : Role
   domain : Option (List ℕ) → Role
 
 -- what has been read of an application and what stands before it: nothing or some atoms; a name or a wildcard at the
@@ -31,6 +33,10 @@ pub record TermSoFar : Type 0 where
 -- a term is due
 abbrev pub term_due : TermSoFar
 term_due = record { frames = []; application = reading at_front None }
+
+-- an application is due, and nothing but one
+abbrev pub asked_due : TermSoFar
+asked_due = record { frames = []; application = reading asked None }
 
 -- what a terminal makes of it: a term that goes on; a whole term, behind which this sign stands; or nothing
 pub data TermStep : Type 0 where
@@ -70,10 +76,6 @@ open_next fs (reading role o) = framed (bracket_frame role o) fs
 open_next fs (bindable v) = framed (bracket_frame at_front (Some (binder_term v))) fs
 open_next fs (bracketed v a) = term_refuses
 
-abbrev pub colon_next : List Frame → Application → TermStep
-colon_next fs (bindable v) = within fs (reading (domain v) None)
-colon_next fs application = term_refuses
-
 abbrev pub arrow_next : List Frame → Application → TermStep
 arrow_next fs (bindable v) = framed (wrapping (λ b. written_arrow (binder_term v) b)) fs
 arrow_next fs (reading at_front (Some a)) = framed (wrapping (λ b. written_arrow a b)) fs
@@ -102,10 +104,17 @@ abbrev pub domain_closed : List Frame → Option (List ℕ) → Written → Sign
 domain_closed (bracket_frame at_front None ∷ fs) v a sign.CloseBracket = within fs (bracketed v a)
 domain_closed fs v a s = term_refuses
 
+-- a colon stands behind a binder, or ends what a query asks of
+abbrev pub colon_next : List Frame → Application → TermStep
+colon_next fs (bindable v) = within fs (reading (domain v) None)
+colon_next fs (reading asked (Some a)) = ended fs a sign.Colon
+colon_next fs application = term_refuses
+
 -- what ends an application
 abbrev pub end_next : List Frame → Application → Sign → TermStep
 end_next fs (bindable v) s = ended fs (binder_term v) s
 end_next fs (reading at_front (Some a)) s = ended fs a s
+end_next fs (reading asked (Some a)) s = ended fs a s
 end_next fs (reading (domain v) (Some a)) s = domain_closed fs v a s
 end_next fs application s = term_refuses
 

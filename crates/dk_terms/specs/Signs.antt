@@ -41,3 +41,6 @@ comma = terminal.Sign sign.Comma
 
 abbrev pub long_arrow : Terminal
 long_arrow = terminal.Sign sign.LongArrow
+
+abbrev pub equal : Terminal
+equal = terminal.Sign sign.Equal

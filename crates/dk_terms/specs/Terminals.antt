@@ -22,9 +22,14 @@ module_part spelling = take (dot_role spelling) spelling
 abbrev pub name_part : List ℕ → List ℕ
 name_part spelling = drop (dot_role spelling + 1) spelling
 
--- a word outside the profile of commands: two of these begin directives
+-- the words that begin queries; any other one is outside the profile
+abbrev pub query_terminal : List ℕ → Terminal
+query_terminal spelling = if bytes_eq spelling (codes "#CHECK") then terminal.Check else (if bytes_eq spelling (codes "#ASSERT") then terminal.Assert
+    else (if bytes_eq spelling (codes "#INFER") then terminal.Infer else (if bytes_eq spelling (codes "#EVAL") then terminal.Eval else terminal.Profile)))
+
+-- a word that no name is spelt as: two of these begin directives, and four begin queries
 abbrev pub word_terminal : List ℕ → Terminal
-word_terminal spelling = if bytes_eq spelling (codes "#NAME") then terminal.NameWord else (if bytes_eq spelling (codes "#REQUIRE") then terminal.RequireWord else terminal.Profile)
+word_terminal spelling = if bytes_eq spelling (codes "#NAME") then terminal.NameWord else (if bytes_eq spelling (codes "#REQUIRE") then terminal.RequireWord else query_terminal spelling)
 
 abbrev pub terminal_by : TokenKind → List ℕ → Terminal
 terminal_by kind.Plain spelling = terminal.Name spelling

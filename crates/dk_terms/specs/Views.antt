@@ -34,6 +34,7 @@ maybe_pattern (Some p) = Some (written_pattern p)
 
 abbrev pub plain_role : Role → plain.Role
 plain_role role.Front = plain.at_front
+plain_role role.Asked = plain.asked
 plain_role (role.Domain v) = plain.domain v
 
 abbrev pub plain_application : Application → plain.Application

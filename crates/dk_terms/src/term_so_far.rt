@@ -1,6 +1,6 @@
 //! Terms, one terminal at a time.
-ghost use Rattle.std.specs.Prelude.{◌≡◌, ◌∷◌, IfOk, Some};
-ghost use Rattle.dk_terms.specs.Parsing.{applied_to, arrow_next, atom_next, binder_next, binder_term, bracket_ended, colon_next, domain_closed, double_arrow_next, end_next, ended, framed, open_next, reading, term_due, term_next, within};
+ghost use Rattle.std.specs.Prelude.{◌≡◌, [], ◌∷◌, IfOk, None, Some};
+ghost use Rattle.dk_terms.specs.Parsing.{applied_to, arrow_next, asked_due, atom_next, binder_next, binder_term, bracket_ended, colon_next, domain_closed, double_arrow_next, end_next, ended, framed, open_next, reading, term_due, term_next, within};
 ghost use Rattle.dk_terms.specs.Views.{plain_application, plain_frame, plain_role, plain_term, plain_term_step, wrapped};
 ghost use Rattle.dk_terms.specs.RawViews.{maybe_written, written};
 
@@ -17,6 +17,8 @@ use std::mem::replace;
 pub enum Role {
     /// At the front of a term.
     Front,
+    /// As what a query asks of: an application, and no longer term.
+    Asked,
     /// As the domain of a binder. None is the wildcard.
     Domain(Option<Listed<u8>>),
 }
@@ -145,10 +147,24 @@ impl TermSoFar {
     pub fn begin(&mut self, alloc: Global)
         ensures { plain_term self.new ≡ term_due }
     {
+        self.begin_as(alloc, Role::Front);
+    }
+
+    /// Begins anew, with an application that a colon or another sign ends.
+    pub fn begin_asked(&mut self, alloc: Global)
+        ensures { plain_term self.new ≡ asked_due }
+    {
+        self.begin_as(alloc, Role::Asked);
+    }
+
+    fn begin_as(&mut self, alloc: Global, role: Role)
+        ensures { plain_term self.new
+            ≡ record { frames = []; application = reading (plain_role role) None } }
+    {
         let mut frames = replace(&mut self.frames, Listed::new(alloc)).into_vec();
         frames.clear();
         self.frames = Listed::from_vec(frames);
-        self.application = Application::Reading(Role::Front, None);
+        self.application = Application::Reading(role, None);
     }
 
     /// Takes a terminal.
@@ -165,7 +181,7 @@ impl TermSoFar {
             }
             Terminal::Star => self.atom(alloc, RawTerm::Star),
             Terminal::Sign(Sign::OpenBracket) => self.open(),
-            Terminal::Sign(Sign::Colon) => Ok(self.colon()),
+            Terminal::Sign(Sign::Colon) => self.colon(alloc),
             Terminal::Sign(Sign::Arrow) => self.arrow(),
             Terminal::Sign(Sign::DoubleArrow) => self.double_arrow(),
             Terminal::Sign(sign) => self.end(alloc, sign),
@@ -258,13 +274,19 @@ impl TermSoFar {
         }
     }
 
-    fn colon(&mut self) -> TermStep
-        ensures { plain_term_step result self.new
-            ≡ colon_next (plain_term self.old).frames (plain_term self.old).application }
+    fn colon(&mut self, alloc: Global) -> Result<TermStep, NoMemory>
+        ensures { IfOk result (λ step. plain_term_step step self.new
+            ≡ colon_next (plain_term self.old).frames (plain_term self.old).application) }
     {
         match self.taken() {
-            Application::Bindable(v) => self.within(Application::Reading(Role::Domain(v), None)),
-            _ => TermStep::Refuses,
+            Application::Bindable(v) => {
+                Ok(self.within(Application::Reading(Role::Domain(v), None)))
+            }
+            Application::Reading(role, read) => match (role, read) {
+                (Role::Asked, Some(a)) => self.unwind(alloc, a, Sign::Colon),
+                _ => Ok(TermStep::Refuses),
+            },
+            Application::Bracketed(_, _) => Ok(TermStep::Refuses),
         }
     }
 
@@ -277,6 +299,7 @@ impl TermSoFar {
             Application::Reading(role, read) => match (role, read) {
                 (Role::Front, Some(a)) => self.framed(Frame::Wraps(Wrap::Arrow(a))),
                 (Role::Domain(v), Some(a)) => self.framed(Frame::Wraps(Wrap::Product(v, a))),
+                (Role::Asked, Some(_)) => Ok(TermStep::Refuses),
                 (_, None) => Ok(TermStep::Refuses),
             },
             Application::Bracketed(v, a) => self.framed(Frame::Wraps(Wrap::Product(v, a))),
@@ -306,6 +329,7 @@ impl TermSoFar {
             Application::Bindable(v) => self.unwind(alloc, binder_term(v), sign),
             Application::Reading(role, read) => match (role, read) {
                 (Role::Front, Some(a)) => self.unwind(alloc, a, sign),
+                (Role::Asked, Some(a)) => self.unwind(alloc, a, sign),
                 (Role::Domain(v), Some(a)) => Ok(self.close_domain(v, a, sign)),
                 (_, None) => Ok(TermStep::Refuses),
             },
@@ -336,11 +360,13 @@ impl TermSoFar {
             (plain_frame frame ∷ (plain_term self.old).frames) binder (written a) sign }
     {
         match frame {
-            Frame::Bracket(Role::Front, None) => match sign {
-                Sign::CloseBracket => self.within(Application::Bracketed(binder, a)),
+            Frame::Bracket(role, read) => match (role, read, sign) {
+                (Role::Front, None, Sign::CloseBracket) => {
+                    self.within(Application::Bracketed(binder, a))
+                }
                 _ => TermStep::Refuses,
             },
-            _ => TermStep::Refuses,
+            Frame::Wraps(_) => TermStep::Refuses,
         }
     }
 

@@ -1,6 +1,6 @@
 //! Terminals: what a token is to the grammar (docs/grammar.md).
 ghost use Rattle.std.specs.Prelude.{◌≡◌, ◌+◌, IfOk, drop, position, take};
-ghost use Rattle.dk_terms.specs.Terminals.{dot_role, is_dot, module_part, name_part, terminal_of, word_terminal};
+ghost use Rattle.dk_terms.specs.Terminals.{dot_role, is_dot, module_part, name_part, query_terminal, terminal_of, word_terminal};
 
 use dk_lexer::{Sign, Token, TokenKind};
 use dk_model::{Listed, NoMemory};
@@ -22,6 +22,14 @@ pub enum Terminal {
     NameWord,
     /// The word `#REQUIRE`.
     RequireWord,
+    /// The word `#CHECK`.
+    Check,
+    /// The word `#ASSERT`.
+    Assert,
+    /// The word `#INFER`.
+    Infer,
+    /// The word `#EVAL`.
+    Eval,
     /// Any other word outside the profile.
     Profile,
     Sign(Sign),
@@ -52,7 +60,7 @@ impl Terminal {
     }
 }
 
-// The terminal of a word outside the profile of commands: two of these begin directives.
+// The terminal of a word that no name is spelt as: six of these begin directives and queries.
 fn word(spelling: &[u8]) -> Terminal
     ensures { result ≡ word_terminal spelling.now }
 {
@@ -60,6 +68,23 @@ fn word(spelling: &[u8]) -> Terminal
         Terminal::NameWord
     } else if spelling == b"#REQUIRE".as_slice() {
         Terminal::RequireWord
+    } else {
+        query_word(spelling)
+    }
+}
+
+// The terminal of a word that begins no directive.
+fn query_word(spelling: &[u8]) -> Terminal
+    ensures { result ≡ query_terminal spelling.now }
+{
+    if spelling == b"#CHECK".as_slice() {
+        Terminal::Check
+    } else if spelling == b"#ASSERT".as_slice() {
+        Terminal::Assert
+    } else if spelling == b"#INFER".as_slice() {
+        Terminal::Infer
+    } else if spelling == b"#EVAL".as_slice() {
+        Terminal::Eval
     } else {
         Terminal::Profile
     }

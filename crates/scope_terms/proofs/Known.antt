@@ -209,12 +209,12 @@ lookup_last t (e ∷ es) k = first_case (t e.0) e.1 (lookup t (es ++ (k, unenter
 pub none_here : (es : List (Key × Declared)) (x y : Spelling) → None ≡ lookup_key (test x) es → y ≡ x → lookup (test y) es ≡ None
 none_here es x y none same = subst (λ z. lookup (test z) es ≡ None) (sym same) (none_found (test x) es (sym none))
 
-get_before : {X : Type 0} (xs : List X) (x : X) (p : ℕ) → p + 1 ≤ length xs → slice_get (xs ++ x ∷ []) p ≡ slice_get xs p
+pub get_before : {X : Type 0} (xs : List X) (x : X) (p : ℕ) → p + 1 ≤ length xs → slice_get (xs ++ x ∷ []) p ≡ slice_get xs p
 get_before [] x p lt = absurd (omega arith)
 get_before (y ∷ ys) x zero lt = refl
 get_before (y ∷ ys) x (suc p) lt = get_before ys x p (omega arith)
 
-get_last : {X : Type 0} (xs : List X) (x : X) → slice_get (xs ++ x ∷ []) (length xs) ≡ Some x
+pub get_last : {X : Type 0} (xs : List X) (x : X) → slice_get (xs ++ x ∷ []) (length xs) ≡ Some x
 get_last [] x = refl
 get_last (y ∷ ys) x = get_last ys x
 

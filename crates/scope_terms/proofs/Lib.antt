@@ -1,4 +1,5 @@
 pub mod Entries
+pub mod Found
 pub mod Known
 pub mod Readings
 pub mod Plain

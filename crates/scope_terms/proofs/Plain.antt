@@ -2,11 +2,11 @@
 use Rattle.std.proofs.Common.{◌≡◌, ◌∙◌, ap, refl, false, if◌then◌else◌, is_some, List, [], ◌∷◌, ◌++◌, ◌+◌, length}
 use Rattle.std.specs.Prelude.{Option, None, Some}
 use Rattle.dk_model.specs.Trees.{Tree, apply, bare, annotated, product}
-use Rattle.dk_model.specs.Scoping.{PlainLeft, left_guard, left_abstraction, left_apply, declare, rule_command}
+use Rattle.dk_model.specs.Scoping.{PlainLeft, left_guard, left_abstraction, left_apply, typed, alike, type_of, value_of, declare, rule_command, query}
 use Rattle.dk_model.specs.declared.code.Code.TheVariants.{E11, E13}
-use Rattle.dk_parser.specs.Written.{Written, written_name, written_qualified, written_star, written_wild, written_apply, written_arrow, written_product, written_bare, written_annotated, WrittenPattern, pattern_name, pattern_qualified, pattern_wild, pattern_guard, pattern_apply, pattern_bare, WrittenParam, WrittenNote, WrittenRule, WrittenForm, written_declare, written_rules, written_module, written_require}
-use Rattle.scope_terms.specs.Scopes.{Binder, Module, Numbered, Symbols, no_names, refused, one, both, number_of, with_name, with_parameter, term_of, maybe_term_of, left_of, declaration_of, notes_of, variables_of, rule_of, rules_of, command_of, scope_of, names_after, numbers_in, own_of, same_module}
-use Rattle.scope_terms.specs.Plain.{ArePlainNotes, ArePlainParams, ArePlainRules, IsPlain, IsPlainForm, IsPlainMaybe, IsPlainPattern, numbered_after}
+use Rattle.dk_parser.specs.Written.{Written, written_name, written_qualified, written_star, written_wild, written_apply, written_arrow, written_product, written_bare, written_annotated, WrittenPattern, pattern_name, pattern_qualified, pattern_wild, pattern_guard, pattern_apply, pattern_bare, WrittenParam, WrittenNote, WrittenRule, WrittenAsked, asked_typed, asked_alike, asked_type, asked_value, WrittenForm, written_declare, written_rules, written_query, written_module, written_require}
+use Rattle.scope_terms.specs.Scopes.{Binder, Module, Numbered, Symbols, no_names, refused, one, both, number_of, with_name, with_parameter, term_of, maybe_term_of, left_of, declaration_of, notes_of, variables_of, rule_of, rules_of, asked_of, command_of, scope_of, names_after, numbers_in, own_of, same_module}
+use Rattle.scope_terms.specs.Plain.{ArePlainNotes, ArePlainParams, ArePlainRules, IsPlain, IsPlainAsked, IsPlainForm, IsPlainMaybe, IsPlainPattern, numbered_after}
 use Rattle.scope_terms.proofs.Known.{same_self}
 
 module _ (s t : Symbols) (names : Numbered) where
@@ -51,10 +51,17 @@ module _ (s t : Symbols) (names : Numbered) where
   plain_rules [] plain = refl
   plain_rules (r ∷ rs) plain = λ i. both (λ x xs. x ∷ xs) (plain_rule r plain.0.0 plain.0.1 plain.0.2 i) (plain_rules rs plain.1 i)
 
+  plain_asked : (asked : WrittenAsked) → IsPlainAsked asked → asked_of s names asked ≡ asked_of t names asked
+  plain_asked (asked_typed w a) plain = λ i. both typed (plain_term no_names [] w plain.0 i) (plain_term no_names [] a plain.1 i)
+  plain_asked (asked_alike w u) plain = λ i. both alike (plain_term no_names [] w plain.0 i) (plain_term no_names [] u plain.1 i)
+  plain_asked (asked_type w) plain = ap (one type_of) (plain_term no_names [] w plain)
+  plain_asked (asked_value w) plain = ap (one value_of) (plain_term no_names [] w plain)
+
   plain_command : (form : WrittenForm) → IsPlainForm form → command_of s names form ≡ command_of t names form
   plain_command (written_declare sort x ps typ body) plain = λ i.
       if is_some (number_of names x) then refused E11 else (one (λ d. declare sort d.typ d.body) (plain_declaration [] ps typ body plain.0 plain.1 plain.2 i))
   plain_command (written_rules rs) plain = ap (one rule_command) (plain_rules rs plain)
+  plain_command (written_query demand asked) plain = ap (one (query demand)) (plain_asked asked plain)
   plain_command (written_module m) plain = refl
   plain_command (written_require m) plain = refl
 
@@ -64,11 +71,13 @@ plain_scoped s t m n form plain same = plain_command s t (own_of s m) form plain
 pub own_after : (s : Symbols) (m : Module) (form : WrittenForm) → own_of (names_after s m form) m ≡ numbered_after (own_of s m) form
 own_after s m (written_declare sort x ps typ body) = ap (λ b. record { numbers = if b then numbers_in s m ++ (x, s.count) ∷ [] else numbers_in s m; count = s.count + 1 }) (same_self m)
 own_after s m (written_rules rs) = refl
+own_after s m (written_query demand asked) = refl
 own_after s m (written_module n) = refl
 own_after s m (written_require n) = refl
 
 pub others_after : (s : Symbols) (m n : Module) (form : WrittenForm) → same_module m n ≡ false → numbers_in (names_after s m form) n ≡ numbers_in s n
 others_after s m n (written_declare sort x ps typ body) apart = ap (λ b. if b then numbers_in s n ++ (x, s.count) ∷ [] else numbers_in s n) apart
 others_after s m n (written_rules rs) apart = refl
+others_after s m n (written_query demand asked) apart = refl
 others_after s m n (written_module o) apart = refl
 others_after s m n (written_require o) apart = refl

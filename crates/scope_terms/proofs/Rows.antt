@@ -1,12 +1,12 @@
 -- Scoping at the rows of docs/scoping.md, by computation.
-use Rattle.std.proofs.Common.{◌≡◌, List, [], ◌∷◌, refl}
-use Rattle.std.specs.Prelude.{Option, Some, None, codes}
+use Rattle.std.proofs.Common.{◌≡◌, List, [], ◌∷◌, ◌++◌, refl}
+use Rattle.std.specs.Prelude.{Option, Some, None, codes, true, false}
 use Rattle.dk_model.specs.Trees.{symbol, variable, rule_variable, apply, bare, annotated, product}
-use Rattle.dk_model.specs.Scoping.{left_symbol, left_rule_variable, left_variable, left_abstraction, left_apply, declare, rule_command}
+use Rattle.dk_model.specs.Scoping.{left_symbol, left_rule_variable, left_variable, left_abstraction, left_apply, typed, value_of, declare, rule_command, query}
 use Rattle.dk_model.specs.declared.signature.SymSort.TheVariants.{Static, Definable}
 use Rattle.dk_model.specs.declared.code.Code.TheVariants.{E10, E11, E12, E13}
-use Rattle.dk_parser.specs.Written.{Written, written_name, written_qualified, written_wild, written_apply, written_arrow, written_product, written_bare, written_annotated, WrittenPattern, pattern_name, pattern_qualified, pattern_wild, pattern_guard, pattern_apply, pattern_bare, WrittenNote, WrittenForm, written_declare, written_rules}
-use Rattle.scope_terms.specs.Scopes.{Module, Symbols, scoped, refused, no_symbols, with_symbol, names_after, own_of, scope_of, number_of}
+use Rattle.dk_parser.specs.Written.{Written, written_name, written_qualified, written_wild, written_apply, written_arrow, written_product, written_bare, written_annotated, WrittenPattern, pattern_name, pattern_qualified, pattern_wild, pattern_guard, pattern_apply, pattern_bare, WrittenNote, asked_typed, asked_alike, asked_value, WrittenForm, written_declare, written_rules, written_query}
+use Rattle.scope_terms.specs.Scopes.{Module, Symbols, scoped, refused, no_symbols, with_symbol, with_number, names_after, own_of, scope_of, number_of}
 
 abbrev a : Written
 a = written_name (codes "a")
@@ -43,7 +43,7 @@ f_of p = pattern_apply (pattern_name (codes "f")) p
 names_are : own_of names None ≡ record { numbers = (codes "a", 0) ∷ (codes "f", 1) ∷ []; count = 2 }
 names_are = refl
 
-rules_take_a_number : names_after names None (rule [] pattern_wild a) ≡ record { declared = names.declared; count = 3 }
+rules_take_a_number : names_after names None (rule [] pattern_wild a) ≡ record { declared = names.declared; spelt = names.spelt ++ None ∷ []; count = 3 }
 rules_take_a_number = refl
 
 found : number_of (own_of names None) (codes "f") ≡ Some 1
@@ -145,6 +145,26 @@ left_side_first = refl
 rule_variable_hides : scope_of names None (rule (record { name = codes "f"; note = Some a } ∷ []) (f_of (pattern_name (codes "f"))) (written_name (codes "f")))
     ≡ scoped (rule_command (record { vars = 1; notes = Some (symbol 0) ∷ []; left = left_apply (left_rule_variable 0) (left_rule_variable 0); right = rule_variable 0 } ∷ []))
 rule_variable_hides = refl
+
+-- ---- queries
+
+-- #ASSERT f a : a.
+assertion : scope_of names None (written_query true (asked_typed (written_apply (written_name (codes "f")) a) a)) ≡ scoped (query true (typed (apply (symbol 1) (symbol 0)) (symbol 0)))
+assertion = refl
+
+-- #EVAL x => x.
+evaluation : scope_of names None (written_query false (asked_value (written_bare (Some (codes "x")) x))) ≡ scoped (query false (value_of (bare (variable 0))))
+evaluation = refl
+
+-- #CHECK _ : u.  and  #CHECK u == _.
+first_of_two : scope_of names None (written_query false (asked_typed written_wild u)) ≡ refused E12
+first_of_two = refl
+
+second_of_two : scope_of names None (written_query false (asked_alike u written_wild)) ≡ refused E10
+second_of_two = refl
+
+query_takes_a_number : names_after names None (written_query false (asked_value a)) ≡ with_number names
+query_takes_a_number = refl
 
 -- ---- modules
 

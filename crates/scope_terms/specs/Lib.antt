@@ -7,4 +7,5 @@ pub mod Answers
 pub mod Meanings
 pub mod Spines
 pub mod Binding
+pub mod Found
 pub mod Hashing

@@ -3,9 +3,9 @@ use Rattle.std.specs.Prelude.{ℕ, Option, List, [], map}
 use Rattle.std.specs.Option.{option_map}
 use Rattle.std.specs.Borrow.{Bor}
 use Rattle.dk_model.specs.Trees.{Tree}
-use Rattle.dk_model.specs.Scoping.{PlainLeft, PlainScopedRule, PlainCommand, plain_scoped_rule}
+use Rattle.dk_model.specs.Scoping.{PlainLeft, PlainScopedRule, PlainAsked, PlainCommand, plain_scoped_rule}
 use Rattle.dk_model.specs.declared.scoped.ScopedRule.{ScopedRule}
-use Rattle.dk_parser.specs.RawViews.{written, maybe_written, written_pattern, written_param, written_note, written_rule, written_form}
+use Rattle.dk_parser.specs.RawViews.{written, maybe_written, written_pattern, written_param, written_note, written_rule, written_asked, written_form}
 use Rattle.dk_parser.specs.Written.{Written, written_apply, written_product, written_bare, written_annotated}
 use Rattle.dk_parser.specs.declared.raw.Raw.{Raw}
 use Rattle.dk_terms.specs.declared.raw.RawTerm.{RawTerm}
@@ -13,7 +13,8 @@ use Rattle.dk_terms.specs.declared.raw.RawPat.{RawPat}
 use Rattle.dk_parser.specs.declared.raw.RawParam.{RawParam}
 use Rattle.dk_parser.specs.declared.raw.RawNote.{RawNote}
 use Rattle.dk_parser.specs.declared.raw.RawRule.{RawRule}
-use Rattle.scope_terms.specs.Scopes.{Binder, Meaning, means_variable, means_rule_variable, means_symbol, unknown, Declaration, Numbered, no_names, Symbols, Scoping, meant_term, meant_left, meaning_of, qualified_meaning, term_of, maybe_term_of, left_of, declaration_of, notes_of, variables_of, rule_of, rules_of, scope_of}
+use Rattle.dk_parser.specs.declared.raw.RawAsked.{RawAsked}
+use Rattle.scope_terms.specs.Scopes.{Binder, Meaning, means_variable, means_rule_variable, means_symbol, unknown, Declaration, Numbered, no_names, Symbols, Scoping, meant_term, meant_left, meaning_of, qualified_meaning, term_of, maybe_term_of, left_of, declaration_of, notes_of, variables_of, rule_of, rules_of, asked_of, scope_of}
 use Rattle.scope_terms.specs.Names.{reading}
 use Rattle.scope_terms.specs.Reading.{Reading, current, own_names}
 use Rattle.dk_model.specs.Signatures.{maybe_tree}
@@ -129,6 +130,9 @@ plain_rules rules = map plain_scoped_rule rules
 
 abbrev pub rules_sense : Reading → List RawRule → Scoping (List PlainScopedRule)
 rules_sense reading rules = rules_of reading.symbols (own_names reading) (map written_rule rules)
+
+abbrev pub asked_sense : Reading → RawAsked → Scoping PlainAsked
+asked_sense reading asked = asked_of reading.symbols (own_names reading) (written_asked asked)
 
 abbrev pub scoping_of : Reading → Raw → Scoping PlainCommand
 scoping_of reading raw = scope_of reading.symbols (current reading) (written_form raw.form)

@@ -1,6 +1,6 @@
 -- For proofs: what is known of the modules, as it is kept.
-use Rattle.std.specs.Prelude.{◌≡◌, ◌≤◌, ◌+◌, ℕ, None, Some, List, [], ◌∷◌, ◌++◌, length, map, reverse, if◌then◌else◌, slice_get}
-use Rattle.std.specs.Option.{option_map, unwrap_or}
+use Rattle.std.specs.Prelude.{◌≡◌, ◌≤◌, ◌<◌, ◌+◌, ℕ, Option, None, Some, List, [], ◌∷◌, ◌++◌, length, map, reverse, if◌then◌else◌, slice_get}
+use Rattle.std.specs.Option.{ForSome, option_map, unwrap_or}
 use Rattle.std.specs.Map.{lookup}
 use Rattle.scope_terms.specs.Scopes.{Module, Spelling, same_module, same_spelling}
 use Rattle.scope_terms.specs.Reading.{Reading}
@@ -10,6 +10,7 @@ use Rattle.scope_terms.specs.declared.modules.Entered.TheVariants.{New}
 use Rattle.scope_terms.specs.declared.modules.Modules.{Modules}
 use Rattle.scope_terms.specs.declared.modules.Place.{Place}
 use Rattle.scope_terms.specs.declared.modules.Place.TheVariants.{Nameless, Named}
+use Rattle.scope_terms.specs.declared.spelt.Symbol.{Symbol}
 
 -- a module that was never entered
 abbrev pub unentered : Declared
@@ -53,15 +54,27 @@ pub record Changes (old new : Modules) (m : Module) (d : Declared) : Type 0 wher
   pub known : (n : Module) → known_of new n ≡ if same_module m n then d else known_of old n
   pub places : KeepsPlaces old new
 
+-- the module and the name of a symbol, by where they are kept
+abbrev pub spelt_at : Modules → Option Symbol → Option (Module × Spelling)
+spelt_at ms None = None
+spelt_at ms (Some s) = option_map (λ e. (module_at ms s.place, e.0)) (slice_get (known_of ms (module_at ms s.place)).table s.at)
+
+-- its module has a place, and that name
+abbrev pub HasName : Modules → Symbol → Type 0
+HasName ms s = IsWithin ms s.place × (s.at < length (known_of ms (module_at ms s.place)).table)
+
+abbrev pub IsKept : Modules → Option Symbol → Type 0
+IsKept ms s = ForSome s (HasName ms)
+
 -- the first of these places; where there is none, that of the module without a name
 abbrev pub first_place : List Place → Place
 first_place [] = Nameless
 first_place (p ∷ ps) = p
 
--- the modules with those at these places entered, the one being read last
-abbrev pub reading_of : Modules → List Place → ℕ → Reading
-reading_of ms places count = record {
-  symbols = record { declared = λ m. (known_of ms m).table; count = count };
+-- the modules with those at these places entered, the one being read last, and these symbols, one for each number
+abbrev pub reading_of : Modules → List Place → List (Option Symbol) → ℕ → Reading
+reading_of ms places symbols count = record {
+  symbols = record { declared = λ m. (known_of ms m).table; spelt = map (spelt_at ms) symbols; count = count };
   entered = map (module_at ms) (reverse places);
   standing = λ m. (known_of ms m).standing;
 }

@@ -4,4 +4,4 @@ use Rattle.scope_terms.specs.Reading.{Reading}
 use Rattle.scope_terms.specs.declared.names.Names.{Names}
 
 abbrev pub reading : Names → Reading
-reading names = reading_of names.modules names.entered.items names.count
+reading names = reading_of names.modules names.entered.items names.symbols.items names.count

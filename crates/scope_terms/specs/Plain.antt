@@ -1,6 +1,6 @@
 -- For callers: commands without qualified names, and the names that one module has after a command.
 use Rattle.std.specs.Prelude.{◌+◌, Option, None, Some, List, [], ◌∷◌}
-use Rattle.dk_parser.specs.Written.{Written, written_name, written_qualified, written_star, written_wild, written_apply, written_arrow, written_product, written_bare, written_annotated, WrittenPattern, pattern_name, pattern_qualified, pattern_wild, pattern_guard, pattern_apply, pattern_bare, WrittenParam, WrittenNote, WrittenRule, WrittenForm, written_declare, written_rules, written_module, written_require}
+use Rattle.dk_parser.specs.Written.{Written, written_name, written_qualified, written_star, written_wild, written_apply, written_arrow, written_product, written_bare, written_annotated, WrittenPattern, pattern_name, pattern_qualified, pattern_wild, pattern_guard, pattern_apply, pattern_bare, WrittenParam, WrittenNote, WrittenRule, WrittenAsked, asked_typed, asked_alike, asked_type, asked_value, WrittenForm, written_declare, written_rules, written_query, written_module, written_require}
 use Rattle.scope_terms.specs.Scopes.{Numbered, with_name}
 
 abbrev pub IsPlain : Written → Type 0
@@ -38,10 +38,17 @@ abbrev pub ArePlainRules : List WrittenRule → Type 0
 ArePlainRules [] = Unit {0}
 ArePlainRules (r ∷ rs) = (ArePlainNotes r.context × IsPlainPattern r.left × IsPlain r.right) × ArePlainRules rs
 
+abbrev pub IsPlainAsked : WrittenAsked → Type 0
+IsPlainAsked (asked_typed t a) = IsPlain t × IsPlain a
+IsPlainAsked (asked_alike t u) = IsPlain t × IsPlain u
+IsPlainAsked (asked_type t) = IsPlain t
+IsPlainAsked (asked_value t) = IsPlain t
+
 -- no name of the command is qualified
 abbrev pub IsPlainForm : WrittenForm → Type 0
 IsPlainForm (written_declare sort x params typ body) = ArePlainParams params × IsPlainMaybe typ × IsPlainMaybe body
 IsPlainForm (written_rules rs) = ArePlainRules rs
+IsPlainForm (written_query demand asked) = IsPlainAsked asked
 IsPlainForm (written_module m) = Unit {0}
 IsPlainForm (written_require m) = Unit {0}
 

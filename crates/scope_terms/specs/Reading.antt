@@ -65,3 +65,7 @@ after_leaving reading = with_standing reading (drop 1 reading.entered) (current 
 -- the bytes of a module's name
 abbrev pub module_of : Option (Bor (List ℕ)) → Module
 module_of name = option_map (λ n. n.now) name
+
+-- a module and a name as they are handed out
+abbrev pub spelt_word : Option (Bor (List ℕ)) × Bor (List ℕ) → Module × Spelling
+spelt_word word = (module_of word.0, word.1.now)

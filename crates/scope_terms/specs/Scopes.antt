@@ -1,13 +1,13 @@
 -- Trusted: scoping: which binder, rule variable or symbol each name means (docs/scoping.md).
-use Rattle.std.specs.Prelude.{ℕ, ◌+◌, nat_eq, Bool, true, false, if◌then◌else◌, is_some, Option, Some, None, List, [], ◌∷◌, ◌++◌, length}
+use Rattle.std.specs.Prelude.{ℕ, ◌+◌, nat_eq, Bool, true, false, if◌then◌else◌, is_some, Option, Some, None, List, [], ◌∷◌, ◌++◌, length, get_or}
 use Rattle.std.specs.Option.{option_map, option_map_or}
 use Rattle.std.specs.Cmp.Lexicographic.{pointwise}
 use Rattle.std.specs.Map.{lookup}
 use Rattle.dk_model.specs.Trees.{Tree, star, symbol, variable, rule_variable, apply, bare, annotated, product}
-use Rattle.dk_model.specs.Scoping.{PlainLeft, left_symbol, left_rule_variable, left_variable, left_wildcard, left_guard, left_abstraction, left_apply, PlainScopedRule, PlainCommand, declare, rule_command}
+use Rattle.dk_model.specs.Scoping.{PlainLeft, left_symbol, left_rule_variable, left_variable, left_wildcard, left_guard, left_abstraction, left_apply, PlainScopedRule, PlainAsked, typed, alike, type_of, value_of, PlainCommand, declare, rule_command, query}
 use Rattle.dk_model.specs.declared.code.Code.{Code}
 use Rattle.dk_model.specs.declared.code.Code.TheVariants.{E06, E10, E11, E12, E13}
-use Rattle.dk_parser.specs.Written.{Written, written_name, written_qualified, written_star, written_wild, written_apply, written_arrow, written_product, written_bare, written_annotated, WrittenPattern, pattern_name, pattern_qualified, pattern_wild, pattern_guard, pattern_apply, pattern_bare, WrittenParam, WrittenNote, WrittenRule, WrittenForm, written_declare, written_rules, written_module, written_require}
+use Rattle.dk_parser.specs.Written.{Written, written_name, written_qualified, written_star, written_wild, written_apply, written_arrow, written_product, written_bare, written_annotated, WrittenPattern, pattern_name, pattern_qualified, pattern_wild, pattern_guard, pattern_apply, pattern_bare, WrittenParam, WrittenNote, WrittenRule, WrittenAsked, asked_typed, asked_alike, asked_type, asked_value, WrittenForm, written_declare, written_rules, written_query, written_module, written_require}
 
 -- a name as it is spelt
 abbrev pub Spelling : Type 0
@@ -47,13 +47,15 @@ same_module None None = true
 same_module (Some x) (Some y) = same_spelling x y
 same_module m n = false
 
--- the names that each module declares, with their numbers, and the number that is next, whichever the module
+-- the names that each module declares, with their numbers; the module and the name with which each number was declared,
+-- None for a command that declares nothing; and the number that is next, whichever the module
 pub record Symbols : Type 0 where
   pub declared : Module → List (Spelling × ℕ)
+  pub spelt : List (Option (Module × Spelling))
   pub count : ℕ
 
 abbrev pub no_symbols : Symbols
-no_symbols = record { declared = λ m. []; count = 0 }
+no_symbols = record { declared = λ m. []; spelt = []; count = 0 }
 
 abbrev pub numbers_in : Symbols → Module → List (Spelling × ℕ)
 numbers_in symbols m = symbols.declared m
@@ -66,13 +68,22 @@ own_of symbols m = record { numbers = numbers_in symbols m; count = symbols.coun
 abbrev pub with_symbol : Symbols → Module → Spelling → Symbols
 with_symbol symbols m x = record {
   declared = λ n. if same_module m n then numbers_in symbols n ++ (x, symbols.count) ∷ [] else numbers_in symbols n;
+  spelt = symbols.spelt ++ Some (m, x) ∷ [];
   count = symbols.count + 1;
 }
 
--- the symbols after a command of this module: a declaration adds its name, rules take a number without a name
+-- one more number, of a command that declares nothing
+abbrev pub with_number : Symbols → Symbols
+with_number symbols = record { declared = symbols.declared; spelt = symbols.spelt ++ None ∷ []; count = symbols.count + 1 }
+
+-- the module and the name of the symbol with this number; None where there is none
+abbrev pub spelling_of : Symbols → ℕ → Option (Module × Spelling)
+spelling_of symbols k = get_or symbols.spelt k None
+
+-- the symbols after a command of this module: a declaration adds its name, rules and queries take a number without a name
 abbrev pub names_after : Symbols → Module → WrittenForm → Symbols
 names_after symbols m (written_declare sort x params typ body) = with_symbol symbols m x
-names_after symbols m form = record { declared = symbols.declared; count = symbols.count + 1 }
+names_after symbols m form = with_number symbols
 
 -- a value, or the first code from left to right
 pub data Scoping (A : Type 0) : Type 0 where
@@ -203,6 +214,15 @@ abbrev pub rules_of : Symbols → Numbered → List WrittenRule → Scoping (Lis
 rules_of symbols names [] = scoped []
 rules_of symbols names (r ∷ rs) = both (λ s ss. s ∷ ss) (rule_of symbols names r) (rules_of symbols names rs)
 
+-- ---- queries
+
+-- the first term is scoped before the second; neither has rule variables or parameters
+abbrev pub asked_of : Symbols → Numbered → WrittenAsked → Scoping PlainAsked
+asked_of symbols names (asked_typed t a) = both typed (term_of symbols names no_names [] t) (term_of symbols names no_names [] a)
+asked_of symbols names (asked_alike t u) = both alike (term_of symbols names no_names [] t) (term_of symbols names no_names [] u)
+asked_of symbols names (asked_type t) = one type_of (term_of symbols names no_names [] t)
+asked_of symbols names (asked_value t) = one value_of (term_of symbols names no_names [] t)
+
 -- ---- commands
 
 -- a command over these symbols, where a plain name means one of `names`; the declared name is looked at first. Until
@@ -211,6 +231,7 @@ abbrev pub command_of : Symbols → Numbered → WrittenForm → Scoping PlainCo
 command_of symbols names (written_declare sort x params typ body) =
     if is_some (number_of names x) then refused E11 else (one (λ d. declare sort d.typ d.body) (declaration_of symbols names [] params typ body))
 command_of symbols names (written_rules rs) = one rule_command (rules_of symbols names rs)
+command_of symbols names (written_query demand asked) = one (query demand) (asked_of symbols names asked)
 command_of symbols names (written_module m) = refused E06
 command_of symbols names (written_require m) = refused E06
 

@@ -1,7 +1,9 @@
 //! What callers may rely on of names and their numbers.
 ghost use Rattle.std.specs.Prelude.{◌≡◌, ◌≢◌, ℕ, List, None, Some, false};
 ghost use Rattle.dk_parser.specs.Written.{WrittenForm};
-ghost use Rattle.scope_terms.specs.Scopes.{Module, Numbered, Symbols, names_after, no_names, number_of, numbers_in, own_of, same_module, scope_of, with_name};
+ghost use Rattle.dk_model.specs.Scoping.{PlainCommand};
+ghost use Rattle.scope_terms.specs.Found.{AreFound};
+ghost use Rattle.scope_terms.specs.Scopes.{Module, Numbered, Symbols, names_after, no_names, no_symbols, number_of, numbers_in, own_of, same_module, scope_of, scoped, with_name};
 ghost use Rattle.scope_terms.specs.Plain.{IsPlainForm, numbered_after};
 
 /// A name has the number with which it was added, for good; a name that wasn't added has none.
@@ -23,4 +25,11 @@ pub fn other_modules_are_not_seen()
         own_of (names_after s m form) m ≡ numbered_after (own_of s m) form }
     ensures others { (s : Symbols) (m n : Module) (form : WrittenForm) → same_module m n ≡ false →
         numbers_in (names_after s m form) n ≡ numbers_in s n }
+{}
+
+/// After any accepted commands each symbol is found in its module, by the name with which it was declared, with its number.
+pub fn declared_names_are_found()
+    ensures none { AreFound no_symbols }
+    ensures after { (s : Symbols) (m : Module) (form : WrittenForm) (c : PlainCommand) →
+        AreFound s → scope_of s m form ≡ scoped c → AreFound (names_after s m form) }
 {}

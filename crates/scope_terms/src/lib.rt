@@ -12,7 +12,9 @@ mod left;
 mod meaning;
 mod modules;
 mod names;
+mod query;
 mod rule;
+mod spelt;
 mod table;
 mod term;
 mod variables;
@@ -24,5 +26,7 @@ pub use hashing::NameHasher;
 #[doc(hidden)]
 pub use modules::{Declared, Modules, Place};
 pub use names::{Names, ScopeFault};
+#[doc(hidden)]
+pub use spelt::Symbol;
 #[doc(hidden)]
 pub use table::Table;

@@ -1,12 +1,14 @@
 //! The names that the commands so far declare, module by module.
 ghost use Rattle.std.specs.Prelude.{◌≤◌, All, length};
-ghost use Rattle.scope_terms.specs.Modules.{past};
+ghost use Rattle.scope_terms.specs.Modules.{IsKept, past};
 
 use crate::binders::Binders;
 use crate::declaration::{TypeAndBody, declaration_at};
 use crate::meaning::Scope;
 use crate::modules::{Entered, Modules, Place, last_place};
+use crate::query::asked_at;
 use crate::rule::rules_at;
+use crate::spelt::Symbol;
 use dk_model::{Code, Fault, Listed, NoMemory, Scoped};
 use dk_parser::{Raw, RawForm};
 use std::alloc::Global;
@@ -21,9 +23,12 @@ pub struct Names {
     modules: Modules,
     // Where those are kept that are entered and not left; the one being read comes last.
     entered: Vec<Place>,
+    // For each number where its symbol is kept; None where its command declares none.
+    symbols: Vec<Option<Symbol>>,
     count: u32,
     // Each has its place.
     ghost within: { All (λ p. past p ≤ length modules.named.entries) entered.items },
+    ghost kept: { All (IsKept modules) symbols.items },
 }
 
 impl Names {
@@ -32,8 +37,9 @@ impl Names {
     ghost use Rattle.dk_model.specs.Scoping.{plain_command};
     ghost use Rattle.dk_model.specs.declared.code.Fault.TheVariants.{Refused};
     ghost use Rattle.dk_parser.specs.RawViews.{written_form};
-    ghost use Rattle.scope_terms.specs.Scopes.{number_of, numbers_in, same_spelling, scoped};
-    ghost use Rattle.scope_terms.specs.Reading.{after_command, after_entering, after_leaving, module_of, no_reading, own_names, with_own_name};
+    ghost use Rattle.std.specs.Option.{option_map};
+    ghost use Rattle.scope_terms.specs.Scopes.{number_of, numbers_in, same_spelling, scoped, spelling_of, with_number};
+    ghost use Rattle.scope_terms.specs.Reading.{after_command, after_entering, after_leaving, current, module_of, no_reading, own_names, spelt_word, with_own_name, with_symbols};
     ghost use Rattle.scope_terms.specs.Names.{reading};
     ghost use Rattle.scope_terms.specs.Answers.{IsFaultOf};
     ghost use Rattle.scope_terms.specs.Meanings.{scoping_of};
@@ -45,6 +51,7 @@ impl Names {
         Ok(Names {
             modules: Modules::new(alloc),
             entered: Vec::new(alloc),
+            symbols: Vec::new(alloc),
             count: 0,
         })
     }
@@ -104,6 +111,27 @@ impl Names {
         self.modules.number_at(last_place(&self.entered), name)
     }
 
+    /// The module and the name with which this number was declared, as bytes; None exactly where it declares no symbol. The
+    /// module None is the one without a name.
+    pub fn spelt(&self, number: u32) -> Option<(Option<&[u8]>, &[u8])>
+        ensures { option_map spelt_word result ≡ spelling_of (reading self.now).symbols number }
+    {
+        match self.symbols.get(number as usize) {
+            Some(kept) => match kept {
+                Some(symbol) => self.modules.spelling_at(*symbol),
+                None => None,
+            },
+            None => None,
+        }
+    }
+
+    /// The name of the module being read, as bytes; None is the one without a name.
+    pub fn current(&self) -> Option<&[u8]>
+        ensures { module_of result ≡ current (reading self.now) }
+    {
+        self.modules.name_at(last_place(&self.entered))
+    }
+
     /// How many numbers were given: one for each accepted command, of whichever module.
     pub fn count(&self) -> u32
         ensures { result ≡ (reading self.now).symbols.count }
@@ -114,8 +142,8 @@ impl Names {
     /// The command, which stands in the module being read, with its names as numbers, or its first code from left to right.
     /// Before a module is entered it stands in the one without a name.
     ///
-    /// Accepted, the declared name is added to that module with the next number; rules take a number without a name. After a
-    /// refusal, want of memory too, the names are as before (docs/scoping.md).
+    /// Accepted, the declared name is added to that module with the next number; rules and queries take a number without a
+    /// name. After a refusal, want of memory too, the names are as before (docs/scoping.md).
     pub fn scope(&mut self, alloc: Global, raw: &Raw) -> Result<Scoped, ScopeFault>
         requires { (reading self.old).symbols.count < 4294967295 }
         ensures ok { IfOk result (λ c. scoping_of (reading self.old) raw.now ≡ scoped (plain_command c)) }
@@ -152,8 +180,16 @@ impl Names {
             }
             RawForm::Rules(rules) => {
                 let rules = rules_at(alloc, rules.as_slice(), self)?;
-                self.count += 1;
+                self.add_number()?;
                 Ok(Scoped::Rules(rules))
+            }
+            RawForm::Query { demand, asked } => {
+                let asked = asked_at(alloc, asked, self)?;
+                self.add_number()?;
+                Ok(Scoped::Query {
+                    demand: *demand,
+                    asked,
+                })
             }
             RawForm::Module(_) | RawForm::Require(_) => Err(Fault::Refused(Code::E06)),
         }
@@ -183,10 +219,25 @@ impl Names {
         ensures err { OnErr result (reading self.new ≡ reading self.old) }
     {
         let place = last_place(&self.entered);
+        let at = self.modules.names_at(place);
+        self.symbols.reserve(1)?;
         let added = self.modules.add_at(alloc, place, name, self.count)?;
         if added {
+            self.symbols.push_reserved(Some(Symbol { place, at }));
             self.count += 1;
         }
         Ok(added)
+    }
+
+    /// Gives the next number to a command that declares nothing.
+    fn add_number(&mut self) -> Result<(), NoMemory>
+        requires { (reading self.old).symbols.count < 4294967295 }
+        ensures ok { OnOk result (reading self.new
+            ≡ with_symbols (reading self.old) (with_number (reading self.old).symbols)) }
+        ensures err { OnErr result (reading self.new ≡ reading self.old) }
+    {
+        self.symbols.push(None)?;
+        self.count += 1;
+        Ok(())
     }
 }

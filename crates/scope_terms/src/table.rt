@@ -1,5 +1,6 @@
 //! Names with their numbers, found by hash.
-ghost use Rattle.std.specs.Prelude.{◌≡◌, ◌∷◌, ◌++◌, [], is_some, not, if◌then◌else◌, IfOk, OnErr};
+ghost use Rattle.std.specs.Prelude.{◌≡◌, ◌∷◌, ◌++◌, [], is_some, length, not, slice_get, if◌then◌else◌, IfOk, OnErr};
+ghost use Rattle.std.specs.Option.{option_map};
 ghost use Rattle.std.specs.Map.{lookup};
 ghost use Rattle.scope_terms.specs.Scopes.{same_spelling};
 
@@ -38,6 +39,23 @@ impl Table {
         ensures { result ≡ lookup (same_spelling name.now) self.now }
     {
         self.numbers.get(name).copied()
+    }
+
+    /// How many names there are.
+    pub(crate) fn len(&self) -> usize
+        ensures { result ≡ length self.now }
+    {
+        self.numbers.len()
+    }
+
+    /// The name that was added at this place.
+    pub(crate) fn name(&self, at: usize) -> Option<&[u8]>
+        ensures { option_map (λ x. x.now) result ≡ option_map (λ e. e.0) (slice_get self.now at) }
+    {
+        match self.numbers.get_index(at) {
+            Some((name, _)) => Some(name.as_slice()),
+            None => None,
+        }
     }
 
     /// Adds a name with this number, unless it has one: whether it was added.

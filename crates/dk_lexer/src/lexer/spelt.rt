@@ -68,6 +68,7 @@ fn front_sign(class: Class, bytes: &[u8]) -> Option<(Sign, usize)>
         },
         Class::Equals => match class_at(bytes, 1) {
             Some(Class::Greater) => Some((Sign::DoubleArrow, 2)),
+            Some(Class::Equals) => Some((Sign::Equal, 2)),
             _ => None,
         },
         Class::Minus => match class_at(bytes, 1) {

@@ -150,6 +150,7 @@ impl Lexer {
     {
         match class {
             Class::Greater => self.sign(alloc, Sign::DoubleArrow, byte),
+            Class::Equals => self.sign(alloc, Sign::Equal, byte),
             _ => self.fails(Code::E01),
         }
     }
