@@ -6,7 +6,7 @@ use Rattle.dk_terms.specs.declared.terminal.Terminal.{Terminal}
 use Rattle.dk_terms.specs.Signs.{arrow, close_bracket, colon, dot, double_arrow, open_bracket}
 use Rattle.dk_terms.specs.Written.{Written, written_name, written_qualified, written_star, written_wild, written_apply, written_arrow, written_product, written_bare, written_annotated}
 use Rattle.term_print.specs.Named.{Word, written_term}
-use Rattle.term_print.specs.ReadBack.{definition, definition_text}
+use Rattle.term_print.specs.ReadBack.{asking, asking_text, definition, definition_text}
 use Rattle.term_print.specs.Spelled.{narrow, wide, binder_terminal, spelled}
 use Rattle.term_print.specs.Text.{closes, opens, terminal_text, text_behind, text_of}
 use Rattle.term_print.specs.declared.place.Place.{Place}
@@ -122,5 +122,12 @@ dot_last joined (x ∷ y ∷ ys) s =
 pub definition_is : (words : ℕ → Word) (c : List ℕ) (t : Tree) → text_of (definition words c t) ≡ definition_text words c t
 definition_is words c t =
     ap (λ ts. codes "def " ++ (c ++ (codes " :=" ++ ts)))
+    (dot_last false (spelled place.Term (written_term words t)) (spelled_shut place.Term (written_term words t))
+    ∙ ap (λ ts. ts ++ codes " .") (blank_first (spelled place.Term (written_term words t)) (spelled_begins place.Term (written_term words t))))
+
+pub asking_is : (w : Terminal) (words : ℕ → Word) (t : Tree) → opens w ≡ false → text_of (asking w words t) ≡ asking_text w words t
+asking_is w words t no_bracket =
+    ap (λ c. terminal_text w ++ text_behind c (spelled place.Term (written_term words t) ++ dot ∷ [])) no_bracket
+    ∙ ap (λ ts. terminal_text w ++ ts)
     (dot_last false (spelled place.Term (written_term words t)) (spelled_shut place.Term (written_term words t))
     ∙ ap (λ ts. ts ++ codes " .") (blank_first (spelled place.Term (written_term words t)) (spelled_begins place.Term (written_term words t))))

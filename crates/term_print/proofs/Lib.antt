@@ -1,6 +1,8 @@
+pub mod Asking
 pub mod Bytes
 pub mod Fresh
 pub mod Naming
+pub mod Places
 pub mod Qualified
 pub mod Quoted
 pub mod ReadBack
@@ -12,5 +14,6 @@ pub mod Surveyed
 pub mod Texts
 pub mod Turned
 pub mod Walked
+pub mod Worded
 pub mod Worked
 pub mod Writing

@@ -4,7 +4,7 @@ use Rattle.std.specs.Prelude.{codes, is_some}
 use Rattle.std.proofs.lemmas.List.{append-nil}
 use Rattle.std.specs.Fmt.{decimal}
 use Rattle.dk_model.specs.PlainTerms.{Tree, star, kind, symbol, variable, rule_variable, apply, bare, annotated, product}
-use Rattle.dk_model.specs.Scoping.{declare}
+use Rattle.dk_model.specs.Scoping.{PlainCommand, declare}
 use Rattle.dk_model.specs.declared.code.Code.{Code}
 use Rattle.dk_model.specs.declared.limits.Limits.{Limits}
 use Rattle.dk_model.specs.declared.signature.SymSort.TheVariants.{Definable}
@@ -26,19 +26,19 @@ use Rattle.dk_parser.specs.Reading.{Reads, TokenReading, reads_nothing, reads_co
 use Rattle.dk_parser.specs.FileReading.{read, reading_of, tail_by_bytes, whole}
 use Rattle.dk_parser.specs.Written.{WrittenForm, written_declare, WrittenCommand}
 use Rattle.dk_parser.proofs.Exact.{only}
-use Rattle.scope_terms.specs.Scopes.{Spelling, Module, Symbols, number_of, own_of, Scoping, scoped, refused, one, both, scope_of, Declaration, declaration_of}
+use Rattle.scope_terms.specs.Scopes.{Spelling, Module, Symbols, number_of, own_of, Scoping, scoped, refused, one, both, scope_of, Declaration, declaration_of, no_names, term_of}
 use Rattle.dk_model.specs.declared.code.Code.TheVariants.{E11}
-use Rattle.term_print.specs.Named.{Word, mentions, binder_name, binders_deep, spellings, written_word, written_at, written_term}
+use Rattle.term_print.specs.Named.{Word, mentions, binder_name, spellings, written_word, written_at, written_term}
 use Rattle.term_print.specs.Spelled.{narrow, wide, spelled}
 use Rattle.term_print.specs.declared.place.Place.{Place}
 use Rattle.term_print.specs.declared.place.Place.TheVariants as place
-use Rattle.term_print.specs.Text.{text_of}
+use Rattle.term_print.specs.Text.{opens, text_of}
 use Rattle.term_print.specs.Readable.{IsSpelt, AreSpelt, EndsInDot, StandInName, IsPlainName}
-use Rattle.term_print.specs.ReadBack.{CanBeRead, word_terminal, SymbolsSpelt, definition, definition_text, IsWritable, ReadsAs}
+use Rattle.term_print.specs.ReadBack.{binders_deep, CanBeRead, word_terminal, SymbolsSpelt, asking, asking_text, definition, definition_text, FitsIn, IsAskable, IsReadable, IsWritable, ReadsAs}
 use Rattle.term_print.proofs.Fresh.{Digits, decimal_digits, quotes, binder_shape}
 use Rattle.std.proofs.lemmas.Bool.{eq-eqb}
 use Rattle.term_print.proofs.Scoped.{term_scoped, either_left, either_right, closed_below}
-use Rattle.term_print.proofs.Bytes.{definition_is}
+use Rattle.term_print.proofs.Bytes.{asking_is, definition_is}
 use Rattle.term_print.proofs.Spells.{term_spelled}
 use Rattle.term_print.proofs.Texts.{Gives, sign_spelt, name_spelt, run_spelled, text_read}
 
@@ -164,18 +164,62 @@ module _ (limit : ℕ) (four : 4 ≤ limit) (symbols : Symbols) (m : Module) (wo
 
 -- ---- the command
 
-dot_last : (xs : List Terminal) → EndsInDot (xs ++ dot ∷ [])
+pub dot_last : (xs : List Terminal) → EndsInDot (xs ++ dot ∷ [])
 dot_last [] = refl
 dot_last (x ∷ []) = refl
 dot_last (x ∷ y ∷ ys) = dot_last (y ∷ ys)
 
+-- a command of these terminals is read from its bytes
+abbrev pub IsRead : Limits → List ℕ → WrittenForm → Type 0
+IsRead limits bytes form = (line : ℕ) × (read limits bytes lexer.whole ≡ record { commands = record { line = line; form = form } ∷ []; tail = whole })
+
+pub command_read : (limits : Limits) (xs : List Terminal) (form : WrittenForm) → AreSpelt limits.name_bytes xs → EndsInDot xs → SpellsForm xs form → FitsIn limits xs (text_of xs) → IsRead limits (text_of xs) form
+unfolding tokens
+command_read limits xs form spelt ends spells fits = (first_line ts, is)
+  where
+    bytes : List ℕ
+    bytes = text_of xs
+
+    ts : List Token
+    ts = (tokens limits bytes lexer.whole).tokens
+
+    command : WrittenCommand
+    command = record { line = first_line ts; form = form }
+
+    gives : Gives xs (tokens limits bytes lexer.whole)
+    gives = text_read limits (length bytes) fits.command_bytes fits.input_bytes true xs spelt ends (record { offset = 0; line = 1 }) None
+
+    spells_tokens : Spells ts command
+    spells_tokens = record { line = refl; form = along_path (λ (ys : List Terminal). SpellsForm ys form) (flip gives.terminals) spells }
+
+    within : IsWithin limits.levels (terminals ts)
+    within = along_path (IsWithin limits.levels) (flip gives.terminals) fits.levels
+
+    reads : Reads limits ts (record { commands = command ∷ []; begun = None; fault = None })
+    reads = along_path (λ (us : List Token). Reads limits us (record { commands = command ∷ []; begun = None; fault = None })) (append-nil ts) (reads_command spells_tokens within reads_nothing)
+
+    is : read limits bytes lexer.whole ≡ record { commands = command ∷ []; tail = whole }
+    is = ap (λ (r : TokenReading). reading_of r (tokens limits bytes lexer.whole) lexer.whole) (flip (only reads))
+        ∙ ap (λ (f : Option Code). record { commands = command ∷ []; tail = tail_by_bytes f (tokens limits bytes lexer.whole).line lexer.whole None }) gives.fault
+
+-- the printed term, and a dot
+module _ (limits : Limits) (symbols : Symbols) (m : Module) (words : ℕ → Word) (t : Tree) (h : IsReadable limits symbols m words t) where
+  pub term_and_dot : AreSpelt limits.name_bytes (spelled place.Term (written_term words t) ++ dot ∷ [])
+  term_and_dot = both_spelt limits.name_bytes (spelled place.Term (written_term words t)) (dot ∷ [])
+      (term_spelt limits.name_bytes h.short_words symbols m words (spellings words t) (binders_deep t) 0 place.Term t h.deep h.binders (omega arith) (λ k mentioned. closed_below 0 k t h.closed mentioned) h.readable h.symbols_spelt)
+      (sign_spelt limits.name_bytes _, tt)
+
+  pub term_means : term_of symbols (own_of symbols m) no_names [] (written_term words t) ≡ scoped t
+  term_means = term_scoped symbols m words t h.closed h.deep h.readable
+
+-- ---- a definition
+
 none_some : (o : Option ℕ) → o ≡ None → is_some o ≡ false
 none_some o e = ap is_some e
 
-terminals_read : (limits : Limits) (symbols : Symbols) (m : Module) (words : ℕ → Word) (c : List ℕ) (t : Tree) → IsWritable limits symbols m words c t
-    → length (text_of (definition words c t)) ≤ command_limit limits → length (text_of (definition words c t)) ≤ input_limit limits → ReadsAs limits symbols m (text_of (definition words c t)) (declare Definable None (Some t))
-unfolding tokens
-terminals_read limits symbols m words c t h in_command in_input = record { line = first_line ts; form = form; is = is; means = means }
+pub read_back : (limits : Limits) (symbols : Symbols) (m : Module) (words : ℕ → Word) (c : List ℕ) (t : Tree) → IsWritable limits symbols m words c t
+    → ReadsAs limits symbols m (definition_text words c t) (declare Definable None (Some t))
+read_back limits symbols m words c t h = record { line = is.0; form = form; is = is.1; means = means }
   where
     w : Written
     w = written_term words t
@@ -183,48 +227,30 @@ terminals_read limits symbols m words c t h in_command in_input = record { line 
     form : WrittenForm
     form = written_declare Definable c [] None (Some w)
 
-    ts : List Token
-    ts = (tokens limits (text_of (definition words c t)) lexer.whole).tokens
-
-    command : WrittenCommand
-    command = record { line = first_line ts; form = form }
-
     spelt : AreSpelt limits.name_bytes (definition words c t)
-    spelt = (
-      def_spelt limits.name_bytes h.short_words,
-      (
-        h.name,
-        (
-          sign_spelt limits.name_bytes _,
-          both_spelt limits.name_bytes (spelled place.Term w) (dot ∷ [])
-              (term_spelt limits.name_bytes h.short_words symbols m words (spellings words t) (binders_deep t) 0 place.Term t h.deep h.binders (omega arith) (λ k m. closed_below 0 k t h.closed m) h.readable h.symbols_spelt)
-              (sign_spelt limits.name_bytes _, tt),
-        ),
-      ),
-    )
+    spelt = (def_spelt limits.name_bytes h.term.short_words, (h.name, (sign_spelt limits.name_bytes _, term_and_dot limits symbols m words t h.term)))
 
-    gives : Gives (definition words c t) (tokens limits (text_of (definition words c t)) lexer.whole)
-    gives = text_read limits (length (text_of (definition words c t))) in_command in_input true (definition words c t) spelt (dot_last (terminal.Def ∷ terminal.Name c ∷ defined ∷ spelled place.Term w)) (record { offset = 0; line = 1 }) None
+    fits : FitsIn limits (definition words c t) (text_of (definition words c t))
+    fits = along_path (FitsIn limits (definition words c t)) (flip (definition_is words c t)) h.fits
 
-    spells : Spells ts command
-    spells = record { line = refl; form = along_path (λ (xs : List Terminal). SpellsForm xs form) (flip gives.terminals) (spells_definition spells_no_params (term_spelled w)) }
-
-    within : IsWithin limits.levels (terminals ts)
-    within = along_path (IsWithin limits.levels) (flip gives.terminals) h.levels
-
-    reads : Reads limits ts (record { commands = command ∷ []; begun = None; fault = None })
-    reads = along_path (λ (us : List Token). Reads limits us (record { commands = command ∷ []; begun = None; fault = None })) (append-nil ts) (reads_command spells within reads_nothing)
-
-    is : read limits (text_of (definition words c t)) lexer.whole ≡ record { commands = command ∷ []; tail = whole }
-    is = ap (λ (r : TokenReading). reading_of r (tokens limits (text_of (definition words c t)) lexer.whole) lexer.whole) (flip (only reads))
-        ∙ ap (λ (f : Option Code). record { commands = command ∷ []; tail = tail_by_bytes f (tokens limits (text_of (definition words c t)) lexer.whole).line lexer.whole None }) gives.fault
+    is : IsRead limits (definition_text words c t) form
+    is = along_path (λ bytes. IsRead limits bytes form) (definition_is words c t)
+        (command_read limits (definition words c t) form spelt (dot_last (terminal.Def ∷ terminal.Name c ∷ defined ∷ spelled place.Term w)) (spells_definition spells_no_params (term_spelled w)) fits)
 
     means : scope_of symbols m form ≡ scoped (declare Definable None (Some t))
     means = ap (λ (b : Bool). if b then refused E11 else one (λ (d : Declaration). declare Definable d.typ d.body) (declaration_of symbols (own_of symbols m) [] [] None (Some w))) (none_some (number_of (own_of symbols m) c) h.is_new)
-        ∙ ap (λ (x : Scoping Tree). one (λ (d : Declaration). declare Definable d.typ d.body) (both (λ a b. let r : Declaration = record { typ = a; body = b } in r) (scoped None) (one Some x))) (term_scoped symbols m words t h.closed h.deep h.readable)
+        ∙ ap (λ (x : Scoping Tree). one (λ (d : Declaration). declare Definable d.typ d.body) (both (λ a b. let r : Declaration = record { typ = a; body = b } in r) (scoped None) (one Some x))) (term_means limits symbols m words t h.term)
 
-pub read_back : (limits : Limits) (symbols : Symbols) (m : Module) (words : ℕ → Word) (c : List ℕ) (t : Tree) → IsWritable limits symbols m words c t
-    → ReadsAs limits symbols m (definition_text words c t) (declare Definable None (Some t))
-read_back limits symbols m words c t h = along_path (λ bytes. ReadsAs limits symbols m bytes (declare Definable None (Some t))) (definition_is words c t)
-    (terminals_read limits symbols m words c t h (along_path (λ (bytes : List ℕ). length bytes ≤ command_limit limits) (flip (definition_is words c t)) h.command_bytes)
-    (along_path (λ (bytes : List ℕ). length bytes ≤ input_limit limits) (flip (definition_is words c t)) h.input_bytes))
+-- ---- a word and the term
+
+pub asked_back : (limits : Limits) (symbols : Symbols) (m : Module) (words : ℕ → Word) (w : Terminal) (t : Tree) (form : WrittenForm) (command : PlainCommand) → IsAskable limits symbols m words w t
+    → IsSpelt limits.name_bytes w → opens w ≡ false → SpellsForm (asking w words t) form → scope_of symbols m form ≡ scoped command
+    → ReadsAs limits symbols m (asking_text w words t) command
+asked_back limits symbols m words w t form command h word no_bracket spells means = record { line = is.0; form = form; is = is.1; means = means }
+  where
+    fits : FitsIn limits (asking w words t) (text_of (asking w words t))
+    fits = along_path (FitsIn limits (asking w words t)) (flip (asking_is w words t no_bracket)) h.fits
+
+    is : IsRead limits (asking_text w words t) form
+    is = along_path (λ bytes. IsRead limits bytes form) (asking_is w words t no_bracket)
+        (command_read limits (asking w words t) form (word, term_and_dot limits symbols m words t h.term) (dot_last (w ∷ spelled place.Term (written_term words t))) spells fits)

@@ -6,8 +6,8 @@ use Rattle.dk_model.specs.PlainTerms.{Tree, star, kind, symbol, variable, rule_v
 use Rattle.dk_model.specs.Bounds.{IsClosedAt}
 use Rattle.dk_terms.specs.Written.{written_arrow, written_product}
 use Rattle.scope_terms.specs.Scopes.{Spelling, Binder, Module, Symbols, no_names, own_of, same_spelling, binds, number_from, number_of, means_variable, means_symbol, means_rule_variable, unknown, meant_term, Scoping, scoped, one, both, term_of}
-use Rattle.term_print.specs.Named.{Word, has, binder_name, mentions, binders_deep, written_at, written_term, written_word, spellings}
-use Rattle.term_print.specs.ReadBack.{CanBeRead, IsDeclared}
+use Rattle.term_print.specs.Named.{Word, has, binder_name, mentions, written_at, written_term, written_word, spellings}
+use Rattle.term_print.specs.ReadBack.{binders_deep, CanBeRead, IsDeclared}
 use Rattle.term_print.proofs.Fresh.{same_self, unlike, true_false, binder_unused, binder_depth, apart}
 
 -- ---- words

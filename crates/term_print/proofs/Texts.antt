@@ -74,6 +74,7 @@ sign_spelt limit sign.OpenBrace = record { first = 123; others = []; text = refl
     open_here [] e = absurd e
     open_here (c ∷ cs) e = by_ends (λ x. open_before limit x cs ≡ token (kind.Sign sign.OpenBrace) [] (suc (length cs))) c cs e refl refl
 sign_spelt limit sign.CloseBrace = record { first = 125; others = []; text = refl; no_comment = λ e. cc; reads = λ rest e. sign_token limit 125 rest sign.CloseBrace (length rest) refl }
+sign_spelt limit sign.Equal = record { first = 61; others = 61 ∷ []; text = refl; no_comment = λ e. cc; reads = λ rest e. sign_token limit 61 (61 ∷ rest) sign.Equal (length rest) refl }
 
 -- ---- runs
 

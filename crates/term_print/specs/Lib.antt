@@ -8,3 +8,4 @@ pub mod Spelled
 pub mod Tasks
 pub mod Text
 pub mod Walks
+pub mod Words

@@ -42,14 +42,6 @@ mentions k (annotated n b) = mentions k n || mentions (k + 1) b
 mentions k (product a b) = mentions k a || mentions (k + 1) b
 mentions k t = false
 
--- how many binders stand in each other's scope at most
-abbrev pub binders_deep : Tree → ℕ
-binders_deep (apply f a) = max (binders_deep f) (binders_deep a)
-binders_deep (bare b) = binders_deep b + 1
-binders_deep (annotated n b) = max (binders_deep n) (binders_deep b + 1)
-binders_deep (product a b) = max (binders_deep a) (binders_deep b + 1)
-binders_deep t = 0
-
 abbrev pub written_word : Word → Written
 written_word w = elim w.module_name [ None ↦ written_name w.spelling | Some m ↦ written_qualified m w.spelling ]
 

@@ -1,4 +1,4 @@
--- Trusted: which terminals are read back from their text, and which names may be spelt (docs/printing.md).
+-- For callers: which terminals are read back from their text, and which names may be spelt (docs/printing.md).
 use Rattle.std.specs.Prelude.{◌≡◌, ◌≤◌, ℕ, suc, true, false, List, [], ◌∷◌, ◌++◌, length, ◌⊎◌}
 use Rattle.dk_lexer.specs.declared.token.TokenKind.{TokenKind}
 use Rattle.dk_lexer.specs.declared.token.TokenKind.TheVariants as kind

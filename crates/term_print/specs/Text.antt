@@ -20,6 +20,7 @@ sign_text sign.OpenSquare = codes "["
 sign_text sign.CloseSquare = codes "]"
 sign_text sign.OpenBrace = codes "{"
 sign_text sign.CloseBrace = codes "}"
+sign_text sign.Equal = codes "=="
 
 -- a word outside the profile of commands has no text of its own
 abbrev pub terminal_text : Terminal → List ℕ
@@ -31,6 +32,10 @@ terminal_text terminal.Def = codes "def"
 terminal_text terminal.Thm = codes "thm"
 terminal_text terminal.NameWord = codes "#NAME"
 terminal_text terminal.RequireWord = codes "#REQUIRE"
+terminal_text terminal.Check = codes "#CHECK"
+terminal_text terminal.Assert = codes "#ASSERT"
+terminal_text terminal.Infer = codes "#INFER"
+terminal_text terminal.Eval = codes "#EVAL"
 terminal_text terminal.Profile = []
 terminal_text (terminal.Sign s) = sign_text s
 

@@ -13,10 +13,12 @@ mod printing;
 mod products;
 mod source;
 mod spellings;
+mod stored;
+mod symbols;
 mod task;
 mod text;
 
-pub use printing::print;
+pub use printing::{print, print_part};
 pub use source::{Source, Words};
 // A crate can name what a written term is only if the places where it stands are exported.
 #[doc(hidden)]

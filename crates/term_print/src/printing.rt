@@ -1,10 +1,14 @@
 //! Printing, by a stack of tasks.
 ghost use Rattle.std.specs.Prelude.{◌≡◌, ◌++◌, ◌+◌, ◌-◌, ◌<◌, IfOk, OnOk};
 ghost use Rattle.dk_terms.specs.declared.terminal.Terminal.TheVariants as terminal;
+ghost use Rattle.scope_terms.specs.Names.{reading};
+ghost use Rattle.scope_terms.specs.Reading.{current};
+ghost use Rattle.shared_term.specs.Storage.{stored_term};
 ghost use Rattle.term_print.specs.Named.{binder_name};
 ghost use Rattle.term_print.specs.Printing.{printed};
 ghost use Rattle.term_print.specs.ReadBack.{word_terminal};
 ghost use Rattle.term_print.specs.Tasks.{Puts, left_of, named_in, named_left, term_terminals, terminals, text_with, weight, weights};
+ghost use Rattle.term_print.specs.Words.{word_of};
 
 use crate::binder::binder_name;
 use crate::page::Page;
@@ -16,11 +20,22 @@ use crate::spellings::{Spellings, spellings_of};
 use crate::task::{Subterm, Task, push_tasks};
 use crate::text::{Mark, Text};
 use dk_model::{Listed, NoMemory, NodeOf};
+use scope_terms::Names;
+use shared_term::Stored;
 use std::alloc::Global;
 
-/// The bytes of a printed term, of which nothing is asked: what can't be written has a text too, which isn't read back.
+/// The bytes of a term as it is printed in the module being read. Nothing is asked of the term: what can't be written has a
+/// text too, which isn't read back (docs/printing.md).
+pub fn print(alloc: Global, term: &Stored, names: &Names) -> Result<Listed<u8>, NoMemory>
+    ensures { IfOk result (λ p. p ≡ printed (word_of (reading names.now).symbols
+        (current (reading names.now))) (stored_term term.now)) }
+{
+    print_part(alloc, term, names, term.root().number() as u64)
+}
+
+/// The bytes of a part of any source.
 #[tactic(auto, using(crate::proofs::Turned::begins, crate::proofs::Stacking::named_begins))]
-pub fn print<S: Source, W: Words>(
+pub fn print_part<S: Source, W: Words>(
     alloc: Global,
     source: &S,
     words: &W,
