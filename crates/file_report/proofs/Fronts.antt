@@ -1,12 +1,12 @@
--- Fronts of lists, and names in front of a report.
+-- Fronts of lists, and lines in front of a report.
 use Rattle.std.proofs.Common.{◌≡◌, ℕ, zero, suc, ◌<◌, false, List, [], ◌∷◌, ◌++◌, length, take, drop, nat_le, refl, ap, arith, append-nil, Some}
 use Rattle.std.specs.Prelude.{slice_get}
 use Rattle.std.proofs.lemmas.Bool.{leb-true}
 use Rattle.dk_model.specs.declared.limits.Limits.{Limits}
 use Rattle.board_core.proofs.Histories.{not_true}
-use Rattle.verdict_book.specs.Report.{FileReport}
+use Rattle.verdict_book.specs.Report.{FileReport, PlainShown}
 use Rattle.verdict_book.specs.declared.outcome.Outcome.{Outcome}
-use Rattle.file_report.specs.TheoryReports.{with_names}
+use Rattle.file_report.specs.TheoryReports.{with_lines}
 
 -- the element of that index, with those behind it
 pub at_index : {X : Type 0} (xs : List X) (k : ℕ) → k < length xs → (x : X) × (more : List X) × (slice_get xs k ≡ Some x) × (drop k xs ≡ x ∷ more)
@@ -26,8 +26,8 @@ pub all_taken : {X : Type 0} (xs : List X) → take (length xs) xs ≡ xs
 all_taken [] = refl
 all_taken (x ∷ xs) = ap (λ l. x ∷ l) (all_taken xs)
 
-pub with_no_more : (xs : List (List ℕ)) (o : Outcome) → with_names xs (record { names = []; outcome = o }) ≡ (let r : FileReport = record { names = xs; outcome = o } in r)
-with_no_more xs o = ap (λ ns. let f : FileReport = record { names = ns; outcome = o } in f) (append-nil xs)
+pub with_no_more : (xs : List PlainShown) (o : Outcome) → with_lines xs (record { lines = []; outcome = o }) ≡ (let r : FileReport = record { lines = xs; outcome = o } in r)
+with_no_more xs o = ap (λ ls. let f : FileReport = record { lines = ls; outcome = o } in f) (append-nil xs)
 
 pub within_limit : (limits : Limits) (count : ℕ) → count < limits.commands → nat_le limits.commands count ≡ false
 within_limit limits count lt = not_true (nat_le limits.commands count) (λ t. let le = leb-true limits.commands count t in omega arith)

@@ -11,7 +11,7 @@ use Rattle.file_report.specs.Outcomes.{Theory, no_theory}
 use Rattle.file_report.specs.TheoryReports.{by_verdict, report_from}
 use Rattle.file_report.specs.Reports.{stopped_at}
 use Rattle.file_report.specs.Jobs.{AreJobsBehind, IsJobAt, TheoryJob, theory_behind}
-use Rattle.file_report.specs.Theories.{theory_with, verdict_on}
+use Rattle.file_report.specs.Theories.{checking, shown_on, theory_with, verdict_on}
 use Rattle.file_report.specs.Histories as law
 use Rattle.file_report.proofs.Fronts.{front_dropped, front_taken}
 use Rattle.file_report.proofs.Law.{other_ends}
@@ -35,7 +35,7 @@ module _ (limits : Limits) (budget : ℕ) (own : Option (List ℕ)) where
   jobs_wider T (c ∷ done) later (j ∷ jobs) are = (are.0, jobs_wider (theory_with limits budget own T c) done later jobs are.1)
 
   abbrev from : List Placed → ℕ → List Placed → Reached → FileReport
-  from done count rest r = report_from (verdict_on limits budget own) (theory_with limits budget own) (theory_behind limits budget own no_theory done) count rest r
+  from done count rest r = report_from (checking limits budget own) (theory_behind limits budget own no_theory done) count rest r
 
   behind : (w : Walk) (done rest : List Placed) → w.commands ≡ done ++ rest → law.behind limits budget own w (length done) ≡ from done (length done) rest w.reached
   behind w done rest is =
@@ -46,16 +46,18 @@ module _ (limits : Limits) (budget : ℕ) (own : Option (List ℕ)) where
   -- the next command has another verdict
   pub next_refused : (w : Walk) (done later : List Placed) (c : Placed) (v : Verdict) → w.commands ≡ done ++ c ∷ later
       → verdict_on limits budget own (theory_behind limits budget own no_theory done) (length done) c ≡ v → is_accepted v ≡ false
-      → law.behind limits budget own w (length done) ≡ record { names = []; outcome = stopped_at (length done + 1) (spot_of c) v }
+      → law.behind limits budget own w (length done) ≡ record { lines = []; outcome = stopped_at (length done + 1) (spot_of c) v }
   next_refused w done later c v is verdict other =
-      let rest = report_from (verdict_on limits budget own) (theory_with limits budget own) (theory_with limits budget own (theory_behind limits budget own no_theory done) c) (length done + 1) later w.reached in
+      let T = theory_behind limits budget own no_theory done in
+      let shown = shown_on limits budget own T c in
+      let rest = report_from (checking limits budget own) (theory_with limits budget own T c) (length done + 1) later w.reached in
       behind w done (c ∷ later) is
-      ∙ ap (λ u. by_verdict u (length done) c rest) verdict
-      ∙ other_ends v (length done) c rest other
+      ∙ ap (λ u. by_verdict u (length done) c shown rest) verdict
+      ∙ other_ends v (length done) c shown rest other
 
   -- the walk ends at a code
   pub tail_refused : (w : Walk) (done : List Placed) (spot : Spot) (code : Code) → w.commands ≡ done → w.reached ≡ ends (refused_at spot code)
-      → law.behind limits budget own w (length done) ≡ record { names = []; outcome = stopped_at (length done + 1) spot (Refused code) }
+      → law.behind limits budget own w (length done) ≡ record { lines = []; outcome = stopped_at (length done + 1) spot (Refused code) }
   tail_refused w done spot code commands is =
       behind w done [] (commands ∙ sym (append-nil done))
       ∙ ap (λ r. from done (length done) [] r) is

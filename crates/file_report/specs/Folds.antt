@@ -4,19 +4,19 @@ use Rattle.std.specs.Prelude.{ℕ, zero, suc, ◌+◌, ◌-◌, Bool, true, fals
 use Rattle.dk_model.specs.declared.code.Code.TheVariants.{E14, E15, E16}
 use Rattle.dk_model.specs.declared.code.Verdict.{Verdict}
 use Rattle.dk_model.specs.declared.code.Verdict.TheVariants as verdict
-use Rattle.verdict_book.specs.Report.{FileReport}
+use Rattle.verdict_book.specs.Report.{FileReport, PlainShown}
 use Rattle.verdict_book.specs.declared.outcome.Outcome.{Outcome}
 use Rattle.theory_walk.specs.declared.needs.ModuleLimits.{ModuleLimits}
 use Rattle.theory_walk.specs.declared.needs.Standing.{Standing}
 use Rattle.theory_walk.specs.declared.needs.Standing.TheVariants.{Current, Below, WasRead, New}
 use Rattle.theory_walk.specs.Libraries.{BookStep, BookTail, Key, Library, Opened, fault, need, opened, put, steps_in, unopened, unread, whole}
 use Rattle.theory_walk.specs.Walks.{End, Placed, Spot, goes_on, no_file, not_opened, refused_at, spot_of, standing_of, unread_at}
-use Rattle.file_report.specs.Reports.{end_outcome, reached_outcome, shown_in, stopped_at}
+use Rattle.file_report.specs.Reports.{Checking, end_outcome, reached_outcome, stopped_at}
 
--- what the accepted commands left: the theory, their names, how many they are, and the modules opened so far
+-- what the accepted commands left: the theory, what is shown of them, how many they are, and the modules opened so far
 pub record State (T : Type 0) : Type 0 where
   pub theory : T
-  pub names : List (List ℕ)
+  pub lines : List PlainShown
   pub count : ℕ
   pub known : List (List ℕ)
 
@@ -30,13 +30,13 @@ then_fold (on s) next = next s
 then_fold (over r) next = over r
 
 abbrev pub over_at : {T : Type 0} → State T → Outcome → Progress T
-over_at s o = over (record { names = s.names; outcome = o })
+over_at s o = over (record { lines = s.lines; outcome = o })
 
 abbrev pub ended_by : {T : Type 0} → State T → End → Progress T
 ended_by s e = over_at s (end_outcome s.count e)
 
 abbrev pub with_module : {T : Type 0} → State T → List ℕ → State T
-with_module s m = record { theory = s.theory; names = s.names; count = s.count; known = s.known ++ m ∷ [] }
+with_module s m = record { theory = s.theory; lines = s.lines; count = s.count; known = s.known ++ m ∷ [] }
 
 abbrev pub fold_tail : {T : Type 0} → Key → BookTail → State T → Progress T
 fold_tail book whole s = on s
@@ -57,13 +57,12 @@ fold_by New directive spot s new = new
 
 -- where the file comes to its end, all was accepted
 abbrev pub reported : {T : Type 0} → Progress T → FileReport
-reported (on s) = record { names = s.names; outcome = reached_outcome s.count (goes_on s.known) }
+reported (on s) = record { lines = s.lines; outcome = reached_outcome s.count (goes_on s.known) }
 reported (over r) = r
 
--- a theory of any kind, the verdict on a command behind so many accepted ones, and the theory with an accepted one
-module _ {T : Type 0} (verdict_on : T → ℕ → Placed → Verdict) (after : T → Placed → T) where
+module _ {T : Type 0} (checks : Checking T) where
   abbrev pub with_accepted : State T → Placed → State T
-  with_accepted s c = record { theory = after s.theory c; names = s.names ++ shown_in c ∷ []; count = s.count + 1; known = s.known }
+  with_accepted s c = record { theory = checks.after s.theory c; lines = s.lines ++ checks.shown_on s.theory c ∷ []; count = s.count + 1; known = s.known }
 
   -- an accepted command is added and the book goes on; any other verdict is the outcome
   abbrev pub put_by : Verdict → Placed → State T → (State T → Progress T) → Progress T
@@ -74,7 +73,7 @@ module _ {T : Type 0} (verdict_on : T → ℕ → Placed → Verdict) (after : T
   abbrev pub fold_steps : NeedFold T → Key → List BookStep → BookTail → State T → Progress T
   fold_steps needs book [] tail s = fold_tail book tail s
   fold_steps needs book (put c ∷ ss) tail s =
-      put_by (verdict_on s.theory s.count (record { book = book; command = c })) (record { book = book; command = c }) s (fold_steps needs book ss tail)
+      put_by (checks.verdict_on s.theory s.count (record { book = book; command = c })) (record { book = book; command = c }) s (fold_steps needs book ss tail)
   fold_steps needs book (need d line m ∷ ss) tail s = then_fold (needs d line m s) (fold_steps needs book ss tail)
 
   -- any other opens the module's book and folds it to its end
@@ -101,4 +100,4 @@ module _ {T : Type 0} (verdict_on : T → ℕ → Placed → Verdict) (after : T
 
     -- the report of the file, from a theory of none
     abbrev pub fold_of : T → FileReport
-    fold_of none = reported (fold_file (lib None) (record { theory = none; names = []; count = 0; known = [] }))
+    fold_of none = reported (fold_file (lib None) (record { theory = none; lines = []; count = 0; known = [] }))

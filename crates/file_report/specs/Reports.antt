@@ -1,9 +1,9 @@
--- Trusted: the places, the names of the `ok` lines and the outcomes in the report of a theory (docs/modules.md, docs/report.md).
+-- Trusted: the places, the names and the outcomes in the report of a theory, and how its commands are checked (docs/modules.md, docs/report.md).
 use Rattle.std.specs.Prelude.{ℕ, ◌+◌, List, [], Some, None}
 use Rattle.dk_model.specs.declared.code.Verdict.{Verdict}
 use Rattle.dk_model.specs.declared.code.Verdict.TheVariants as verdict
 use Rattle.board_core.specs.declared.event.Place.{Place}
-use Rattle.verdict_book.specs.Report.{name_in}
+use Rattle.verdict_book.specs.Report.{PlainShown, name_in}
 use Rattle.verdict_book.specs.declared.outcome.Outcome.{Outcome}
 use Rattle.verdict_book.specs.declared.outcome.Outcome.TheVariants.{Accepted, Stopped, Unopened, Unread}
 use Rattle.theory_walk.specs.Libraries.{Key}
@@ -25,9 +25,16 @@ book_place book = place_of (record { book = book; line = 0 })
 abbrev pub stopped_at : ℕ → Spot → Verdict → Outcome
 stopped_at number spot v = Stopped number (place_of spot) v
 
--- the name in the `ok` line of a command
-abbrev pub shown_in : Placed → List ℕ
-shown_in c = name_in (module_shown c.book) (shown_name c.command.form)
+-- the name of a command, in its module
+abbrev pub name_of : Placed → List ℕ
+name_of c = name_in (module_shown c.book) (shown_name c.command.form)
+
+-- how commands are checked, one after the other, over a theory of any kind: the verdict on the one behind so many accepted ones,
+-- what a report shows of it where it is accepted, and the theory with it
+pub record Checking (T : Type 0) : Type 0 where
+  pub verdict_on : T → ℕ → Placed → Verdict
+  pub shown_on : T → Placed → PlainShown
+  pub after : T → Placed → T
 
 -- the outcome where so many commands were accepted and the theory ends so; the file's own book has no module
 abbrev pub end_outcome : ℕ → End → Outcome

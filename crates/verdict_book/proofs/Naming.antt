@@ -1,4 +1,4 @@
--- Titles whose names stand in one text, and whose modules in one list.
+-- Titles whose names and terms stand in one text, and whose modules in one list.
 use Rattle.std.proofs.Common.{◌≡◌, ℕ, zero, suc, ◌+◌, ◌<◌, ◌≤◌, List, [], ◌∷◌, ◌++◌, length, map, take, drop, get_or, refl, sym, ap, ◌∙◌, arith}
 use Rattle.std.proofs.lemmas.List.{take-append-le, take-append-drop, drop-append-le, length-append, length-drop, length-take-le, at_drop_more, get_or_append_left}
 use Rattle.std.proofs.Math.Seq.{take-length}
@@ -8,6 +8,9 @@ use Rattle.verdict_book.specs.declared.title.Title.{Title}
 use Rattle.verdict_book.specs.declared.title.Spot.{Spot}
 use Rattle.verdict_book.specs.Places.{AreIn, titled, total}
 use Rattle.verdict_book.specs.Report.{nowhere}
+use Rattle.verdict_book.specs.Titles.{kind_of, shown_by, text_of}
+use Rattle.verdict_book.specs.declared.shown.Shown.{Shown}
+use Rattle.verdict_book.specs.declared.shown.Shown.TheVariants.{Name, Asserted, Yes, No, Of, Value}
 
 abbrev pub place_of : List (List ℕ) → Spot → Place
 place_of modules s = record { line = s.line; «module» = slice_index_or modules s.module_at [] }
@@ -29,8 +32,8 @@ titled_front modules names more (p ∷ ps) fits =
     let within : p.length + total ps ≤ length names = fits in
     let here : p.length ≤ length names = omega (arith, within) in
     let rest : total ps ≤ length (drop p.length names) = (rw (length-drop p.length names) (omega (arith, within))) in
-    ap (λ name. record { name = name; place = place_of modules p } ∷ titled modules (drop p.length (names ++ more)) ps) (take-append-le p.length names more here)
-    ∙ ap (λ (ts : List Title). record { name = take p.length names; place = place_of modules p } ∷ ts)
+    ap (λ name. record { shown = shown_by p.kind name; place = place_of modules p } ∷ titled modules (drop p.length (names ++ more)) ps) (take-append-le p.length names more here)
+    ∙ ap (λ (ts : List Title). record { shown = shown_by p.kind (take p.length names); place = place_of modules p } ∷ ts)
     (ap (λ text. titled modules text ps) (drop-append-le p.length names more here) ∙ titled_front modules (drop p.length names) more ps rest)
 
 pub titled_cut : (modules : List (List ℕ)) (names : List ℕ) (ps : List Spot) (k : ℕ) → total ps ≤ k → k ≤ length names → titled modules (take k names) ps ≡ titled modules names ps
@@ -42,9 +45,9 @@ titled_cut modules names ps k fits within =
 pub titled_more : (modules more : List (List ℕ)) (names : List ℕ) (ps : List Spot) → AreIn modules ps → titled (modules ++ more) names ps ≡ titled modules names ps
 titled_more modules more names [] known = refl
 titled_more modules more names (p ∷ ps) known =
-    ap (λ (m : List ℕ). record { name = take p.length names; place = record { line = p.line; «module» = m } } ∷ titled (modules ++ more) (drop p.length names) ps)
+    ap (λ (m : List ℕ). record { shown = shown_by p.kind (take p.length names); place = record { line = p.line; «module» = m } } ∷ titled (modules ++ more) (drop p.length names) ps)
     (get_or_append_left modules more [] p.module_at known.0)
-    ∙ ap (λ (ts : List Title). record { name = take p.length names; place = place_of modules p } ∷ ts) (titled_more modules more (drop p.length names) ps known.1)
+    ∙ ap (λ (ts : List Title). record { shown = shown_by p.kind (take p.length names); place = place_of modules p } ∷ ts) (titled_more modules more (drop p.length names) ps known.1)
 
 pub known_more : (modules more : List (List ℕ)) (ps : List Spot) → AreIn modules ps → AreIn (modules ++ more) ps
 known_more modules more [] known = tt
@@ -81,15 +84,15 @@ cut_length names spots front p whole all = sym (total_push front p) ∙ sym (ap 
 
 -- one name more at the end of the text
 pub titled_push : (modules : List (List ℕ)) (names name : List ℕ) (ps : List Spot) (p : Spot) → total ps ≡ length names → p.length ≡ length name
-    → titled modules (names ++ name) (ps ++ p ∷ []) ≡ titled modules names ps ++ record { name = name; place = place_of modules p } ∷ []
-titled_push modules [] name [] p whole is = ap (λ (n : List ℕ). record { name = n; place = place_of modules p } ∷ []) (ap (λ k. take k name) is ∙ take-length name)
+    → titled modules (names ++ name) (ps ++ p ∷ []) ≡ titled modules names ps ++ record { shown = shown_by p.kind name; place = place_of modules p } ∷ []
+titled_push modules [] name [] p whole is = ap (λ (n : List ℕ). record { shown = shown_by p.kind n; place = place_of modules p } ∷ []) (ap (λ k. take k name) is ∙ take-length name)
 titled_push modules (x ∷ xs) name [] p whole is = absurd (let none : 0 ≡ suc (length xs) = whole in omega arith)
 titled_push modules names name (q ∷ ps) p whole is =
     let all : q.length + total ps ≡ length names = whole in
     let here : q.length ≤ length names = omega (arith, all) in
     let rest : total ps ≡ length (drop q.length names) = (rw (length-drop q.length names) (omega (arith, all))) in
-    ap (λ n. record { name = n; place = place_of modules q } ∷ titled modules (drop q.length (names ++ name)) (ps ++ p ∷ [])) (take-append-le q.length names name here)
-    ∙ ap (λ (ts : List Title). record { name = take q.length names; place = place_of modules q } ∷ ts)
+    ap (λ n. record { shown = shown_by q.kind n; place = place_of modules q } ∷ titled modules (drop q.length (names ++ name)) (ps ++ p ∷ [])) (take-append-le q.length names name here)
+    ∙ ap (λ (ts : List Title). record { shown = shown_by q.kind (take q.length names); place = place_of modules q } ∷ ts)
     (ap (λ text. titled modules text (ps ++ p ∷ [])) (drop-append-le q.length names name here) ∙ titled_push modules (drop q.length names) name ps p rest is)
 
 -- the first titles are those of the first spots
@@ -97,11 +100,11 @@ pub titled_take : (modules : List (List ℕ)) (names : List ℕ) (ps : List Spot
 titled_take modules names [] zero = refl
 titled_take modules names [] (suc k) = refl
 titled_take modules names (p ∷ ps) zero = refl
-titled_take modules names (p ∷ ps) (suc k) = ap (λ (ts : List Title). record { name = take p.length names; place = place_of modules p } ∷ ts) (titled_take modules (drop p.length names) ps k)
+titled_take modules names (p ∷ ps) (suc k) = ap (λ (ts : List Title). record { shown = shown_by p.kind (take p.length names); place = place_of modules p } ∷ ts) (titled_take modules (drop p.length names) ps k)
 
 -- the next title
 pub titled_next : (modules : List (List ℕ)) (names : List ℕ) (ps : List Spot) (i : ℕ) (d : Spot) → i < length ps
-    → titled modules names (drop i ps) ≡ record { name = take (get_or ps i d).length names; place = place_of modules (get_or ps i d) } ∷ titled modules (drop (get_or ps i d).length names) (drop (i + 1) ps)
+    → titled modules names (drop i ps) ≡ record { shown = shown_by (get_or ps i d).kind (take (get_or ps i d).length names); place = place_of modules (get_or ps i d) } ∷ titled modules (drop (get_or ps i d).length names) (drop (i + 1) ps)
 titled_next modules names ps i d lt = at_drop_more (titled modules names) ps i d lt
 
 pub total_next : (ps : List Spot) (i : ℕ) (d : Spot) → i < length ps → total (drop i ps) ≡ (get_or ps i d).length + total (drop (i + 1) ps)
@@ -137,3 +140,12 @@ pub read_own : (xs : List (List ℕ)) (i : ℕ) (r : List ℕ) → i < length xs
 read_own [] i r lt is = absurd (omega (arith, lt))
 read_own (x ∷ xs) zero r lt is = is
 read_own (x ∷ xs) (suc i) r lt is = read_own xs i r (omega (arith, lt)) is
+
+-- what is shown is of its kind and text
+pub shown_again : (s : Shown) → shown_by (kind_of s) (text_of s) ≡ s
+shown_again (Name text) = refl
+shown_again Asserted = refl
+shown_again Yes = refl
+shown_again No = refl
+shown_again (Of text) = refl
+shown_again (Value text) = refl

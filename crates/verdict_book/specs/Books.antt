@@ -1,5 +1,5 @@
--- For callers: the report of a board's history: the `ok` lines of the jobs before its first fault, and its last line (docs/board.md).
-use Rattle.std.specs.Prelude.{◌≡◌, ℕ, ◌+◌, ◌-◌, ◌==◌, false, List, [], ◌∷◌, codes, length, map, take, slice_index_or, if◌then◌else◌, Option, Some, None}
+-- For callers: the report of a board's history: the lines of the jobs before its first fault, and its last line (docs/board.md).
+use Rattle.std.specs.Prelude.{◌≡◌, ℕ, ◌+◌, ◌-◌, ◌==◌, false, List, length, map, take, slice_index_or, if◌then◌else◌, Option, Some, None}
 use Rattle.std.specs.List.{list_any}
 use Rattle.dk_model.specs.declared.code.Verdict.{Verdict}
 use Rattle.dk_model.specs.declared.code.Verdict.TheVariants as verdict
@@ -8,10 +8,11 @@ use Rattle.board_core.specs.declared.event.End.TheVariants as end
 use Rattle.board_core.specs.declared.event.Event.{Event}
 use Rattle.board_core.specs.declared.event.Place.{Place}
 use Rattle.board_core.specs.Events.{end_of, is_fault, IsFirstFault}
-use Rattle.verdict_book.specs.Report.{FileReport, name_in, nowhere}
+use Rattle.verdict_book.specs.Report.{FileReport, nowhere}
 use Rattle.verdict_book.specs.declared.outcome.Outcome.{Outcome}
 use Rattle.verdict_book.specs.declared.outcome.Outcome.TheVariants.{Accepted, Stopped, Unread, Unopened}
 use Rattle.verdict_book.specs.declared.title.Title.{Title}
+use Rattle.verdict_book.specs.Titles.{lines_in}
 
 -- the reader's own verdict on the command behind so many jobs; at line 0 memory ended before the first command was begun
 abbrev pub fault_outcome : ℕ → Place → Verdict → Outcome
@@ -33,18 +34,14 @@ end_outcome count (Some (end.Fault place v)) = fault_outcome count place v
 end_outcome count (Some end.Stopped) = unfinished count
 end_outcome count None = unfinished count
 
--- the names in the `ok` lines
-abbrev pub names_of : List Title → List (List ℕ)
-names_of titles = map (λ (t : Title). name_in t.place.«module» t.name) titles
-
 -- the place of the job of this number
 abbrev pub place_at : List Title → ℕ → Place
 place_at titles n = slice_index_or (map (λ (t : Title). t.place) titles) (n - 1) nowhere
 
 -- the report of jobs with these titles, with this first fault, if there is one, and this end
 abbrev pub report_with : List Title → Option (ℕ × Verdict) → Option End → FileReport
-report_with titles (Some f) e = record { names = names_of (take (f.0 - 1) titles); outcome = Stopped f.0 (place_at titles f.0) f.1 }
-report_with titles None e = record { names = names_of titles; outcome = end_outcome (length titles) e }
+report_with titles (Some f) e = record { lines = lines_in (take (f.0 - 1) titles); outcome = Stopped f.0 (place_at titles f.0) f.1 }
+report_with titles None e = record { lines = lines_in titles; outcome = end_outcome (length titles) e }
 
 -- the first fault of these events, if there is one
 abbrev pub IsFirst : List Event → Option (ℕ × Verdict) → Type 0

@@ -3,3 +3,4 @@ pub mod Pieces
 pub mod Places
 pub mod Report
 pub mod Stops
+pub mod Titles

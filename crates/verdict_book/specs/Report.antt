@@ -1,5 +1,5 @@
 -- Trusted: the text of a report and its status (docs/report.md).
-use Rattle.std.specs.Prelude.{ℕ, ◌+◌, Bool, true, false, List, [], ◌∷◌, ◌++◌, codes, decimal}
+use Rattle.std.specs.Prelude.{ℕ, ◌+◌, ◌&&◌, Bool, true, false, List, [], ◌∷◌, ◌++◌, codes, decimal, if◌then◌else◌}
 use Rattle.dk_model.specs.declared.code.Verdict.{Verdict}
 use Rattle.dk_model.specs.declared.code.Verdict.TheVariants as verdict
 use Rattle.dk_model.specs.Codes.{code_text}
@@ -26,19 +26,46 @@ in_book folder (letter ∷ letters) = codes " in " ++ module_book folder (letter
 abbrev pub nowhere : Place
 nowhere = in_file 0
 
+-- what a report shows of an accepted command: its name; what `#CHECK` found; the printed term that `#INFER` or `#EVAL` found
+pub data PlainShown : Type 0 where
+  ok_name : List ℕ → PlainShown
+  says_yes : PlainShown
+  says_no : PlainShown
+  says_type : List ℕ → PlainShown
+  says_value : List ℕ → PlainShown
+
+-- a word, the number of a command, and a text
+abbrev pub text_line : List ℕ → ℕ → List ℕ → List ℕ
+text_line word number text = concat (word ∷ codes " " ∷ decimal number ∷ codes " " ∷ text ∷ codes "\n" ∷ [])
+
+-- a word and the number of a command
+abbrev pub word_line : List ℕ → ℕ → List ℕ
+word_line word number = concat (word ∷ codes " " ∷ decimal number ∷ codes "\n" ∷ [])
+
 -- the line of the accepted command of that number
-abbrev pub ok_line : ℕ → List ℕ → List ℕ
-ok_line number name = concat (codes "ok " ∷ decimal number ∷ codes " " ∷ name ∷ codes "\n" ∷ [])
+abbrev pub shown_line : ℕ → PlainShown → List ℕ
+shown_line number (ok_name name) = text_line (codes "ok") number name
+shown_line number says_yes = word_line (codes "yes") number
+shown_line number says_no = word_line (codes "no") number
+shown_line number (says_type term) = text_line (codes "type") number term
+shown_line number (says_value term) = text_line (codes "value") number term
 
--- the lines of accepted commands, the first of them of that number
-abbrev pub ok_lines : ℕ → List (List ℕ) → List ℕ
-ok_lines number [] = []
-ok_lines number (name ∷ names) = ok_line number name ++ ok_lines (number + 1) names
+-- a quiet report has no such line
+abbrev pub is_ok : PlainShown → Bool
+is_ok (ok_name name) = true
+is_ok says_yes = false
+is_ok says_no = false
+is_ok (says_type term) = false
+is_ok (says_value term) = false
 
--- the `ok` lines of a report, none where it is quiet
-abbrev pub shown_lines : Bool → List (List ℕ) → List ℕ
-shown_lines true names = []
-shown_lines false names = ok_lines 1 names
+-- the same in a report that may be quiet
+abbrev pub line_of : Bool → ℕ → PlainShown → List ℕ
+line_of quiet number shown = if quiet && is_ok shown then [] else shown_line number shown
+
+-- the lines of accepted commands, the first of them of that number; numbers count the lines that a quiet report leaves out
+abbrev pub lines_of : Bool → ℕ → List PlainShown → List ℕ
+lines_of quiet number [] = []
+lines_of quiet number (shown ∷ more) = line_of quiet number shown ++ lines_of quiet (number + 1) more
 
 -- what the last line says of the command of that number at that line
 abbrev pub stop_text : ℕ → ℕ → Verdict → ℕ → List ℕ
@@ -59,13 +86,13 @@ last_line (Unread number place) budget folder =
     concat (codes "unread " ∷ decimal number ∷ in_book folder place.«module» ∷ codes "\n" ∷ [])
 last_line (Unopened name) budget folder = concat (codes "unopened " ∷ module_book folder name ∷ codes "\n" ∷ [])
 
--- the report of a file: the `ok` lines, unless quiet, and the last line
-abbrev pub report_of : List (List ℕ) → Outcome → ℕ → Bool → List ℕ → List ℕ
-report_of names outcome budget quiet folder = shown_lines quiet names ++ last_line outcome budget folder
+-- the report of a file: the lines of the accepted commands and the last line
+abbrev pub report_of : List PlainShown → Outcome → ℕ → Bool → List ℕ → List ℕ
+report_of lines outcome budget quiet folder = lines_of quiet 1 lines ++ last_line outcome budget folder
 
--- the names of the `ok` lines and the outcome
+-- what is shown of the accepted commands, and the outcome
 pub record FileReport : Type 0 where
-  pub names : List (List ℕ)
+  pub lines : List PlainShown
   pub outcome : Outcome
 
 -- the status where a file stops with that verdict

@@ -7,13 +7,15 @@ ghost use Rattle.dk_io.specs.Causes.{HasCause};
 ghost use Rattle.dk_io.specs.Gathered.{Gathers};
 ghost use Rattle.board_core.specs.Events.{end_of, is_fault, IsFirstFault};
 ghost use Rattle.board_core.specs.Machine.{IsFinished, marks_of};
-ghost use Rattle.verdict_book.specs.Report.{FileReport, last_line, ok_lines, report_of};
+ghost use Rattle.verdict_book.specs.Report.{FileReport, last_line, line_of, lines_of, report_of};
 ghost use Rattle.verdict_book.specs.Pieces.{pieces_text};
-ghost use Rattle.verdict_book.specs.Books.{end_outcome, fault_of_end, fault_outcome, IsReportOf, IsWithoutFault, names_of};
+ghost use Rattle.verdict_book.specs.Books.{end_outcome, fault_of_end, fault_outcome, IsReportOf, IsWithoutFault};
 ghost use Rattle.verdict_book.specs.Places.{IsHeld, titles_in};
+ghost use Rattle.verdict_book.specs.Titles.{lines_in};
 ghost use Rattle.verdict_book.specs.Stops.{EndsByItself, IsFault, StopsAtFault};
 
-use crate::report::{Style, put_last, put_ok};
+use crate::report::{Style, put_last, put_shown};
+use crate::shown::ShownRef;
 use crate::title::TitleSlice;
 use crate::{ModuleRef, Outcome, Piece, PlaceRef, Titles, put_pieces};
 use board_core::{Book, End, Place};
@@ -94,13 +96,13 @@ pub fn outcome_of<'a, J>(book: &'a Book<J>, titles: &'a Titles) -> Outcome<'a>
     }
 }
 
-// The titles of the jobs that have an `ok` line: those before the first fault.
-fn shown<'t, J>(book: &Book<J>, titles: &TitleSlice<'t>) -> TitleSlice<'t>
+// The titles of the jobs that have a line: those before the first fault.
+fn before_fault<'t, J>(book: &Book<J>, titles: &TitleSlice<'t>) -> TitleSlice<'t>
     requires all { length titles.now.spots.now ≡ length book.now.jobs }
     requires held { IsHeld titles.now }
-    ensures names { (report : FileReport) →
+    ensures lines { (report : FileReport) →
         IsReportOf (titles_in titles.now) book.now.events report →
-        names_of (titles_in result) ≡ report.names }
+        lines_in (titles_in result) ≡ report.lines }
     ensures held { IsHeld result }
     ensures few { length result.spots.now ≤ length titles.now.spots.now }
 {
@@ -109,38 +111,61 @@ fn shown<'t, J>(book: &Book<J>, titles: &TitleSlice<'t>) -> TitleSlice<'t>
         Some((number, _)) => {
             let (before, _) = titles.spots.split_at(number as usize - 1);
             TitleSlice {
-                names: titles.names,
+                texts: titles.texts,
                 modules: titles.modules,
                 spots: before,
             }
         }
         None => TitleSlice {
-            names: titles.names,
+            texts: titles.texts,
             modules: titles.modules,
             spots: titles.spots,
         },
     }
 }
 
-// The `ok` lines of jobs with these titles.
+// The line of an accepted command, unless it is an `ok` line and the report is quiet.
+fn put_line<'x, K: Sink>(
+    buffer: &mut Buffer,
+    sink: &mut K,
+    number: u64,
+    shown: &'x ShownRef<'x>,
+    quiet: bool,
+) -> Result<(), Failed>
+    ensures put { Gathers (K.taken sink.old) buffer.old (K.taken sink.new) buffer.new
+        (line_of quiet number shown.now) result }
+    ensures cause { HasCause (K.faults sink.old) (K.faults sink.new) result }
+{
+    if quiet && shown.is_ok() {
+        return buffer.put(sink, b"");
+    }
+    put_shown(buffer, sink, number, shown)
+}
+
+// The lines of jobs with these titles.
 fn put_titles<K: Sink>(
     buffer: &mut Buffer,
     sink: &mut K,
     titles: &TitleSlice<'_>,
+    quiet: bool,
 ) -> Result<(), Failed>
     requires few { length titles.now.spots.now < 2 ^ 63 }
     requires held { IsHeld titles.now }
     ensures put { Gathers (K.taken sink.old) buffer.old (K.taken sink.new) buffer.new
-        (ok_lines 1 (names_of (titles_in titles.now))) result }
+        (lines_of quiet 1 (lines_in (titles_in titles.now))) result }
     ensures cause { HasCause (K.faults sink.old) (K.faults sink.new) result }
 {
     let mut number = 1;
-    let mut rest = titles.names;
+    let mut rest = titles.texts;
     for spot in titles.spots {
-        let (name, behind) = rest.split_at(spot.length as usize);
+        let (text, behind) = rest.split_at(spot.length as usize);
         rest = behind;
-        let module = &titles.modules[spot.module_at as usize];
-        match put_ok(buffer, sink, number, module.as_slice(), name) {
+        let shown = ShownRef {
+            kind: spot.kind,
+            module: titles.modules[spot.module_at as usize].as_slice(),
+            text,
+        };
+        match put_line(buffer, sink, number, &shown, quiet) {
             Ok(()) => number += 1,
             Err(failed) => return Err(failed),
         }
@@ -160,21 +185,18 @@ fn put_lines<'x, K: Sink>(
     requires held { IsHeld titles.now }
     requires fault { StopsAtFault outcome.now }
     ensures put { Gathers (K.taken sink.old) buffer.old (K.taken sink.new) buffer.new
-        (report_of (names_of (titles_in titles.now)) outcome.now style.now.budget
+        (report_of (lines_in (titles_in titles.now)) outcome.now style.now.budget
         style.now.quiet style.now.folder.now) result }
     ensures cause { HasCause (K.faults sink.old) (K.faults sink.new) result }
 {
-    if style.quiet {
-        return put_last(buffer, sink, outcome, style);
-    }
-    match put_titles(buffer, sink, titles) {
+    match put_titles(buffer, sink, titles, style.quiet) {
         Ok(()) => put_last(buffer, sink, outcome, style),
         Err(failed) => Err(failed),
     }
 }
 
-/// Writes the report of the book: an `ok` line for each job before its first fault, unless `quiet`, and the last line. Takes no
-/// memory.
+/// Writes the report of the book: the line of each job before its first fault, where `quiet` without `ok` lines, and the last
+/// line. Takes no memory.
 ///
 /// `titles` are those of the book's jobs, in order. `budget` is the number in a line that says that the budget ended, `folder`
 /// what stands before the name of a module's file, up to and with its last `/`. After `Failed` the sink has taken a front of
@@ -191,7 +213,7 @@ pub fn write_report<J, K: Sink>(
     requires all { length titles.now ≡ length book.now.jobs }
     ensures wrote { (report : FileReport) → IsReportOf titles.now book.now.events report →
         Wrote (K.taken sink.old) (K.taken sink.new)
-        (report_of report.names report.outcome budget quiet folder.now) result }
+        (report_of report.lines report.outcome budget quiet folder.now) result }
     ensures cause { HasCause (K.faults sink.old) (K.faults sink.new) result }
 {
     let style = Style {
@@ -200,7 +222,7 @@ pub fn write_report<J, K: Sink>(
         folder,
     };
     let outcome = outcome_of(book, titles);
-    let before = shown(book, &titles.as_slice());
+    let before = before_fault(book, &titles.as_slice());
     let mut buffer = Buffer::new();
     match put_lines(&mut buffer, sink, &before, &outcome, &style) {
         Ok(()) => buffer.flush(sink),

@@ -7,6 +7,7 @@ mod outcome;
 mod pieces;
 mod place_ref;
 mod report;
+mod shown;
 pub mod status;
 mod title;
 
@@ -15,4 +16,5 @@ pub use laws::{history_has_one_report, history_has_report};
 pub use outcome::Outcome;
 pub use pieces::{Piece, put_pieces};
 pub use place_ref::{ModuleRef, PlaceRef};
+pub use shown::Shown;
 pub use title::{Title, Titles};

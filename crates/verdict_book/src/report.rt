@@ -2,9 +2,10 @@
 ghost use Rattle.std.specs.Prelude.{◌++◌, codes};
 ghost use Rattle.dk_io.specs.Causes.{HasCause};
 ghost use Rattle.dk_io.specs.Gathered.{Gathers};
-ghost use Rattle.verdict_book.specs.Report.{in_book, last_line, ok_line, stop_text, name_in};
+ghost use Rattle.verdict_book.specs.Report.{in_book, last_line, name_in, ok_name, shown_line, stop_text, text_line, word_line};
 ghost use Rattle.verdict_book.specs.Stops.{IsFault, StopsAtFault};
 
+use crate::shown::{Kind, ShownRef};
 use crate::{Outcome, Piece, put_pieces};
 use dk_io::{Buffer, Failed, Sink};
 use dk_model::Verdict;
@@ -20,8 +21,46 @@ pub struct Style<'a> {
     pub folder: &'a str,
 }
 
-/// The line of an accepted command of this module.
-pub fn put_ok<'x, K: Sink>(
+// A word, the number of a command, and a text.
+fn put_text<'x, K: Sink>(
+    buffer: &mut Buffer,
+    sink: &mut K,
+    word: &'x str,
+    number: u64,
+    text: &'x [u8],
+) -> Result<(), Failed>
+    ensures put { Gathers (K.taken sink.old) buffer.old (K.taken sink.new) buffer.new
+        (text_line word.now number text.now) result }
+    ensures cause { HasCause (K.faults sink.old) (K.faults sink.new) result }
+{
+    let word = Piece::Text(word.as_bytes());
+    let blank = Piece::Text(b" ");
+    let number = Piece::Number(number);
+    let text = Piece::Text(text);
+    let end = Piece::Text(b"\n");
+    put_pieces(buffer, sink, &[word, blank, number, blank, text, end])
+}
+
+// A word and the number of a command.
+fn put_word<'x, K: Sink>(
+    buffer: &mut Buffer,
+    sink: &mut K,
+    word: &'x str,
+    number: u64,
+) -> Result<(), Failed>
+    ensures put { Gathers (K.taken sink.old) buffer.old (K.taken sink.new) buffer.new
+        (word_line word.now number) result }
+    ensures cause { HasCause (K.faults sink.old) (K.faults sink.new) result }
+{
+    let word = Piece::Text(word.as_bytes());
+    let blank = Piece::Text(b" ");
+    let number = Piece::Number(number);
+    let end = Piece::Text(b"\n");
+    put_pieces(buffer, sink, &[word, blank, number, end])
+}
+
+// The `ok` line of an accepted command of this module.
+fn put_ok<'x, K: Sink>(
     buffer: &mut Buffer,
     sink: &mut K,
     number: u64,
@@ -29,20 +68,41 @@ pub fn put_ok<'x, K: Sink>(
     name: &'x [u8],
 ) -> Result<(), Failed>
     ensures put { Gathers (K.taken sink.old) buffer.old (K.taken sink.new) buffer.new
-        (ok_line number (name_in «module».now name.now)) result }
+        (shown_line number (ok_name (name_in «module».now name.now))) result }
     ensures cause { HasCause (K.faults sink.old) (K.faults sink.new) result }
 {
+    if module.is_empty() {
+        return put_text(buffer, sink, "ok", number, name);
+    }
     let ok = Piece::Text(b"ok ");
     let blank = Piece::Text(b" ");
     let number = Piece::Number(number);
-    let name = Piece::Text(name);
-    let end = Piece::Text(b"\n");
-    if module.is_empty() {
-        return put_pieces(buffer, sink, &[ok, number, blank, name, end]);
-    }
     let module = Piece::Text(module);
     let dot = Piece::Text(b".");
+    let name = Piece::Text(name);
+    let end = Piece::Text(b"\n");
     put_pieces(buffer, sink, &[ok, number, blank, module, dot, name, end])
+}
+
+/// The line of an accepted command.
+pub fn put_shown<'x, K: Sink>(
+    buffer: &mut Buffer,
+    sink: &mut K,
+    number: u64,
+    shown: &'x ShownRef<'x>,
+) -> Result<(), Failed>
+    ensures put { Gathers (K.taken sink.old) buffer.old (K.taken sink.new) buffer.new
+        (shown_line number shown.now) result }
+    ensures cause { HasCause (K.faults sink.old) (K.faults sink.new) result }
+{
+    match shown.kind {
+        Kind::Name => put_ok(buffer, sink, number, shown.module, shown.text),
+        Kind::Asserted => put_text(buffer, sink, "ok", number, b"#ASSERT"),
+        Kind::Yes => put_word(buffer, sink, "yes", number),
+        Kind::No => put_word(buffer, sink, "no", number),
+        Kind::Of => put_text(buffer, sink, "type", number, shown.text),
+        Kind::Value => put_text(buffer, sink, "value", number, shown.text),
+    }
 }
 
 // What the last line says up to its place's module.

@@ -4,6 +4,7 @@ ghost use Rattle.verdict_book.specs.Books.{place_at};
 ghost use Rattle.verdict_book.specs.Places.{Extends, IsHeld, titles_in};
 
 use crate::PlaceRef;
+use crate::shown::{Kind, Shown};
 use board_core::Place;
 use dk_model::{Listed, NoMemory};
 use std::alloc::Global;
@@ -12,27 +13,29 @@ use std::marker::Model;
 /// What a report names of a job.
 #[derive(Drop)]
 pub struct Title {
-    /// The name in its `ok` line, without its module.
-    pub name: Listed<u8>,
+    /// What its line shows, where it is accepted.
+    pub shown: Shown,
     /// Its command's module, and the line of that command's first token, from 1.
     pub place: Place,
 }
 
-/// A title whose name stands in a text and whose module in a list.
+/// A title whose name or term stands in a text and whose module in a list.
 #[derive(Clone, Copy)]
 pub struct Spot {
-    /// How many bytes the name has.
+    pub kind: Kind,
+    /// How many bytes the name or term has.
     pub length: u32,
     pub line: u32,
     /// Where in the list its module stands.
     pub module_at: u32,
 }
 
-/// The titles of jobs, in order. Their names stand in one text, one behind the other, so that a job
-/// takes no block of memory for its name; a module stands once for all jobs in a row that have it.
+/// The titles of jobs, in order. Their names and terms stand in one text, one behind the other, so
+/// that a job takes no block of memory for its own; a module stands once for all jobs in a row that
+/// have it.
 #[derive(Drop)]
 pub struct Titles {
-    names: Vec<u8>,
+    texts: Vec<u8>,
     modules: Vec<Listed<u8>>,
     spots: Vec<Spot>,
 }
@@ -44,16 +47,16 @@ impl Model for Titles {
 
     ghost Value = { List Title };
 
-    ghost view = { λ t. titled t.modules.items t.names.items t.spots.items };
+    ghost view = { λ t. titled t.modules.items t.texts.items t.spots.items };
 
-    ghost invariant = { λ t. (total t.spots.items ≡ length t.names.items)
+    ghost invariant = { λ t. (total t.spots.items ≡ length t.texts.items)
         × AreIn t.modules.items t.spots.items };
 }
 
 /// Some titles of a list, in order.
 #[derive(Drop)]
 pub struct TitleSlice<'t> {
-    pub names: &'t [u8],
+    pub texts: &'t [u8],
     pub modules: &'t [Listed<u8>],
     pub spots: &'t [Spot],
 }
@@ -63,7 +66,7 @@ impl Titles {
         ensures { result ≡ [] }
     {
         Titles {
-            names: Vec::new(alloc),
+            texts: Vec::new(alloc),
             modules: Vec::new(alloc),
             spots: Vec::new(alloc),
         }
@@ -75,18 +78,20 @@ impl Titles {
         self.spots.len()
     }
 
-    /// Adds a copy of a title, behind the others. A name of 2^32 bytes is want of memory.
+    /// Adds a copy of a title, behind the others. A name or term of 2^32 bytes is want of memory.
     pub fn push(&mut self, title: &Title) -> Result<(), NoMemory>
         ensures ok { OnOk result (self.new ≡ self.old ++ title.now ∷ []) }
         ensures err { OnErr result (self.new ≡ self.old) }
     {
-        let Ok(length) = u32::try_from(title.name.len()) else {
+        let text = title.shown.text();
+        let Ok(length) = u32::try_from(text.len()) else {
             return Err(NoMemory);
         };
         self.spots.reserve(1)?;
         let module_at = module_number(&mut self.modules, &title.place.module)?;
-        self.names.extend_from_slice(title.name.as_slice())?;
+        self.texts.extend_from_slice(text)?;
         self.spots.push_reserved(Spot {
+            kind: title.shown.kind(),
             length,
             line: title.place.line,
             module_at,
@@ -99,8 +104,8 @@ impl Titles {
         ensures { self.new ≡ take (length self.old - 1) self.old }
     {
         if let Some(spot) = self.spots.pop() {
-            let kept = self.names.len() - spot.length as usize;
-            self.names.truncate(kept);
+            let kept = self.texts.len() - spot.length as usize;
+            self.texts.truncate(kept);
         }
     }
 
@@ -118,7 +123,7 @@ impl Titles {
         ensures held { IsHeld result }
     {
         TitleSlice {
-            names: self.names.as_slice(),
+            texts: self.texts.as_slice(),
             modules: self.modules.as_slice(),
             spots: self.spots.as_slice(),
         }

@@ -14,7 +14,7 @@ overflow_sub-kept c =
 pub invariant_of-self : goal.invariant_of-self
 invariant_of-self c =
     let modules = c.self.inside.modules.items in
-    let names = c.self.inside.names.items in
+    let names = c.self.inside.texts.items in
     let whole = c.pop.ensures.items ∙ ap (λ r. c.pop.new.self.items ++ option_to_list r) c.in-Some.is in
     let parts = cut_length _ _ _ _ whole c.self.invariant.0 in
     let same : c.len.result ≡ length names = omega (arith, c.len.ensures) in
@@ -26,7 +26,7 @@ invariant_of-self c =
 pub returns-in-Some : goal.returns-in-Some
 returns-in-Some c =
     let modules = c.self.inside.modules.items in
-    let names = c.self.inside.names.items in
+    let names = c.self.inside.texts.items in
     let places = c.self.inside.spots.items in
     let front = c.pop.new.self.items in
     let count : length places ≡ length c.args.self.now = sym (titled_length modules names places) ∙ ap length c.self.view_is in
