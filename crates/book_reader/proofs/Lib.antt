@@ -7,3 +7,4 @@ pub mod Openings
 pub mod Turning
 pub mod Ending
 pub mod Turns
+pub mod Rooms

@@ -1,4 +1,5 @@
 pub mod Ends
+pub mod Rooms
 pub mod Shelved
 pub mod Shelves
 pub mod Stacks

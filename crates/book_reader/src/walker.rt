@@ -1,5 +1,5 @@
 //! Several books, one inside the other.
-ghost use Rattle.std.specs.Prelude.{◌≡◌, ◌<◌, ◌≤◌, ◌∷◌, [], ℕ, Bool, List, Some, None, reverse, vec_len, IfOk, OnOk, OnErr};
+ghost use Rattle.std.specs.Prelude.{◌≡◌, ◌+◌, ◌<◌, ◌≤◌, ◌∷◌, [], ℕ, Bool, List, Some, None, reverse, vec_len, IfOk, OnOk, OnErr};
 ghost use Rattle.std.specs.List.{list_any};
 ghost use Rattle.std.specs.String.{string_bytes};
 ghost use Rattle.dk_io.specs.Bytes.{Books};
@@ -7,6 +7,7 @@ ghost use Rattle.dk_io.specs.Causes.{HasCauseAt, MayRise};
 ghost use Rattle.theory_walk.specs.declared.needs.Standing.{Standing};
 ghost use Rattle.theory_walk.specs.Walks.{Placed, is_module, module_in, standing_of};
 ghost use Rattle.book_reader.specs.Ends.{AreBegun, Causes, ComesTo, HasRoom, IsNewTo, IsReady, Moves, books_open};
+ghost use Rattle.book_reader.specs.Rooms.{room_of_book, room_of_walk};
 ghost use Rattle.book_reader.specs.Shelves.{shelf_of};
 ghost use Rattle.book_reader.specs.Turns.{GivesUp, IsIdle, NeedsNext};
 ghost use Rattle.book_reader.specs.Walkers.{HasGiven, books_in, opens_below};
@@ -217,6 +218,7 @@ impl Walker {
             NeedsNext books done directive line name self.old (shelf_of H.Shelf shelf.old) →
             ComesTo books done self.new (shelf_of H.Shelf shelf.new) result }
         ensures moves { Moves self.old self.new result }
+        ensures room { OnOk result (room_of_walk self.new ≤ room_of_walk self.old) }
         ensures books { H.books shelf.new ≡ H.books shelf.old }
         ensures causes { Causes (string_bytes self.old.root.file) (shelf_of H.Shelf shelf.old)
             (shelf_of H.Shelf shelf.new) result }
@@ -259,6 +261,7 @@ impl Walker {
             (shelf_of H.Shelf shelf.old) →
             ComesTo books done self.new (shelf_of H.Shelf shelf.new) result }
         ensures moves { Moves self.old self.new result }
+        ensures room { OnOk result (room_of_walk self.new ≤ room_of_walk self.old) }
         ensures books { H.books shelf.new ≡ H.books shelf.old }
         ensures causes { Causes (string_bytes self.old.root.file) (shelf_of H.Shelf shelf.old)
             (shelf_of H.Shelf shelf.new) result }
@@ -285,6 +288,8 @@ impl Walker {
         ensures ready { OnOk result (IsReady self.new (shelf_of H.Shelf shelf.new)) }
         ensures gone { GivesUp self.old self.new (shelf_of H.Shelf shelf.old)
             (shelf_of H.Shelf shelf.new) result }
+        ensures room { OnOk result
+            (room_of_walk self.new + room_of_book self.old.top ≡ room_of_walk self.old) }
         ensures books { H.books shelf.new ≡ H.books shelf.old }
         ensures causes { Causes (string_bytes self.old.root.file) (shelf_of H.Shelf shelf.old)
             (shelf_of H.Shelf shelf.new) result }
@@ -309,6 +314,7 @@ impl Walker {
             HasGiven books done (shelf_of H.Shelf shelf.old) self.old →
             ComesTo books done self.new (shelf_of H.Shelf shelf.new) result }
         ensures moves { Moves self.old self.new result }
+        ensures room { OnOk result (room_of_walk self.new < room_of_walk self.old) }
         ensures books { H.books shelf.new ≡ H.books shelf.old }
         ensures causes { Causes (string_bytes self.old.root.file) (shelf_of H.Shelf shelf.old)
             (shelf_of H.Shelf shelf.new) result }
@@ -339,6 +345,7 @@ impl Walker {
             HasGiven books done (shelf_of H.Shelf shelf.old) self.old →
             ComesTo books done self.new (shelf_of H.Shelf shelf.new) result }
         ensures moves { Moves self.old self.new result }
+        ensures room { OnOk result (room_of_walk self.new < room_of_walk self.old) }
         ensures books { H.books shelf.new ≡ H.books shelf.old }
         ensures causes { Causes (string_bytes self.old.root.file) (shelf_of H.Shelf shelf.old)
             (shelf_of H.Shelf shelf.new) result }

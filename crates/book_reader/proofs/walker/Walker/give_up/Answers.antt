@@ -4,6 +4,7 @@ use Rattle.std.specs.Prelude.{reverse, take, ◌-◌}
 use Rattle.book_reader.specs.declared.walker.Frame.{Frame}
 use Rattle.book_reader.specs.Walkers.{open_of}
 use Rattle.book_reader.proofs.Openings.{begun_less, below_more}
+use Rattle.book_reader.proofs.Rooms.{room_pushed}
 use Rattle.book_reader.proofs.walker.Walker.give_up.Goals as goal
 
 pub returns-in-None-clause-gone : goal.returns-in-None-clause-gone
@@ -34,3 +35,6 @@ returns-in-Some-clause-ready g c =
       top = begun.0;
       below = begun.1;
     }
+
+pub returns-in-Some-clause-room : goal.returns-in-Some-clause-room
+returns-in-Some-clause-room g c = let below = room_pushed _ _ c.in-Some.frame c.in-Some.ensures.items in omega (arith, below)

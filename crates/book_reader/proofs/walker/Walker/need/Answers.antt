@@ -44,3 +44,6 @@ returns-in-New-clause-walks g c = λ books done told st. c.open.ensures.walks bo
 
 pub returns-in-New-clause-moves : goal.returns-in-New-clause-moves
 returns-in-New-clause-moves g c = c.open.ensures.moves
+
+pub returns-in-New-clause-room : goal.returns-in-New-clause-room
+returns-in-New-clause-room g c = c.open.ensures.room

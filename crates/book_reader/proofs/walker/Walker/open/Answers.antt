@@ -1,5 +1,6 @@
-use Rattle.std.proofs.Common.{◌≡◌, ◌≤◌, ◌<◌, List, [], ◌∷◌, ◌++◌, length, map, sym, ap, subst, ◌∙◌, refl, arith, false, Some}
+use Rattle.std.proofs.Common.{◌≡◌, ◌≤◌, ◌<◌, ◌+◌, List, [], ◌∷◌, ◌++◌, length, length-append, map, sym, ap, subst, ◌∙◌, refl, arith, false, Some}
 use Rattle.std.specs.Prelude.{reverse}
+use Rattle.std.specs.List.{sum_by}
 use Rattle.dk_io.specs.Bytes.{Opens, put_aside}
 use Rattle.std.specs.String.{string_bytes}
 use Rattle.dk_io.specs.Causes.{Rose}
@@ -7,6 +8,7 @@ use Rattle.theory_walk.specs.BookNames.{book_named}
 use Rattle.file_reader.specs.Progress.{HasBegun}
 use Rattle.book_reader.specs.declared.walker.Frame.{Frame}
 use Rattle.book_reader.specs.Ends.{AreBegun}
+use Rattle.book_reader.specs.Rooms.{room_of_book}
 use Rattle.book_reader.specs.Shelved.{MemoryDue}
 use Rattle.book_reader.specs.Shelves.{shelf_of}
 use Rattle.book_reader.specs.Turns.{with_need}
@@ -15,6 +17,7 @@ use Rattle.book_reader.proofs.Keys.{is_new}
 use Rattle.book_reader.proofs.Openings.{at_limit, begun_more, below_count, below_limit, below_more}
 use Rattle.book_reader.proofs.Turning.{among_at, opened_new}
 use Rattle.book_reader.proofs.Ending.{begins_so, memory_at_need, newly_opened, opening_failed, too_many_files, too_many_modules}
+use Rattle.book_reader.proofs.Rooms.{room_opened, room_pushed}
 use Rattle.book_reader.proofs.walker.Walker.open.Goals as goal
 
 pub add-requires : goal.add-requires
@@ -150,3 +153,18 @@ returns-clause-walks g c = λ books done d told st.
           both.0,
       subst (λ k. MemoryDue s (length done) (record { book = k; line = 1 })) (sym (ap (λ (f : Frame). f.«module») c.replace-below.ensures.after)) both.1,
     )
+
+pub returns-clause-room : goal.returns-clause-room
+returns-clause-room g c =
+    let w = c.args.self.now in
+    let known : length c.add.new.self ≡ length w.opened + 1 = ap length c.in-Ok-add.ensures.ok ∙ length-append w.opened (c.as_slice-2.result.now ∷ []) in
+    let below : sum_by room_of_book c.push_reserved.new.self.items ≡ sum_by room_of_book w.below.items + room_of_book w.top =
+    room_pushed c.push_reserved.new.self.items c.reserve.new.self.items c.replace-below.result c.push_reserved.ensures.items
+    ∙ ap (λ (l : List Frame). sum_by room_of_book l + room_of_book c.replace-below.result) c.in-Ok-reserve.ensures.items
+    ∙ ap (λ f. sum_by room_of_book w.below.items + room_of_book f) c.replace-below.ensures.value in
+    let top = ap room_of_book c.replace-below.ensures.after in
+    let new = c.new.ensures.room in
+    let few = c.if-len-self-2.false in
+    let count = c.len-2.ensures in
+    room_opened w.root.most.modules (length w.opened) (length c.add.new.self) _ (room_of_book w.top) (sum_by room_of_book w.below.items) _ known
+    (omega (arith, few, count)) (omega (arith, top, new)) below

@@ -1,10 +1,12 @@
 use Rattle.std.proofs.Common.{◌≤◌, ◌+◌, ℕ, List, ◌∷◌, [], ◌++◌, length, sym, ap, subst, ◌∙◌, refl, arith}
 use Rattle.std.proofs.lemmas.List.{reverse-reverse}
+use Rattle.std.proofs.lemmas.Result.{on_ok_weaker}
 use Rattle.std.specs.Prelude.{Option, reverse, vec_len}
 use Rattle.dk_parser.specs.Modules.{modules_of}
 use Rattle.dk_parser.specs.RawViews.{written_command}
 use Rattle.dk_parser.specs.declared.raw.Raw.{Raw}
 use Rattle.file_reader.specs.Progress.{IsBehind}
+use Rattle.book_reader.specs.Rooms.{room_of_item}
 use Rattle.book_reader.specs.Shelves.{shelf_of}
 use Rattle.book_reader.specs.Walkers.{open_of, opens_below, opens_of, pending_of, setting_of, steps_behind}
 use Rattle.book_reader.proofs.Given.{memory_line, next_line_is}
@@ -12,6 +14,7 @@ use Rattle.book_reader.proofs.Openings.{below_count}
 use Rattle.book_reader.proofs.Turning.{found}
 use Rattle.book_reader.proofs.Ending.{begins_so, faulted, memory_ended, read_failed}
 use Rattle.book_reader.proofs.Turns.{causes_then, moves_up, whole_turn}
+use Rattle.book_reader.proofs.Rooms.{needs_small}
 use Rattle.book_reader.proofs.walker.Walker.read.Goals as goal
 
 pub give_up-requires : goal.give_up-requires
@@ -112,3 +115,13 @@ returns-in-Whole-clause-moves g c =
 
 pub returns-clause-moves : goal.returns-clause-moves
 returns-clause-moves g c = (refl, refl)
+
+pub returns-in-Whole-clause-room : goal.returns-in-Whole-clause-room
+returns-in-Whole-clause-room g c = on_ok_weaker c.give_up.result (λ same. omega (arith, same)) c.give_up.ensures.room
+
+pub returns-clause-room : goal.returns-clause-room
+returns-clause-room g c =
+    let less = c.in-Ok.ensures.room in
+    let small = needs_small c.in-Ok-needs.needs in
+    let idle = ap room_of_item c.requires.idle in
+    omega (arith, less, small, idle)

@@ -1,5 +1,6 @@
-use Rattle.std.proofs.Common.{◌≡◌, ℕ, List, ◌∷◌, [], sym, ap, ◌∙◌, refl}
+use Rattle.std.proofs.Common.{◌≡◌, ℕ, List, ◌∷◌, [], sym, ap, ◌∙◌, refl, arith}
 use Rattle.std.proofs.lemmas.List.{append-nil}
+use Rattle.std.proofs.lemmas.Result.{on_ok_weaker}
 use Rattle.std.specs.Prelude.{reverse, take, ◌-◌}
 use Rattle.dk_parser.specs.RawViews.{written_command}
 use Rattle.theory_walk.specs.Libraries.{command_step, need, put}
@@ -7,6 +8,7 @@ use Rattle.book_reader.specs.Shelves.{shelf_of}
 use Rattle.book_reader.specs.Walkers.{Open, open_of, opens_below, opens_of, pending_of, setting_of, steps_behind}
 use Rattle.book_reader.proofs.Openings.{pending_next}
 use Rattle.book_reader.proofs.Turning.{among_at, taken}
+use Rattle.book_reader.specs.Rooms.{room_of_item}
 use Rattle.book_reader.proofs.walker.Walker.turn.Goals as goal
 
 pub returns-in_default-clause-walks : goal.returns-in_default-clause-walks
@@ -61,3 +63,26 @@ returns-in_default-pop-clause-moves g c = (refl, refl)
 
 pub returns-clause-moves : goal.returns-clause-moves
 returns-clause-moves g c = c.need.ensures.moves
+
+pub returns-in_default-clause-room : goal.returns-in_default-clause-room
+returns-in_default-clause-room g c =
+    let taken = ap room_of_item (c.in_default.ensures.after ∙ c.in_default.ensures.value) in
+    on_ok_weaker c.read.result (λ less. omega (arith, less, taken)) c.read.ensures.room
+
+pub returns-then-is_directive-clause-room : goal.returns-then-is_directive-clause-room
+returns-then-is_directive-clause-room g c =
+    let after = ap room_of_item c.in-Some.ensures.after in
+    let before = ap room_of_item c.in-Some.ensures.value in
+    omega (arith, after, before)
+
+pub returns-in_default-pop-clause-room : goal.returns-in_default-pop-clause-room
+returns-in_default-pop-clause-room g c =
+    let after = ap room_of_item c.in-Some.ensures.after in
+    let before = ap room_of_item c.in-Some.ensures.value in
+    omega (arith, after, before)
+
+pub returns-clause-room : goal.returns-clause-room
+returns-clause-room g c =
+    let before = ap room_of_item c.in-Some.ensures.value in
+    let fewer = c.in-Some-pop.ensures.cases in
+    on_ok_weaker c.need.result (λ less. omega (arith, less, before, fewer)) c.need.ensures.room
