@@ -4,12 +4,13 @@ use Rattle.std.specs.Prelude.{Option, Some, None}
 use Rattle.dk_model.specs.declared.code.Code.TheVariants.{E15}
 use Rattle.dk_model.specs.declared.code.Verdict.{Verdict}
 use Rattle.dk_model.specs.declared.code.Verdict.TheVariants as verdict
-use Rattle.verdict_book.specs.Report.{FileReport}
+use Rattle.verdict_book.specs.Report.{FileReport, PlainShown}
 use Rattle.verdict_book.specs.declared.outcome.Outcome.TheVariants.{Unopened}
 use Rattle.theory_walk.specs.declared.needs.Standing.{Standing}
 use Rattle.theory_walk.specs.declared.needs.Standing.TheVariants.{Current, Below, WasRead, New}
 use Rattle.theory_walk.specs.Libraries.{BookReading, BookStep, BookTail, Library, Opened, fault, need, opened, put, steps_in, unopened, unread, whole}
 use Rattle.theory_walk.specs.Walks.{End, Placed, Reached, Spot, Walk, by_standing, ends, goes_on, needs_in, no_file, not_opened, refused_at, spot_of_end, standing_of, stopped, then_walk, unread_at, walk_file, walk_steps}
+use Rattle.file_report.specs.Reports.{Checking}
 use Rattle.file_report.specs.TheoryReports.{by_verdict, report_from}
 use Rattle.book_reader.specs.Shelved.{IsDueAt}
 use Rattle.dk_check_run.specs.Books.{no_modules}
@@ -55,20 +56,20 @@ module _ (own : Option (List ℕ)) (lib : Library) where
 
 -- ---- no other book is needed
 
-module _ {T : Type 0} (verdict_on : T → ℕ → Placed → Verdict) (after : T → Placed → T) where
-  stops_here : (v : Verdict) (count : ℕ) (c : Placed) (rest : FileReport) (m : List ℕ) → rest.outcome ≢ Unopened m → (by_verdict v count c rest).outcome ≢ Unopened m
-  stops_here verdict.Accepted count c rest m not = not
-  stops_here (verdict.Refused code) count c rest m not = λ e. cc
-  stops_here verdict.Ended count c rest m not = λ e. cc
-  stops_here verdict.Memory count c rest m not = λ e. cc
+module _ {T : Type 0} (k : Checking T) where
+  stops_here : (v : Verdict) (count : ℕ) (c : Placed) (shown : PlainShown) (rest : FileReport) (m : List ℕ) → rest.outcome ≢ Unopened m → (by_verdict v count c shown rest).outcome ≢ Unopened m
+  stops_here verdict.Accepted count c shown rest m not = not
+  stops_here (verdict.Refused code) count c shown rest m not = λ e. cc
+  stops_here verdict.Ended count c shown rest m not = λ e. cc
+  stops_here verdict.Memory count c shown rest m not = λ e. cc
 
-  pub none_missing : (t : T) (count : ℕ) (cs : List Placed) (r : Reached) (m : List ℕ) → IsHere r → (report_from verdict_on after t count cs r).outcome ≢ Unopened m
+  pub none_missing : (t : T) (count : ℕ) (cs : List Placed) (r : Reached) (m : List ℕ) → IsHere r → (report_from k t count cs r).outcome ≢ Unopened m
   none_missing t count [] (goes_on known) m here = λ e. cc
   none_missing t count [] (ends (refused_at spot code)) m here = λ e. cc
   none_missing t count [] (ends (unread_at spot)) m here = λ e. cc
   none_missing t count [] (ends (not_opened spot n)) m here = absurd here
   none_missing t count [] (ends no_file) m here = absurd here
-  none_missing t count (c ∷ cs) r m here = stops_here (verdict_on t count c) count c (report_from verdict_on after (after t c) (count + 1) cs r) m (none_missing (after t c) (count + 1) cs r m here)
+  none_missing t count (c ∷ cs) r m here = stops_here (k.verdict_on t count c) count c (k.shown_on t c) (report_from k (k.after t c) (count + 1) cs r) m (none_missing (k.after t c) (count + 1) cs r m here)
 
 -- ---- what is due stands in the file
 

@@ -10,7 +10,7 @@ use Rattle.dk_model.specs.declared.code.Verdict.TheVariants as verdict
 use Rattle.command_line.specs.Requests.{CheckRequest, to_check}
 use Rattle.board_core.specs.declared.event.Event.{Event}
 use Rattle.board_core.specs.declared.event.Place.{Place}
-use Rattle.verdict_book.specs.Report.{FileReport, nowhere, report_of, status_of}
+use Rattle.verdict_book.specs.Report.{FileReport, PlainShown, nowhere, report_of, status_of}
 use Rattle.verdict_book.specs.declared.outcome.Outcome.{Outcome}
 use Rattle.verdict_book.specs.declared.outcome.Outcome.TheVariants.{Accepted, Stopped, Unread, Unopened}
 use Rattle.verdict_book.specs.declared.title.Title.{Title}
@@ -59,15 +59,15 @@ module _ (limits : Limits) (q : CheckRequest) (old new : ShelfState) (before aft
   pub no_memory_row : Writes before after memory_at_once 4 result → Row
   no_memory_row w = record { cause = memory; status = 4; text = memory_at_once; row = check.of_no_memory; shows = refl; writes = w }
 
-  module _ (names : List (List ℕ)) where
+  module _ (lines : List PlainShown) where
     abbrev reported : Outcome → FileReport
-    reported o = record { names = names; outcome = o }
+    reported o = record { lines = lines; outcome = o }
 
     abbrev pub Written : Outcome → Type 0
-    Written o = Writes before after (text_with q names o) (status_of o) result
+    Written o = Writes before after (text_with q lines o) (status_of o) result
 
     abbrev pub Ends : Outcome → Type 0
-    Ends o = (held : Books) → old.books ≡ Some held → EndsOn (asked_setting limits q held) q.budget old new names o
+    Ends o = (held : Books) → old.books ≡ Some held → EndsOn (asked_setting limits q held) q.budget old new lines o
 
     -- the report is also that of the fold
     folded : (s : Setting) (lib : Library) (o : Outcome) → counts.report_in s q.budget lib ≡ reported o → check.IsReport q (reported o) s lib
@@ -114,18 +114,18 @@ module _ (limits : Limits) (q : CheckRequest) (old new : ShelfState) (before aft
     -- ---- memory
 
     abbrev Cut : ℕ → Place → Setting → Type 0
-    Cut number place s = check.IsCutByMemory q s (MemoryDue s) (whole_library s) names number place
-        × (HasHeld old new ⊎ ((failure : Failure) × Counted (book_named q.file) old new failure × check.IsOfGiven new failure s (λ lib. check.IsCutByMemory q s (IsDueAt (walk_in s lib)) lib names number place)))
+    Cut number place s = check.IsCutByMemory q s (MemoryDue s) (whole_library s) lines number place
+        × (HasHeld old new ⊎ ((failure : Failure) × Counted (book_named q.file) old new failure × check.IsOfGiven new failure s (λ lib. check.IsCutByMemory q s (IsDueAt (walk_in s lib)) lib lines number place)))
 
     cut_row : (number : ℕ) (place : Place) → IsOfBooks limits q old.books (Cut number place) → Written (Stopped number place verdict.Memory) → Row
     cut_row number place of w =
-        record { cause = memory; status = 4; text = text_with q names (Stopped number place verdict.Memory); row = check.of_memory names number place of; shows = refl; writes = w }
+        record { cause = memory; status = 4; text = text_with q lines (Stopped number place verdict.Memory); row = check.of_memory lines number place of; shows = refl; writes = w }
 
-    cut_folded : (s : Setting) (may_be : ℕ → Spot → Type 0) (lib : Library) (number : ℕ) (place : Place) → counts.IsCutByMemory s q.budget may_be lib names number place
-        → check.IsCutByMemory q s may_be lib names number place
+    cut_folded : (s : Setting) (may_be : ℕ → Spot → Type 0) (lib : Library) (number : ℕ) (place : Place) → counts.IsCutByMemory s q.budget may_be lib lines number place
+        → check.IsCutByMemory q s may_be lib lines number place
     cut_folded s may_be lib number place cut = record {
-      within = subst (λ (r : FileReport). length names ≤ length r.names) (sym (fold_is s q.budget lib)) cut.within;
-      names_are = subst (λ (r : FileReport). names ≡ take (length names) r.names) (sym (fold_is s q.budget lib)) cut.names_are;
+      within = subst (λ (r : FileReport). length lines ≤ length r.lines) (sym (fold_is s q.budget lib)) cut.within;
+      lines_are = subst (λ (r : FileReport). lines ≡ take (length lines) r.lines) (sym (fold_is s q.budget lib)) cut.lines_are;
       number_is = cut.number_is;
       spot = cut.spot;
       place_is = cut.place_is;
@@ -133,26 +133,26 @@ module _ (limits : Limits) (q : CheckRequest) (old new : ShelfState) (before aft
     }
 
     -- `memory 0 line 0` stands for no cut at a command
-    of_cut : (s : Setting) (may_be : ℕ → Spot → Type 0) (lib : Library) (number : ℕ) (place : Place) → number ≡ length names + 1 → EndsInMemory s q.budget may_be lib names number place
-        → check.IsCutByMemory q s may_be lib names number place
+    of_cut : (s : Setting) (may_be : ℕ → Spot → Type 0) (lib : Library) (number : ℕ) (place : Place) → number ≡ length lines + 1 → EndsInMemory s q.budget may_be lib lines number place
+        → check.IsCutByMemory q s may_be lib lines number place
     of_cut s may_be lib number place is (inl none) = let zero : number ≡ 0 = none.1 in absurd (omega (arith, is, zero))
     of_cut s may_be lib number place is (inr cut) = cut_folded s may_be lib number place cut
 
-    given_cut : (s : Setting) (number : ℕ) (place : Place) → number ≡ length names + 1 → HasHeld old new ⊎ ((failure : Failure) × EndsGiven s q.budget old new names (Stopped number place verdict.Memory) failure)
-        → HasHeld old new ⊎ ((failure : Failure) × Counted s.named old new failure × check.IsOfGiven new failure s (λ lib. check.IsCutByMemory q s (IsDueAt (walk_in s lib)) lib names number place))
+    given_cut : (s : Setting) (number : ℕ) (place : Place) → number ≡ length lines + 1 → HasHeld old new ⊎ ((failure : Failure) × EndsGiven s q.budget old new lines (Stopped number place verdict.Memory) failure)
+        → HasHeld old new ⊎ ((failure : Failure) × Counted s.named old new failure × check.IsOfGiven new failure s (λ lib. check.IsCutByMemory q s (IsDueAt (walk_in s lib)) lib lines number place))
     given_cut s number place is (inl held) = inl held
     given_cut s number place is (inr (failure, g)) = inr (failure, g.counted, (g.given, g.left, of_cut s _ _ number place is g.reports))
 
     -- of one setting
-    cut_in : (s : Setting) (number : ℕ) (place : Place) → EndsInMemory s q.budget (MemoryDue s) (whole_library s) names number place
-        → HasHeld old new ⊎ ((failure : Failure) × EndsGiven s q.budget old new names (Stopped number place verdict.Memory) failure)
-        → ((names ≡ []) × (number ≡ 0) × (place ≡ nowhere)) ⊎ (check.IsCutByMemory q s (MemoryDue s) (whole_library s) names number place
-        × (HasHeld old new ⊎ ((failure : Failure) × Counted s.named old new failure × check.IsOfGiven new failure s (λ lib. check.IsCutByMemory q s (IsDueAt (walk_in s lib)) lib names number place))))
+    cut_in : (s : Setting) (number : ℕ) (place : Place) → EndsInMemory s q.budget (MemoryDue s) (whole_library s) lines number place
+        → HasHeld old new ⊎ ((failure : Failure) × EndsGiven s q.budget old new lines (Stopped number place verdict.Memory) failure)
+        → ((lines ≡ []) × (number ≡ 0) × (place ≡ nowhere)) ⊎ (check.IsCutByMemory q s (MemoryDue s) (whole_library s) lines number place
+        × (HasHeld old new ⊎ ((failure : Failure) × Counted s.named old new failure × check.IsOfGiven new failure s (λ lib. check.IsCutByMemory q s (IsDueAt (walk_in s lib)) lib lines number place))))
     cut_in s number place (inl none) how = inl none
     cut_in s number place (inr cut) how = inr (cut_folded s _ _ number place cut, given_cut s number place cut.number_is how)
 
     -- memory ended before anything was begun
-    none_row : (number : ℕ) (place : Place) → (names ≡ []) × (number ≡ 0) × (place ≡ nowhere) → Written (Stopped number place verdict.Memory) → Row
+    none_row : (number : ℕ) (place : Place) → (lines ≡ []) × (number ≡ 0) × (place ≡ nowhere) → Written (Stopped number place verdict.Memory) → Row
     none_row number place m w = no_memory_row (subst (λ t. Writes before after t 4 result) (ap (λ ns. report_of ns (Stopped number place verdict.Memory) q.budget q.quiet (folder_of q.file)) m.0
         ∙ ap (λ k. report_of [] (Stopped k place verdict.Memory) q.budget q.quiet (folder_of q.file)) m.1
         ∙ ap (λ p. report_of [] (Stopped 0 p verdict.Memory) q.budget q.quiet (folder_of q.file)) m.2 ∙ at_once q.quiet (folder_of q.file)) w)
@@ -169,9 +169,9 @@ module _ (limits : Limits) (q : CheckRequest) (old new : ShelfState) (before aft
 
     -- a command stopped the theory, and nothing else is known of its verdict than the report
     stops : (number : ℕ) (place : Place) (v : Verdict) (held : Books) → counts.report_in (asked held) q.budget (whole_library (asked held)) ≡ reported (Stopped number place v)
-        → ((failure : Failure) (given : List Given) → counts.Reports (asked held) q.budget (given_till (asked held) given failure) names (Stopped number place v)
+        → ((failure : Failure) (given : List Given) → counts.Reports (asked held) q.budget (given_till (asked held) given failure) lines (Stopped number place v)
         → counts.report_in (asked held) q.budget (given_till (asked held) given failure) ≡ reported (Stopped number place v))
-        → HasHeld old new ⊎ ((failure : Failure) × EndsGiven (asked held) q.budget old new names (Stopped number place v) failure) → Stops number place v (asked held)
+        → HasHeld old new ⊎ ((failure : Failure) × EndsGiven (asked held) q.budget old new lines (Stopped number place v) failure) → Stops number place v (asked held)
     stops number place v held own reports (inl stands) = (folded (asked held) (whole_library (asked held)) (Stopped number place v) own, inl stands)
     stops number place v held own reports (inr (failure, g)) = (
       folded (asked held) (whole_library (asked held)) (Stopped number place v) own,
@@ -221,8 +221,8 @@ module _ (limits : Limits) (q : CheckRequest) (most : ModuleLimits) (root : Root
   pub checked_row : (titles : List Title) (events : List Event) → (checks : ChecksShelf root q.budget old new titles events)
       → Writes before after (text_of q checks.report) (status_of checks.report.outcome) result → RunsCommand limits (to_check q) old new before after result
   checked_row titles events checks w =
-      book_row limits q old new before after result checks.report.names checks.report.outcome
-      (λ held told. subst (λ s. EndsOn s q.budget old new checks.report.names checks.report.outcome) (root_asked limits q most root held is standard) (checks.ends held told))
+      book_row limits q old new before after result checks.report.lines checks.report.outcome
+      (λ held told. subst (λ s. EndsOn s q.budget old new checks.report.lines checks.report.outcome) (root_asked limits q most root held is standard) (checks.ends held told))
       (subst (λ file. CountsAt (book_named file) old new checks.report.outcome) is.file_is checks.counts) w
 
   pub unopened_row : LeavesUnread (string_bytes root.file) old new → Writes before after (line.unopened q.file) 3 result → RunsCommand limits (to_check q) old new before after result

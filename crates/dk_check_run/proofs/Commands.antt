@@ -52,7 +52,7 @@ module _ (limits : Limits) (q : CheckRequest) (held : Books) (old new : ShelfSta
   check_own cause status text (check.of_a_failed_read r number place unread_is of) shows not3 not4 = absurd (not3 shows.0)
   check_own cause status text (check.of_a_failed_opening leaves) shows not3 not4 = absurd (not3 refl)
   check_own cause status text (check.of_a_missing_module r name missing_is of) shows not3 not4 = absurd (not3 shows.0)
-  check_own cause status text (check.of_memory names number place of) shows not3 not4 = absurd (not4 refl)
+  check_own cause status text (check.of_memory lines number place of) shows not3 not4 = absurd (not4 refl)
   check_own cause status text check.of_no_memory shows not3 not4 = absurd (not4 refl)
 
   -- a module whose failed opening is told was due
@@ -72,23 +72,23 @@ module _ (limits : Limits) (q : CheckRequest) (held : Books) (old new : ShelfSta
   failed_due cause status text (check.of_a_failed_read r number place unread_is of) shows three = inl shows.1
   failed_due cause status text (check.of_a_failed_opening leaves) shows three = inr (None, refl, shows.1)
   failed_due cause status text (check.of_a_missing_module r name missing_is of) shows three = inr (Some name, missing_due r name missing_is of, shows.1)
-  failed_due cause status text (check.of_memory names number place of) shows three = absurd (omega (arith, three))
+  failed_due cause status text (check.of_memory lines number place of) shows three = absurd (omega (arith, three))
   failed_due cause status text check.of_no_memory shows three = absurd (omega (arith, three))
 
 -- a row of `check` with status 3
 module _ (limits : Limits) (q : CheckRequest) (old new : ShelfState) (before after : SinkState) where
   -- the outcome of a report, in its text
-  texts : (r : FileReport) (o : Outcome) → r.outcome ≡ o → after.taken ≡ added before.taken (text_of q r) → after.taken ≡ added before.taken (text_with q r.names o)
-  texts r o is taken = taken ∙ ap (λ x. added before.taken (text_with q r.names x)) is
+  texts : (r : FileReport) (o : Outcome) → r.outcome ≡ o → after.taken ≡ added before.taken (text_of q r) → after.taken ≡ added before.taken (text_with q r.lines o)
+  texts r o is taken = taken ∙ ap (λ x. added before.taken (text_with q r.lines x)) is
 
   check_failed : (cause : Cause) (status : ℕ) (text : List ℕ) → check.IsDue limits q old new cause status text → Shows cause status old new → status ≡ 3 → after.taken ≡ added before.taken text
       → HasShelfFault q old new before.taken after.taken
   check_failed cause status text (check.of_the_books r of) shows three taken = decided_not3 shows.0 three
   check_failed cause status text (check.of_the_given r number place v failure outcome_is counted of) shows three taken = stopped_not3 shows.0 three
-  check_failed cause status text (check.of_a_failed_read r number place unread_is of) shows three taken = of_a_read r.names number place shows.1 (texts r (Unread number place) unread_is taken)
+  check_failed cause status text (check.of_a_failed_read r number place unread_is of) shows three taken = of_a_read r.lines number place shows.1 (texts r (Unread number place) unread_is taken)
   check_failed cause status text (check.of_a_failed_opening leaves) shows three taken = of_the_file leaves shows.1 taken
-  check_failed cause status text (check.of_a_missing_module r name missing_is of) shows three taken = of_a_module name r.names shows.1 (texts r (Unopened name) missing_is taken)
-  check_failed cause status text (check.of_memory names number place of) shows three taken = absurd (omega (arith, three))
+  check_failed cause status text (check.of_a_missing_module r name missing_is of) shows three taken = of_a_module name r.lines shows.1 (texts r (Unopened name) missing_is taken)
+  check_failed cause status text (check.of_memory lines number place of) shows three taken = absurd (omega (arith, three))
   check_failed cause status text check.of_no_memory shows three taken = absurd (omega (arith, three))
 
 -- ---- `make`

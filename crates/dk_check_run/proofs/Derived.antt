@@ -15,11 +15,11 @@ use Rattle.typing_model.proofs.Commands.{accepted_derives}
 use Rattle.typing_model.proofs.Formed.{command_entry, formed_more, formed_numbered, formed_plain, none_formed}
 use Rattle.typing_model.proofs.Rules.{units_reduce}
 use Rattle.typing_model.specs.Derivations.{HasDerivation}
-use Rattle.verdict_book.specs.Report.{FileReport, status_of}
+use Rattle.verdict_book.specs.Report.{FileReport, PlainShown, status_of}
 use Rattle.theory_walk.specs.Walks.{Placed, Reached}
 use Rattle.file_report.specs.Outcomes.{Theory, no_theory, scoped_entry, scoped_verdict}
 use Rattle.file_report.specs.TheoryReports.{by_verdict, report_from}
-use Rattle.file_report.specs.Theories.{scoped_at, theory_with, verdict_on}
+use Rattle.file_report.specs.Theories.{checking, scoped_at, shown_on, theory_with, verdict_on}
 use Rattle.book_reader.specs.Shelved.{Setting, walk_in, whole_library}
 use Rattle.dk_check_run.specs.Books.{report_in}
 use Rattle.dk_check_run.specs.Derivations.{AllDerived, AreBooksDerived, IsDerived, entered}
@@ -40,21 +40,21 @@ accepted_after : (b : Bool) (v : Verdict) → (if b then verdict.Refused E08 els
 accepted_after true v e = cc
 accepted_after false v e = e
 
-accepted_first : (v : Verdict) (n : ℕ) (c : Placed) (rest : FileReport) → status_of (by_verdict v n c rest).outcome ≡ 0 → (v ≡ verdict.Accepted) × (status_of rest.outcome ≡ 0)
-accepted_first verdict.Accepted n c rest e = (refl, e)
-accepted_first (verdict.Refused code) n c rest e = absurd (omega (arith, e))
-accepted_first verdict.Ended n c rest e = absurd (omega (arith, e))
-accepted_first verdict.Memory n c rest e = absurd (omega (arith, e))
+accepted_first : (v : Verdict) (n : ℕ) (c : Placed) (shown : PlainShown) (rest : FileReport) → status_of (by_verdict v n c shown rest).outcome ≡ 0 → (v ≡ verdict.Accepted) × (status_of rest.outcome ≡ 0)
+accepted_first verdict.Accepted n c shown rest e = (refl, e)
+accepted_first (verdict.Refused code) n c shown rest e = absurd (omega (arith, e))
+accepted_first verdict.Ended n c shown rest e = absurd (omega (arith, e))
+accepted_first verdict.Memory n c shown rest e = absurd (omega (arith, e))
 
 module _ (s : Setting) (budget : ℕ) where
-  all_derived : (T : Theory) (n : ℕ) (cs : List Placed) (r : Reached) → IsSignature T.signature → status_of (report_from (verdict_on s.limits budget s.own) (theory_with s.limits budget s.own) T n cs r).outcome ≡ 0
+  all_derived : (T : Theory) (n : ℕ) (cs : List Placed) (r : Reached) → IsSignature T.signature → status_of (report_from (checking s.limits budget s.own) T n cs r).outcome ≡ 0
       → AllDerived s.own T (entered s budget T cs)
   all_derived T n [] r formed e = tt
   all_derived T n (c ∷ cs) r formed e =
       let next = theory_with s.limits budget s.own T c in
-      let rest = report_from (verdict_on s.limits budget s.own) (theory_with s.limits budget s.own) next (n + 1) cs r in
+      let rest = report_from (checking s.limits budget s.own) next (n + 1) cs r in
       let command = scoped_at s.limits budget s.own T c in
-      let first = accepted_first (verdict_on s.limits budget s.own T n c) n c rest e in (
+      let first = accepted_first (verdict_on s.limits budget s.own T n c) n c (shown_on s.limits budget s.own T c) rest e in (
         scoped_derives T.signature budget T command refl formed (accepted_after (nat_le s.limits.commands n) (scoped_verdict T.signature budget command) first.0),
         all_derived next (n + 1) cs r (formed_after T.signature budget command formed) first.1,
       )

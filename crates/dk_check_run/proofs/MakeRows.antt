@@ -11,7 +11,7 @@ use Rattle.command_line.specs.Requests.{MakeRequest, to_make}
 use Rattle.board_core.specs.declared.event.Event.{Event}
 use Rattle.board_core.specs.declared.event.Place.{Place}
 use Rattle.board_core.specs.Places.{in_file}
-use Rattle.verdict_book.specs.Report.{FileReport, status_of}
+use Rattle.verdict_book.specs.Report.{FileReport, PlainShown, status_of}
 use Rattle.verdict_book.specs.declared.outcome.Outcome.{Outcome}
 use Rattle.verdict_book.specs.declared.outcome.Outcome.TheVariants.{Accepted, Stopped, Unread, Unopened}
 use Rattle.verdict_book.specs.declared.title.Title.{Title}
@@ -20,7 +20,7 @@ use Rattle.theory_walk.specs.Libraries.{Key}
 use Rattle.theory_walk.specs.Walks.{Spot}
 use Rattle.file_report.specs.Outcomes.{no_theory}
 use Rattle.file_report.specs.Reports.{place_of}
-use Rattle.file_report.specs.Theories.{theory_with, verdict_on}
+use Rattle.file_report.specs.Theories.{checking}
 use Rattle.book_reader.specs.declared.walker.Root.{Root}
 use Rattle.book_reader.specs.Shelved.{MemoryDue, Setting, walk_in, whole_library, without}
 use Rattle.book_reader.specs.Shelves.{ShelfState}
@@ -54,11 +54,11 @@ module _ (limits : Limits) (q : MakeRequest) (shelf : ShelfState) (before after 
   s = made_setting limits q
 
   -- the theory needs no module
-  needs_none : (names : List (List ℕ)) (m : List ℕ) → counts.Reports s q.budget (without (Some m) (whole_library s)) names (Unopened m) → ⊥
-  needs_none names m is =
+  needs_none : (lines : List PlainShown) (m : List ℕ) → counts.Reports s q.budget (without (Some m) (whole_library s)) lines (Unopened m) → ⊥
+  needs_none lines m is =
       let lib = without (Some m) (whole_library s) in
       let w = walk_in s lib in
-      none_missing (verdict_on limits q.budget s.own) (theory_with limits q.budget s.own) no_theory 0 w.commands w.reached m
+      none_missing (checking limits q.budget s.own) no_theory 0 w.commands w.reached m
       (alone s.own lib (book_reading limits (theory_of q.count) whole)) (ap (λ (r : FileReport). r.outcome) is)
 
   at_line : (spot : Spot) → spot.book ≡ None → spot ≡ record { book = None; line = spot.line }
@@ -68,9 +68,9 @@ module _ (limits : Limits) (q : MakeRequest) (shelf : ShelfState) (before after 
   due_in_file : (count : ℕ) (spot : Spot) → MemoryDue s count spot → spot.book ≡ None
   due_in_file count spot due = due_here s.own due.0 (due.0 None) count spot due.2
 
-  module _ (names : List (List ℕ)) where
+  module _ (lines : List PlainShown) where
     abbrev reported : Outcome → FileReport
-    reported o = record { names = names; outcome = o }
+    reported o = record { lines = lines; outcome = o }
 
     own_row : (o : Outcome) → counts.report_in s q.budget (whole_library s) ≡ reported o → IsDecided (status_of o) → Writes before after (summary q o) (status_of o) result → Row
     own_row o is decided w = record {
@@ -82,18 +82,18 @@ module _ (limits : Limits) (q : MakeRequest) (shelf : ShelfState) (before after 
       writes = w;
     }
 
-    cut_due : (number : ℕ) (place : Place) → IsCutByMemory s q.budget (MemoryDue s) (whole_library s) names number place → make.IsDue limits q memory 4 (summary q (Stopped number place verdict.Memory))
+    cut_due : (number : ℕ) (place : Place) → IsCutByMemory s q.budget (MemoryDue s) (whole_library s) lines number place → make.IsDue limits q memory 4 (summary q (Stopped number place verdict.Memory))
     cut_due number place cut =
-        let here = due_in_file (length names) cut.spot cut.memory in
+        let here = due_in_file (length lines) cut.spot cut.memory in
         let at = at_line cut.spot here in
         let placed : place ≡ in_file cut.spot.line = cut.place_is ∙ ap place_of at in
         subst (λ (p : Place). make.IsDue limits q memory 4 (summary q (Stopped number p verdict.Memory))) (sym placed)
         (subst (λ n. make.IsDue limits q memory 4 (summary q (Stopped n (in_file cut.spot.line) verdict.Memory))) (sym cut.number_is)
-        (make.of_memory (length names) cut.spot.line
-        (subst (λ (r : FileReport). length names ≤ length r.names) (sym (fold_is s q.budget (whole_library s))) cut.within)
-        (subst (MemoryDue s (length names)) at cut.memory)))
+        (make.of_memory (length lines) cut.spot.line
+        (subst (λ (r : FileReport). length lines ≤ length r.lines) (sym (fold_is s q.budget (whole_library s))) cut.within)
+        (subst (MemoryDue s (length lines)) at cut.memory)))
 
-    cut_row : (number : ℕ) (place : Place) (early : Bool) → (number == 0) ≡ early → EndsInMemory s q.budget (MemoryDue s) (whole_library s) names number place
+    cut_row : (number : ℕ) (place : Place) (early : Bool) → (number == 0) ≡ early → EndsInMemory s q.budget (MemoryDue s) (whole_library s) lines number place
         → Writes before after (if early then memory_at_once else summary q (Stopped number place verdict.Memory)) 4 result → Row
     cut_row number place true is ends w = no_memory_row w
     cut_row number place false is (inl none) w = let e : (0 == 0) ≡ false = ap (λ n. n == 0) (sym none.1) ∙ is in absurd (never e)
@@ -104,11 +104,11 @@ module _ (limits : Limits) (q : MakeRequest) (shelf : ShelfState) (before after 
         record { cause = memory; status = 4; text = summary q (Stopped number place verdict.Memory); row = (refl, cut_due number place cut); shows = refl; writes = w }
 
     -- the text was read to its end
-    theory_row : (old new : ShelfState) (o : Outcome) → old.faults ≡ 0 → new.faults ≡ 0 → EndsOn s q.budget old new names o
+    theory_row : (old new : ShelfState) (o : Outcome) → old.faults ≡ 0 → new.faults ≡ 0 → EndsOn s q.budget old new lines o
         → Writes before after (text_by (made_line q.count (length (theory_of q.count))) q.budget o) (status_of o) result → Row
     theory_row old new (Accepted n) a b ends w = own_row (Accepted n) ends.0 (inl refl) w
     theory_row old new (Unread n place) a b ends w = absurd (not_rose old.faults new.faults a b ends.counted)
-    theory_row old new (Unopened m) a b ends w = absurd (needs_none names m ends.1)
+    theory_row old new (Unopened m) a b ends w = absurd (needs_none lines m ends.1)
     theory_row old new (Stopped n place verdict.Accepted) a b ends w = own_row (Stopped n place verdict.Accepted) ends.0 (inl refl) w
     theory_row old new (Stopped n place (verdict.Refused code)) a b ends w = own_row (Stopped n place (verdict.Refused code)) ends.0 (inr (inl refl)) w
     theory_row old new (Stopped n place verdict.Ended) a b ends w = own_row (Stopped n place verdict.Ended) ends.0 (inr (inr refl)) w
@@ -120,5 +120,5 @@ module _ (limits : Limits) (q : MakeRequest) (shelf : ShelfState) (before after 
       → Writes before after (text_by (made_line q.count (length (theory_of q.count))) q.budget checks.report.outcome) (status_of checks.report.outcome) result → Row
   made_row root is old new titles events checks told a b w =
       let held : Books = ([], theory_of q.count) ∷ [] in
-      theory_row checks.report.names old new checks.report.outcome a b
-      (subst (λ s. EndsOn s q.budget old new checks.report.names checks.report.outcome) (root_setting limits no_modules [] root held is) (checks.ends held told)) w
+      theory_row checks.report.lines old new checks.report.outcome a b
+      (subst (λ s. EndsOn s q.budget old new checks.report.lines checks.report.outcome) (root_setting limits no_modules [] root held is) (checks.ends held told)) w

@@ -8,7 +8,7 @@ use Rattle.theory_walk.specs.declared.needs.ModuleLimits.{ModuleLimits}
 use Rattle.theory_walk.specs.BookNames.{book_named, own_module}
 use Rattle.theory_walk.specs.Libraries.{Library}
 use Rattle.file_report.specs.Outcomes.{no_theory}
-use Rattle.file_report.specs.Theories.{theory_with, verdict_on}
+use Rattle.file_report.specs.Theories.{checking}
 use Rattle.file_report.proofs.Folding.{fold_is_report}
 use Rattle.book_reader.specs.declared.walker.Root.{Root}
 use Rattle.book_reader.specs.Shelved.{Setting}
@@ -33,4 +33,4 @@ root_asked limits q most root books is standard = root_setting limits most q.fil
 
 -- the fold of a library's books is the report of their commands
 pub fold_is : (s : Setting) (budget : ℕ) (lib : Library) → report_in s budget lib ≡ check.report_in s budget lib
-fold_is s budget lib = fold_is_report (verdict_on s.limits budget s.own) (theory_with s.limits budget s.own) s.most s.own lib no_theory
+fold_is s budget lib = fold_is_report (checking s.limits budget s.own) s.most s.own lib no_theory

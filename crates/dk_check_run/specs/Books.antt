@@ -10,7 +10,7 @@ use Rattle.theory_walk.specs.BookNames.{book_named, own_module}
 use Rattle.theory_walk.specs.Libraries.{Library}
 use Rattle.file_report.specs.Folds.{fold_of}
 use Rattle.file_report.specs.Outcomes.{no_theory}
-use Rattle.file_report.specs.Theories.{theory_with, verdict_on}
+use Rattle.file_report.specs.Theories.{checking}
 use Rattle.book_reader.specs.Shelved.{Setting, whole_library}
 
 -- so many files may be open, and so many modules opened besides the file
@@ -35,7 +35,7 @@ made_setting limits q = setting_for limits no_modules [] (([], theory_of q.count
 
 -- the report of the books that a library has: their fold, each command with this budget
 abbrev pub report_in : Setting → ℕ → Library → FileReport
-report_in s budget lib = fold_of (verdict_on s.limits budget s.own) (theory_with s.limits budget s.own) s.most s.own lib no_theory
+report_in s budget lib = fold_of (checking s.limits budget s.own) s.most s.own lib no_theory
 
 -- the report of the file that is asked for and of all that it needs, each book read to its end
 abbrev pub report_for : Limits → CheckRequest → Books → FileReport

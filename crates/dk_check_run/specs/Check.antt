@@ -5,7 +5,7 @@ use Rattle.dk_model.specs.declared.code.Verdict.{Verdict}
 use Rattle.dk_model.specs.declared.code.Verdict.TheVariants as verdict
 use Rattle.command_line.specs.Requests.{CheckRequest}
 use Rattle.board_core.specs.declared.event.Place.{Place}
-use Rattle.verdict_book.specs.Report.{FileReport, status_of}
+use Rattle.verdict_book.specs.Report.{FileReport, PlainShown, status_of}
 use Rattle.verdict_book.specs.declared.outcome.Outcome.TheVariants.{Stopped, Unopened, Unread}
 use Rattle.theory_walk.specs.BookNames.{book_named}
 use Rattle.theory_walk.specs.Libraries.{Library}
@@ -27,14 +27,14 @@ IsReport q r s lib = report_in s q.budget lib ≡ r
 abbrev pub IsOfGiven : ShelfState → Failure → Setting → (Library → Type 0) → Type 0
 IsOfGiven new failure s P = (given : List Given) × AreLeft s given (new.left ∷ new.aside) × P (given_till s given failure)
 
--- the first `ok` lines of a library's own report, and that memory ended at the next command, at a place that may be due there
-pub record IsCutByMemory (q : CheckRequest) (s : Setting) (may_be : ℕ → Spot → Type 0) (lib : Library) (names : List (List ℕ)) (number : ℕ) (place : Place) : Type 0 where
-  pub within : length names ≤ length (report_in s q.budget lib).names
-  pub names_are : names ≡ take (length names) (report_in s q.budget lib).names
-  pub number_is : number ≡ length names + 1
+-- the first lines of a library's own report, and that memory ended at the next command, at a place that may be due there
+pub record IsCutByMemory (q : CheckRequest) (s : Setting) (may_be : ℕ → Spot → Type 0) (lib : Library) (lines : List PlainShown) (number : ℕ) (place : Place) : Type 0 where
+  pub within : length lines ≤ length (report_in s q.budget lib).lines
+  pub lines_are : lines ≡ take (length lines) (report_in s q.budget lib).lines
+  pub number_is : number ≡ length lines + 1
   pub spot : Spot
   pub place_is : place ≡ place_of spot
-  pub due : may_be (length names) spot
+  pub due : may_be (length lines) spot
 
 pub data IsDue (limits : Limits) (q : CheckRequest) (old new : ShelfState) : Cause → ℕ → List ℕ → Type 0 where
   -- the report of the whole books
@@ -55,10 +55,10 @@ pub data IsDue (limits : Limits) (q : CheckRequest) (old new : ShelfState) : Cau
   of_a_missing_module : (r : FileReport) → (name : List ℕ) → r.outcome ≡ Unopened name
       → IsOfBooks limits q old.books (λ s. IsReport q r s (without (Some name) (whole_library s)) × IsOfGiven new (of_opening name) s (IsReport q r s))
       → IsDue limits q old new (unopened (book_named q.file (Some name))) (status_of r.outcome) (text_of q r)
-  -- memory ended at a command; where a call failed, at one whose `ok` lines and place what was given before tells
-  of_memory : (names : List (List ℕ)) → (number : ℕ) → (place : Place)
-      → IsOfBooks limits q old.books (λ s. IsCutByMemory q s (MemoryDue s) (whole_library s) names number place
+  -- memory ended at a command; where a call failed, at one whose lines and place what was given before tells
+  of_memory : (lines : List PlainShown) → (number : ℕ) → (place : Place)
+      → IsOfBooks limits q old.books (λ s. IsCutByMemory q s (MemoryDue s) (whole_library s) lines number place
       × (HasHeld old new ⊎ ((failure : Failure) × Counted (book_named q.file) old new failure
-      × IsOfGiven new failure s (λ lib. IsCutByMemory q s (IsDueAt (walk_in s lib)) lib names number place))))
-      → IsDue limits q old new memory 4 (text_with q names (Stopped number place verdict.Memory))
+      × IsOfGiven new failure s (λ lib. IsCutByMemory q s (IsDueAt (walk_in s lib)) lib lines number place))))
+      → IsDue limits q old new memory 4 (text_with q lines (Stopped number place verdict.Memory))
   of_no_memory : IsDue limits q old new memory 4 memory_at_once

@@ -7,7 +7,7 @@ use Rattle.dk_model.specs.declared.limits.Limits.{Limits}
 use Rattle.dk_model.specs.declared.code.Verdict.TheVariants as verdict
 use Rattle.command_line.specs.Requests.{CheckRequest, MakeRequest, Request, to_check, to_make}
 use Rattle.board_core.specs.declared.event.Place.{Place}
-use Rattle.verdict_book.specs.Report.{FileReport, concat, last_line, nowhere, report_of, status_of}
+use Rattle.verdict_book.specs.Report.{FileReport, PlainShown, concat, last_line, nowhere, report_of, status_of}
 use Rattle.verdict_book.specs.declared.outcome.Outcome.{Outcome}
 use Rattle.verdict_book.specs.declared.outcome.Outcome.TheVariants.{Stopped, Unopened, Unread}
 use Rattle.dk_make.specs.Theory.{theory_of}
@@ -20,13 +20,13 @@ use Rattle.dk_check_run.specs.Books.{asked_setting, report_for, report_in, repor
 
 -- ---- texts
 
--- the text of `ok` lines, unless quiet, and of a last line
-abbrev pub text_with : CheckRequest → List (List ℕ) → Outcome → List ℕ
-text_with q names outcome = report_of names outcome q.budget q.quiet (folder_of q.file)
+-- the text of the lines of accepted commands, fewer where it is quiet, and of a last line
+abbrev pub text_with : CheckRequest → List PlainShown → Outcome → List ℕ
+text_with q lines outcome = report_of lines outcome q.budget q.quiet (folder_of q.file)
 
 -- the text of a report
 abbrev pub text_of : CheckRequest → FileReport → List ℕ
-text_of q r = text_with q r.names r.outcome
+text_of q r = text_with q r.lines r.outcome
 
 -- the file couldn't be opened
 abbrev pub unopened : List ℕ → List ℕ
@@ -101,11 +101,11 @@ abbrev pub IsBookDue : Limits → CheckRequest → Books → Key → Type 0
 IsBookDue limits q books book =
     (report_in (asked_setting limits q books) q.budget (without book (whole_library (asked_setting limits q books)))).outcome ≡ Unopened (module_shown book)
 
--- a call of the shelf failed, and the text that was written says which: the opening of the file; that of a module, behind the `ok` lines
+-- a call of the shelf failed, and the text that was written says which: the opening of the file; that of a module, behind the lines
 -- of what it was needed for; or a read
 pub data HasShelfFault (q : CheckRequest) (old new : ShelfState) (before after : Option (List ℕ)) : Type 0 where
   of_the_file : LeavesBooks old new → Rose (old.missed q.file) (new.missed q.file) → after ≡ added before (unopened q.file) → HasShelfFault q old new before after
-  of_a_module : (name : List ℕ) → (names : List (List ℕ)) → Rose (old.missed (book_named q.file (Some name))) (new.missed (book_named q.file (Some name)))
-      → after ≡ added before (text_with q names (Unopened name)) → HasShelfFault q old new before after
-  of_a_read : (names : List (List ℕ)) → (number : ℕ) → (place : Place) → Rose old.faults new.faults
-      → after ≡ added before (text_with q names (Unread number place)) → HasShelfFault q old new before after
+  of_a_module : (name : List ℕ) → (lines : List PlainShown) → Rose (old.missed (book_named q.file (Some name))) (new.missed (book_named q.file (Some name)))
+      → after ≡ added before (text_with q lines (Unopened name)) → HasShelfFault q old new before after
+  of_a_read : (lines : List PlainShown) → (number : ℕ) → (place : Place) → Rose old.faults new.faults
+      → after ≡ added before (text_with q lines (Unread number place)) → HasShelfFault q old new before after

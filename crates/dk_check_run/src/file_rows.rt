@@ -26,7 +26,7 @@ pub(crate) const FILES: [(&str, u8, &str); 57] = [
     ("a : Type. a.b : Type.", 1, "ok 1 a\nrefused 2 line 1 E02\n"),
     ("a $ b.", 1, "refused 1 line 1 E01\n"),
     (".", 1, "refused 1 line 1 E02\n"),
-    ("#INFER m.", 1, "refused 1 line 1 E06\n"),
+    ("#PRINT m.", 1, "refused 1 line 1 E06\n"),
     ("x : _.", 1, "refused 1 line 1 E12\n"),
     ("x : m.a.", 3, "unopened m.dk\n"),
     (

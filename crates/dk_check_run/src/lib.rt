@@ -23,6 +23,8 @@ mod module_rows;
 #[cfg(test)]
 mod module_tests;
 #[cfg(test)]
+mod query_rows;
+#[cfg(test)]
 mod rule_rows;
 #[cfg(test)]
 mod tests;

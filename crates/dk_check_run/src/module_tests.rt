@@ -1,5 +1,6 @@
 //! Theories of several files: their reports, each failing call of the shelf, and the limits of modules.
 use crate::module_rows::{Books, MODULES};
+use crate::query_rows::QUERY_BOOKS;
 use crate::tests::{EMPTY, Row, book, is_answered, is_limited, sink_of, words_of};
 use crate::{NoGate, run};
 use dk_io::{Book, MemShelf, NoMemory};
@@ -13,8 +14,9 @@ use std::thread::Threads;
 fn first_theory<R: Threads + Wait + Sync>(
     rt: &R,
     alloc: Global,
+    rows: &[(Books, &'static str, u8, &'static str)],
 ) -> Result<Option<&'static str>, NoMemory> {
-    for (books, words, status, report) in &MODULES {
+    for (books, words, status, report) in rows {
         let row = Row {
             words: *words,
             books: *books,
@@ -31,7 +33,9 @@ fn first_theory<R: Threads + Wait + Sync>(
 
 #[test]
 fn reports_each_theory(rt: HostRuntime) -> Result<(), Fail> {
-    assert_eq!(rt; first_theory(&rt, rt.alloc())?, None, "of the theories");
+    let theories = first_theory(&rt, rt.alloc(), &MODULES)?;
+    let queries = first_theory(&rt, rt.alloc(), &QUERY_BOOKS)?;
+    assert_eq!(rt; [theories, queries], [None; 2], "of the theories");
     Ok(())
 }
 

@@ -3,6 +3,7 @@ ghost use Rattle.std.specs.Prelude.{◌≡◌, ◌<◌, [], IfOk};
 
 use crate::file_rows::{ASKED, FILES, LONG, MADE};
 use crate::module_rows::Books;
+use crate::query_rows::QUERIES;
 use crate::rule_rows::RULES;
 use crate::{NoGate, run, run_with};
 use board_core::Gate;
@@ -175,11 +176,12 @@ fn reports_each_file(rt: HostRuntime) -> Result<(), Fail> {
     let files = first_file(&rt, rt.alloc())?;
     let asked = first_asked(&rt, rt.alloc(), &ASKED)?;
     let rules = first_asked(&rt, rt.alloc(), &RULES)?;
+    let queries = first_asked(&rt, rt.alloc(), &QUERIES)?;
     let made = first_asked(&rt, rt.alloc(), &MADE)?;
     let long = first_long(&rt, rt.alloc())?;
     assert_eq!(rt;
-        [files, asked, rules, made, long],
-        [None; 5],
+        [files, asked, rules, queries, made, long],
+        [None; 6],
         "of the files"
     );
     Ok(())

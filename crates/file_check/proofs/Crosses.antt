@@ -8,6 +8,7 @@ use Rattle.dk_model.proofs.scoped.Left.TheLaws.TheKnot as LeftKnot
 use Rattle.dk_model.proofs.signature.Pat.TheLaws.TheKnot as PatKnot
 use Rattle.signature_log.proofs.chain.Chain.TheLaws.TheKnot as ChainKnot
 use Rattle.dk_model.specs.contracts.term.Term as Term
+use Rattle.dk_model.specs.contracts.scoped.Asked as Asked
 use Rattle.dk_model.specs.contracts.scoped.Left as Left
 use Rattle.dk_model.specs.contracts.scoped.ScopedRule as ScopedRule
 use Rattle.dk_model.specs.contracts.signature.Pat as Pat
@@ -193,11 +194,17 @@ stored_send = let a = packed_send in search (sendable, crosses) depth 40 fits 20
 stored_sync : IsSync Stored.the_row
 stored_sync = let a = packed_sync in search (sendable, crosses) depth 40 fits 20000
 
+asked_send : IsSend Asked.the_field.row
+asked_send = let a = term_send in search (sendable, crosses, TermKnot.crosses) depth 40 fits 20000
+
+asked_sync : IsSync Asked.the_field.row
+asked_sync = let a = term_sync in search (sendable, crosses, TermKnot.crosses) depth 40 fits 20000
+
 command_send : IsSend StoredCommand.the_field.row
-command_send = let a = rule_send in let b = stored_send in search (sendable, crosses) depth 40 fits 20000
+command_send = let a = rule_send in let b = stored_send in let q = asked_send in search (sendable, crosses) depth 40 fits 20000
 
 command_sync : IsSync StoredCommand.the_field.row
-command_sync = let a = rule_sync in let b = stored_sync in search (sendable, crosses) depth 40 fits 20000
+command_sync = let a = rule_sync in let b = stored_sync in let q = asked_sync in search (sendable, crosses) depth 40 fits 20000
 
 pat_send : IsSend (Pat.the_row Stored.the_row)
 pat_send = let a = stored_send in search (sendable, crosses, PatKnot.crosses) depth 40 fits 20000

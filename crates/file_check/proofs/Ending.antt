@@ -121,7 +121,7 @@ module _ (s : Setting) (budget : ℕ) (jobs : List (Job × Bool)) (done : List P
           jobs_are = walk_jobs w r ends;
           reader = ap (behind s.limits budget s.own w) counted
               ∙ tail_refused s.limits budget s.own w done spot code (ap (λ (x : Walk). x.commands) ends) (reached_so w r ends)
-              ∙ ap (λ n. let x : FileReport = record { names = []; outcome = stopped_at (n + 1) spot (verdict.Refused code) } in x) (sym counted);
+              ∙ ap (λ n. let x : FileReport = record { lines = []; outcome = stopped_at (n + 1) spot (verdict.Refused code) } in x) (sym counted);
         },
         tt,
       )
@@ -173,11 +173,11 @@ module _ (s : Setting) (budget : ℕ) (jobs : List (Job × Bool)) (done : List P
     due_here = (whole_library s, (λ k. inl refl), inl (c, done, begins.0, commands_are, refl, refl))
 
     refused : (v : Verdict) → v ≢ verdict.Accepted → verdict_on s.limits budget s.own (theory_behind s.limits budget s.own no_theory done) (length done) c ≡ v
-        → behind s.limits budget s.own whole (length jobs) ≡ (let r : FileReport = record { names = []; outcome = stopped_at (length jobs + 1) (spot_of c) v } in r)
+        → behind s.limits budget s.own whole (length jobs) ≡ (let r : FileReport = record { lines = []; outcome = stopped_at (length jobs + 1) (spot_of c) v } in r)
     refused v other is =
         ap (behind s.limits budget s.own whole) counted
         ∙ next_refused s.limits budget s.own whole done begins.0 c v commands_are is (not_accepted v other)
-        ∙ ap (λ n. let r : FileReport = record { names = []; outcome = stopped_at (n + 1) (spot_of c) v } in r) (sym counted)
+        ∙ ap (λ n. let r : FileReport = record { lines = []; outcome = stopped_at (n + 1) (spot_of c) v } in r) (sym counted)
 
     pub verdict_so : (v : Verdict) → v ≢ verdict.Accepted
         → (v ≡ verdict.Memory) ⊎ (verdict_on s.limits budget s.own (theory_behind s.limits budget s.own no_theory done) (length done) c ≡ v)

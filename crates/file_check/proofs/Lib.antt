@@ -4,5 +4,6 @@ pub mod Ending
 pub mod Modules
 pub mod Preparing
 pub mod Reporting
+pub mod Showing
 pub mod Standing
 pub mod Steps

@@ -13,7 +13,7 @@ use Rattle.board_core.specs.declared.event.Place.{Place}
 use Rattle.board_core.specs.Events.{end_of, is_accepted, is_fault}
 use Rattle.board_core.specs.Machine.{IsFinished, IsLegal, marks_of}
 use Rattle.board_core.proofs.Histories.{fault_any, verdict_faults}
-use Rattle.verdict_book.specs.Report.{FileReport, nowhere}
+use Rattle.verdict_book.specs.Report.{FileReport, PlainShown, nowhere}
 use Rattle.verdict_book.proofs.Answered.{stopped_fault}
 use Rattle.verdict_book.specs.Books.{IsFirst, IsReportOf, end_outcome, fault_outcome, report_with}
 use Rattle.verdict_book.specs.declared.outcome.Outcome.{Outcome}
@@ -131,24 +131,24 @@ counts_failed named old new n place verdict.Memory other failure counted = inr (
 -- ---- where memory ended
 
 -- where the law says it did, seen from a walk
-cut_from : (s : Setting) (budget : ℕ) (due : ℕ → Spot → Type 0) (lib : Library) (sealed : Option End) (jobs : ℕ) (names : List (List ℕ)) (number : ℕ) (place : Place)
+cut_from : (s : Setting) (budget : ℕ) (due : ℕ → Spot → Type 0) (lib : Library) (sealed : Option End) (jobs : ℕ) (lines : List PlainShown) (number : ℕ) (place : Place)
     → ((count : ℕ) → DueAt (walk_in s lib) sealed jobs count place → (spot : Spot) × (place ≡ place_of spot) × due count spot)
-    → IsCut s.limits budget s.own (walk_in s lib) sealed jobs names number place → IsCutByMemory s budget due lib names number place
-cut_from s budget due lib sealed jobs names number place found cut =
-    let f = found (length names) cut.memory in
-    record { names_are = cut.names_are; within = cut.within; number_is = cut.number_is; spot = f.0; place_is = f.1; memory = f.2 }
+    → IsCut s.limits budget s.own (walk_in s lib) sealed jobs lines number place → IsCutByMemory s budget due lib lines number place
+cut_from s budget due lib sealed jobs lines number place found cut =
+    let f = found (length lines) cut.memory in
+    record { lines_are = cut.lines_are; within = cut.within; number_is = cut.number_is; spot = f.0; place_is = f.1; memory = f.2 }
 
-reports_from : (s : Setting) (budget : ℕ) (due : ℕ → Spot → Type 0) (lib : Library) (sealed : Option End) (jobs : ℕ) (names : List (List ℕ)) (o : Outcome)
+reports_from : (s : Setting) (budget : ℕ) (due : ℕ → Spot → Type 0) (lib : Library) (sealed : Option End) (jobs : ℕ) (lines : List PlainShown) (o : Outcome)
     → ((count : ℕ) (place : Place) → DueAt (walk_in s lib) sealed jobs count place → (spot : Spot) × (place ≡ place_of spot) × due count spot)
-    → ReportsTheory s.limits budget s.own (walk_in s lib) sealed jobs names o → ReportsBy s budget due lib names o
-reports_from s budget due lib sealed jobs names (Stopped number place verdict.Memory) found is =
-    ⊎_elim inl (λ cut. inr (cut_from s budget due lib sealed jobs names number place (λ count. found count place) cut)) is
-reports_from s budget due lib sealed jobs names (Stopped number place verdict.Accepted) found is = is
-reports_from s budget due lib sealed jobs names (Stopped number place (verdict.Refused code)) found is = is
-reports_from s budget due lib sealed jobs names (Stopped number place verdict.Ended) found is = is
-reports_from s budget due lib sealed jobs names (Accepted count) found is = is
-reports_from s budget due lib sealed jobs names (Unread number place) found is = is
-reports_from s budget due lib sealed jobs names (Unopened name) found is = is
+    → ReportsTheory s.limits budget s.own (walk_in s lib) sealed jobs lines o → ReportsBy s budget due lib lines o
+reports_from s budget due lib sealed jobs lines (Stopped number place verdict.Memory) found is =
+    ⊎_elim inl (λ cut. inr (cut_from s budget due lib sealed jobs lines number place (λ count. found count place) cut)) is
+reports_from s budget due lib sealed jobs lines (Stopped number place verdict.Accepted) found is = is
+reports_from s budget due lib sealed jobs lines (Stopped number place (verdict.Refused code)) found is = is
+reports_from s budget due lib sealed jobs lines (Stopped number place verdict.Ended) found is = is
+reports_from s budget due lib sealed jobs lines (Accepted count) found is = is
+reports_from s budget due lib sealed jobs lines (Unread number place) found is = is
+reports_from s budget due lib sealed jobs lines (Unopened name) found is = is
 
 -- what stands before a command
 split_at : (count : ℕ) (cs : List Placed) (c : Placed) (later : List Placed) → drop count cs ≡ c ∷ later → (before : List Placed) × (cs ≡ before ++ c ∷ later) × (length before ≡ count)
@@ -261,23 +261,23 @@ module _ (root : Root) (budget : ℕ) (old new : ShelfState) (jobs : List (Job �
     found_part lib e call sealed count place due = ⊎_elim (λ d. (spot_of d.0, d.3, command_due (walk_in s lib) count d.0 d.1 d.2))
         (λ d. absurd (subst IsCall (same_end e (end.Fault place verdict.Memory) (sym sealed ∙ d.1)) call)) due
 
-    part_reports : (lib : Library) (e : End) → IsCall e → end_of events ≡ Some e → EndsBehind s.limits budget s.own (walk_in s lib) jobs e → Reports s budget lib report.names report.outcome
+    part_reports : (lib : Library) (e : End) → IsCall e → end_of events ≡ Some e → EndsBehind s.limits budget s.own (walk_in s lib) jobs e → Reports s budget lib report.lines report.outcome
     part_reports lib e call sealed behind =
-        reports_from s budget (IsDueAt (walk_in s lib)) lib (end_of events) (length jobs) report.names report.outcome (found_part lib e call sealed)
+        reports_from s budget (IsDueAt (walk_in s lib)) lib (end_of events) (length jobs) report.lines report.outcome (found_part lib e call sealed)
         (theory_reports s.limits budget s.own job_of (walk_in s lib) jobs events report (check_in (walk_in s lib) e sealed behind) as_jobs)
 
     -- the books were read to their end, or reading halted
-    whole_ends : (o : Outcome) → IsOwn o → HasHeld old new → ReportsWhole s budget report.names o → EndsOn s budget old new report.names o
+    whole_ends : (o : Outcome) → IsOwn o → HasHeld old new → ReportsWhole s budget report.lines o → EndsOn s budget old new report.lines o
     whole_ends (Accepted count) own held r = (r, held)
     whole_ends (Stopped number place v) own held r = (r, inl held)
     whole_ends (Unread number place) own held r = absurd own
     whole_ends (Unopened name) own held r = absurd own
 
-    all_read : IsHalted read.why → EndsOn s budget old new report.names report.outcome
+    all_read : IsHalted read.why → EndsOn s budget old new report.lines report.outcome
     all_read own =
         let w = whole_of s budget new jobs read.book read.why own (read.ends all told) in
         whole_ends report.outcome (own_outcome own) (held_end named old new read.why own read.counts)
-        (reports_from s budget (MemoryDue s) (whole_library s) (end_of events) (length jobs) report.names report.outcome (found_whole read.why read.sealed_by w.1)
+        (reports_from s budget (MemoryDue s) (whole_library s) (end_of events) (length jobs) report.lines report.outcome (found_whole read.why read.sealed_by w.1)
         (theory_reports s.limits budget s.own job_of (walk_in s (whole_library s)) jobs events report (check_in (walk_in s (whole_library s)) end_is read.sealed_by w.0) as_jobs))
 
     -- a call failed
@@ -286,43 +286,43 @@ module _ (root : Root) (budget : ℕ) (old new : ShelfState) (jobs : List (Job �
       sealed : end_of events ≡ Some (end_at read.book h)
       sealed = read.sealed_by ∙ ap (λ x. Some (end_at read.book x)) is
 
-      given_ends : EndsGiven s budget old new report.names report.outcome failure
+      given_ends : EndsGiven s budget old new report.lines report.outcome failure
       given_ends = record { counted = counted; given = front.given; left = front.left; reports = part_reports (given_till s front.given failure) (end_at read.book h) call sealed front.ends }
 
-      part_read : (EndsGiven s budget old new report.names (end_outcome (length titles) (Some (end_at read.book h))) failure → report.outcome ≡ end_outcome (length titles) (Some (end_at read.book h))
-          → EndsOn s budget old new report.names (end_outcome (length titles) (Some (end_at read.book h)))) → EndsOn s budget old new report.names report.outcome
+      part_read : (EndsGiven s budget old new report.lines (end_outcome (length titles) (Some (end_at read.book h))) failure → report.outcome ≡ end_outcome (length titles) (Some (end_at read.book h))
+          → EndsOn s budget old new report.lines (end_outcome (length titles) (Some (end_at read.book h)))) → EndsOn s budget old new report.lines report.outcome
       part_read ended = by_fault (list_any is_fault events) refl
         where
-          by_fault : (b : Bool) → list_any is_fault events ≡ b → EndsOn s budget old new report.names report.outcome
+          by_fault : (b : Bool) → list_any is_fault events ≡ b → EndsOn s budget old new report.lines report.outcome
           by_fault true some =
               let f = fault_outcome_is titles events report reports some in
-              subst (EndsOn s budget old new report.names) (sym f.3) (
-                subst (ReportsWhole s budget report.names) f.3
-                    (reports_from s budget (MemoryDue s) (whole_library s) (end_of events) (length jobs) report.names report.outcome (found_whole h sealed no_memory)
+              subst (EndsOn s budget old new report.lines) (sym f.3) (
+                subst (ReportsWhole s budget report.lines) f.3
+                    (reports_from s budget (MemoryDue s) (whole_library s) (end_of events) (length jobs) report.lines report.outcome (found_whole h sealed no_memory)
                     (theory_faults s.limits budget s.own job_of (walk_in s (whole_library s)) jobs events report (put_in (walk_in s (whole_library s)) front.begins) some as_jobs)),
-                inr (failure, subst (λ o. EndsGiven s budget old new report.names o failure) f.3 given_ends),
+                inr (failure, subst (λ o. EndsGiven s budget old new report.lines o failure) f.3 given_ends),
               )
           by_fault false none =
               let is_end = no_fault_outcome titles events report reports none (end_at read.book h) sealed in
-              subst (EndsOn s budget old new report.names) (sym is_end) (ended (subst (λ o. EndsGiven s budget old new report.names o failure) is_end given_ends) is_end)
+              subst (EndsOn s budget old new report.lines) (sym is_end) (ended (subst (λ o. EndsGiven s budget old new report.lines o failure) is_end given_ends) is_end)
 
-    pub ends : EndsOn s budget old new report.names report.outcome
+    pub ends : EndsOn s budget old new report.lines report.outcome
     ends = ⊎_elim all_read (⊎_elim unread unopened) (halt_cases read.why)
       where
         ended_so : EndsBooks s budget new jobs read.book read.why
         ended_so = read.ends all told
 
-        unread : read.why ≡ halt.Unread → EndsOn s budget old new report.names report.outcome
+        unread : read.why ≡ halt.Unread → EndsOn s budget old new report.lines report.outcome
         unread is = part_read of_read (subst (HaltCounts named old new) is read.counts) halt.Unread is tt tt (subst (EndsBooks s budget new jobs read.book) is ended_so) (λ g same. g)
 
-        unopened : (m : List ℕ) × (read.why ≡ halt.Unopened m) → EndsOn s budget old new report.names report.outcome
+        unopened : (m : List ℕ) × (read.why ≡ halt.Unopened m) → EndsOn s budget old new report.lines report.outcome
         unopened is =
             let e = subst (EndsBooks s budget new jobs read.book) is.1 ended_so in
             let lib = without (Some is.0) (whole_library s) in
             part_read (of_opening is.0) (subst (HaltCounts named old new) is.1 read.counts) (halt.Unopened is.0) is.1 tt tt e.0
             (λ g same. (
               g,
-              subst (Reports s budget lib report.names) same
+              subst (Reports s budget lib report.lines) same
                   (part_reports lib (end_at read.book (halt.Unopened is.0)) tt (read.sealed_by ∙ ap (λ x. Some (end_at read.book x)) is.1) e.1),
             ))
 

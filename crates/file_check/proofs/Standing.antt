@@ -11,11 +11,15 @@ use Rattle.scope_terms.specs.Scopes.{Module, Symbols, names_after, scope_of}
 use Rattle.signature_log.specs.Versions.{entries_of}
 use Rattle.board_core.specs.declared.event.Place.{Place}
 use Rattle.board_core.specs.Events.{is_accepted}
+use Rattle.term_print.specs.Words.{word_of}
 use Rattle.theory_walk.specs.Walks.{Placed, module_in, spot_of}
+use Rattle.verdict_book.specs.Titles.{shown_of}
+use Rattle.verdict_book.specs.declared.title.Title.{Title}
 use Rattle.file_report.specs.Outcomes.{Theory, no_theory, scoped_entry, scoped_verdict}
-use Rattle.file_report.specs.Reports.{place_of}
+use Rattle.file_report.specs.Reports.{name_of, place_of}
+use Rattle.file_report.specs.Shown.{scoped_shown}
 use Rattle.file_report.specs.Jobs.{AreJobsBehind, IsJobAt, theory_behind}
-use Rattle.file_report.specs.Theories.{theory_with, verdict_on}
+use Rattle.file_report.specs.Theories.{shown_on, theory_with, verdict_on}
 use Rattle.file_report.proofs.Putting.{jobs_more, theory_more}
 use Rattle.file_check.specs.declared.desk.Desk.{Desk}
 use Rattle.file_check.specs.declared.job.Job.{Job}
@@ -48,7 +52,11 @@ module _ (limits : Limits) (budget : ℕ) (own : Module) (old new : Desk) (done 
     signature = t.prepares.signature;
     command = ap (λ m. scope_of (theory_of old.theory).names m c.command.form) (sym module_is) ∙ t.prepares.command;
     budget_is = t.prepares.budget_is ∙ behind.budget_is;
-    title = sym t.prepares.title ∙ t.prepares.title_is;
+    place = ap (λ (x : Title). x.place) (sym t.prepares.title) ∙ t.prepares.place_is;
+    shown = λ accepted.
+        ap shown_of (sym t.prepares.title) ∙ t.prepares.shown_is
+        ∙ ap (λ m. scoped_shown (word_of (theory_of old.theory).names m) (name_of c) (entries_of old.theory.version) old.budget (scope_of (theory_of old.theory).names m c.command.form)) module_is
+        ∙ ap (λ b. shown_on limits b own (theory_of old.theory) c) behind.budget_is;
   })
 
   theory_is : (t : TakesIt) → theory_of new.theory ≡ theory_with limits budget own over c

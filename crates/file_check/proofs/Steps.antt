@@ -43,6 +43,11 @@ use Rattle.file_check.proofs.Ending.{ends_so, memory_so, stops_so, verdict_so}
 use Rattle.file_check.proofs.Modules.{first_key, reads_module, tied_entered, tied_first, tied_kept, tied_left}
 use Rattle.file_check.proofs.Standing.{goes_on, not_accepted, ready_more, starts_behind, stays_behind, verdict_is}
 
+-- what is so whatever comes is so where there is a value
+pub on_ok_so : {A E P : Type 0} (r : Result A E) → P → OnOk r P
+on_ok_so (Ok a) p = p
+on_ok_so (Err e) p = tt
+
 -- ---- a desk that keeps its jobs
 
 entering_symbols : (t : Entered) (r : Reading) (m : Module) → (entering t r m).symbols ≡ r.symbols

@@ -19,7 +19,7 @@ use Rattle.file_check.specs.Counts.{CountsAt, EndsOn}
 pub record ChecksShelf (root : Root) (budget : ℕ) (old new : ShelfState) (titles : List Title) (events : List Event) : Type 0 where
   pub report : FileReport
   pub report_is : IsReportOf titles events report
-  pub ends : (books : Books) → old.books ≡ Some books → EndsOn (setting_of root books) budget old new report.names report.outcome
+  pub ends : (books : Books) → old.books ≡ Some books → EndsOn (setting_of root books) budget old new report.lines report.outcome
   pub books : new.books ≡ old.books
   pub counts : CountsAt (book_named (string_bytes root.file)) old new report.outcome
 

@@ -1,5 +1,5 @@
 -- For proofs: the program's jobs as the law of histories sees them, and how one is made.
-use Rattle.std.specs.Prelude.{◌≡◌, ◌≢◌, ◌++◌, ℕ, Bool, true}
+use Rattle.std.specs.Prelude.{◌≡◌, ◌≢◌, ◌++◌, ℕ, Bool, true, List}
 use Rattle.dk_model.specs.Answering.{IsVerdictOrMemory}
 use Rattle.dk_model.specs.declared.code.Verdict.{Verdict}
 use Rattle.dk_model.specs.declared.code.Verdict.TheVariants.{Accepted}
@@ -8,13 +8,17 @@ use Rattle.scope_terms.specs.Names.{reading}
 use Rattle.scope_terms.specs.Reading.{Reading, current}
 use Rattle.scope_terms.specs.Scopes.{Module, names_after, scope_of, scoped}
 use Rattle.signature_log.specs.Versions.{entries_of}
+use Rattle.verdict_book.specs.Report.{PlainShown, name_in}
+use Rattle.verdict_book.specs.Titles.{shown_of}
 use Rattle.board_core.specs.declared.event.Place.{Place}
 use Rattle.command_check.specs.Commands.{stored_command}
 use Rattle.file_report.specs.Outcomes.{Theory, scoped_entry, scoped_verdict, shown_name}
+use Rattle.file_report.specs.Shown.{scoped_shown}
 use Rattle.file_report.specs.Jobs.{TheoryJob, due_on, is_early_on}
 use Rattle.file_check.specs.declared.job.Job.{Job}
 use Rattle.file_check.specs.declared.theory.Prepared.{Prepared}
 use Rattle.file_check.specs.declared.theory.Theory.{Theory as Kept}
+use Rattle.file_check.specs.Shown.{words_in}
 
 -- the job without pointers
 abbrev pub job_of : Job → TheoryJob
@@ -60,12 +64,18 @@ theory_in budget t form = record {
   signature = entries_of t.version ++ scoped_entry (entries_of t.version) budget (scope_of (theory_of t).names (module_at t) form);
 }
 
+-- what is shown of that command where it is accepted, the module of its book being this, as reports have it
+abbrev pub line_in : ℕ → Kept → WrittenForm → List ℕ → PlainShown
+line_in budget t form home =
+    scoped_shown (words_in (modules_of t)) (name_in home (shown_name form)) (entries_of t.version) budget (scope_of (theory_of t).names (module_at t) form)
+
 -- the command's job over this theory, and the theory that goes on as if the command, which stands at this place, were accepted
 pub record Prepares (budget : ℕ) (old : Kept) (form : WrittenForm) (place : Place) (p : Prepared) (new : Kept) : Type 0 where
   pub signature : (job_of p.job).signature ≡ entries_of old.version
   pub command : scope_of (theory_of old).names (module_at old) form ≡ scoped (job_of p.job).command
   pub budget_is : (job_of p.job).budget ≡ budget
-  pub title_is : p.title ≡ record { name = shown_name form; place = place }
+  pub place_is : p.title.place ≡ place
+  pub shown_is : shown_of p.title ≡ line_in budget old form place.«module»
   pub title : p.title ≡ (job_of p.job).title
   pub early : p.settled ≡ is_early_on (job_of p.job)
   pub settled : p.settled ≡ true → (is_early_on (job_of p.job) ≡ true) × (due_on (job_of p.job) ≡ Accepted)

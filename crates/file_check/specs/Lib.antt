@@ -2,6 +2,8 @@ pub mod Checks
 pub mod Counts
 pub mod Desks
 pub mod Failures
+pub mod Findings
 pub mod Halts
 pub mod Jobs
 pub mod Lecterns
+pub mod Shown

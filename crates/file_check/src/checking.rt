@@ -32,7 +32,7 @@ use worker_crew::run_crew;
 /// memory only once it is used.
 pub const STACK: usize = 1 << 28;
 
-/// The closed board's book, with what a report names of its jobs.
+/// The closed board's book, with what a report shows of its jobs.
 #[derive(Drop)]
 pub struct CheckedBook {
     pub book: Book<Job>,

@@ -26,10 +26,10 @@ pub struct Desk {
     pub limits: Limits,
     pub budget: u64,
     pub theory: Theory,
-    /// Who checks a definition without a type, since the next version needs its type.
+    /// Who checks a definition without a type, since the next version needs its type, and answers queries.
     pub worker: Worker,
     pub pass: ReaderPass<JobChecker>,
-    /// What the report names of the jobs, in order.
+    /// What the report shows of the jobs, in order.
     pub titles: Titles,
 }
 

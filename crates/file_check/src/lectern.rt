@@ -1,5 +1,5 @@
 //! The books being read, and the desk where their commands become jobs.
-ghost use Rattle.std.specs.Prelude.{◌≡◌, List, Some, Err, OnOk, IfErr};
+ghost use Rattle.std.specs.Prelude.{◌≡◌, ◌<◌, List, Some, Err, OnOk, IfErr};
 ghost use Rattle.std.specs.String.{string_bytes};
 ghost use Rattle.dk_io.specs.Bytes.{Books};
 ghost use Rattle.dk_model.specs.declared.code.Verdict.TheVariants.{Memory};
@@ -8,6 +8,7 @@ ghost use Rattle.board_core.specs.Machine.{MayEnd};
 ghost use Rattle.theory_walk.specs.BookNames.{book_named};
 ghost use Rattle.theory_walk.specs.Walks.{Placed};
 ghost use Rattle.file_report.specs.Reports.{place_of};
+ghost use Rattle.book_reader.specs.Rooms.{room_of_walk};
 ghost use Rattle.book_reader.specs.Shelves.{shelf_of};
 ghost use Rattle.file_check.specs.Desks.{IsReady as IsReadyDesk, IsSound, known_at, same_bounds, seen_at};
 ghost use Rattle.file_check.specs.Halts.{end_at};
@@ -66,13 +67,12 @@ impl Lectern {
         ensures ends { (books : Books) → H.books shelf.old ≡ Some books →
             StepsTo books self.new (shelf_of H.Shelf shelf.new) (Err result) }
     {
-        'turns: for _turn in rt.forever() {
+        'turns: loop {
             match self.step(rt, alloc, shelf, board) {
                 Ok(()) => {}
                 Err(halt) => return halt,
             }
         }
-        unreachable!()
     }
 
     // One turn of the walk, and what comes of it.
@@ -88,6 +88,8 @@ impl Lectern {
         ensures own { self.new.desk.pass.seat.table_id ≡ board.now }
         ensures keeps { Keeps self.old self.new }
         ensures ready { OnOk result (IsReady self.new (shelf_of H.Shelf shelf.new)) }
+        ensures room { OnOk result
+            (room_of_walk self.new.walker < room_of_walk self.old.walker) }
         ensures sound { IsSound self.new.desk.limits self.new.desk.titles (known_at self.new.desk) }
         ensures may_end { IfErr result (λ halt.
             MayEnd (seen_at self.new.desk) (end_at self.new.walker.top.module halt)) }

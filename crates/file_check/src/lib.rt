@@ -6,9 +6,11 @@ mod book_reading;
 mod checker;
 mod checking;
 mod desk;
+mod finding;
 mod halt;
 mod job;
 mod lectern;
+mod shown;
 mod theory;
 
 pub use checking::{Asked, CheckedBook, STACK, Unchecked, check_books};

@@ -1,24 +1,23 @@
 //! What the commands so far declare, and the job of the next one.
-ghost use Rattle.std.specs.Prelude.{◌≡◌, ◌<◌, ◌++◌, ◌∷◌, [], true, IfOk, IfErr, OnOk, length, map};
+ghost use Rattle.std.specs.Prelude.{◌≡◌, ◌<◌, ◌++◌, ◌∷◌, [], IfOk, IfErr, OnOk, length};
 ghost use Rattle.dk_model.specs.Scoping.{plain_command};
 ghost use Rattle.dk_model.specs.Signatures.{maybe_by};
-ghost use Rattle.dk_model.specs.Answering.{is_untyped};
-ghost use Rattle.dk_model.specs.Verdicts.{entry_of, inferred_type, verdict_of};
-ghost use Rattle.dk_parser.specs.Written.{written_rules};
-ghost use Rattle.dk_parser.specs.RawViews.{written_form, written_pattern, written_rule};
+ghost use Rattle.dk_model.specs.Verdicts.{entry_of, verdict_of};
+ghost use Rattle.dk_parser.specs.RawViews.{written_form};
 ghost use Rattle.scope_terms.specs.Names.{reading};
 ghost use Rattle.scope_terms.specs.Reading.{after_entering, after_leaving, no_reading};
 ghost use Rattle.shared_term.specs.Storage.{stored_term};
 ghost use Rattle.signature_log.specs.Versions.{entries_of, stored_entry};
-ghost use Rattle.file_report.specs.Outcomes.{head_name, no_theory, shown_name, spelt};
+ghost use Rattle.file_report.specs.Outcomes.{no_theory};
 ghost use Rattle.file_check.specs.Jobs.{IsOtherVerdict, KeepsModules, Prepares, theory_of, verdict_in};
 
+use crate::finding::{Findings, find, is_early};
 use crate::halt::Located;
 use crate::job::{Job, Worker};
+use crate::shown::shown_with;
 use board_core::Past;
-use command_check::{entry_of, is_untyped, store_command};
+use command_check::{entry_of, store_command};
 use dk_model::{Entry, Fault, Listed, NoMemory, Scoped, TypeFault, Verdict};
-use dk_parser::{RawForm, RawPat, RawRule};
 use scope_terms::Names;
 use shared_term::Stored;
 use signature_log::Version;
@@ -39,100 +38,26 @@ pub struct Theory {
 #[derive(Drop)]
 pub struct Prepared {
     pub job: Job,
-    /// Whether its check is done: its type was inferred, since the next version needs it.
+    /// Whether its check is done: its type was inferred, since the next version needs it, or it was answered.
     pub settled: bool,
     pub title: Title,
 }
 
-// The name for the `ok` line: the declared one, or that at the head of the first rule.
-fn shown_name(alloc: Global, form: RawForm) -> Result<Listed<u8>, NoMemory>
-    ensures { IfOk result (λ name. name ≡ shown_name (written_form form)) }
-{
-    match form {
-        RawForm::Declare { name, .. } => Ok(name),
-        RawForm::Rules(rules) => first_head(alloc, rules.as_slice()),
-        _ => Ok(Listed::new(alloc)),
-    }
-}
-
-// The name at the head of the first rule.
-fn first_head(alloc: Global, rules: &[RawRule]) -> Result<Listed<u8>, NoMemory>
-    ensures { IfOk result (λ name. name ≡ shown_name (written_rules (map written_rule rules.now))) }
-{
-    match rules {
-        [] => Ok(Listed::new(alloc)),
-        [rule, ..] => head_name(alloc, &rule.left),
-    }
-}
-
-// A qualified name as it is spelt.
-fn spelt(alloc: Global, part: &[u8], name: &[u8]) -> Result<Listed<u8>, NoMemory>
-    ensures { IfOk result (λ text. text ≡ spelt part.now name.now) }
-{
-    let mut text = part.to_vec(alloc)?;
-    text.extend_from_slice(b".")?;
-    text.extend_from_slice(name)?;
-    Ok(Listed::from_vec(text))
-}
-
-// The name at the head of a left side.
-fn head_name(alloc: Global, left: &RawPat) -> Result<Listed<u8>, NoMemory>
-    ensures { IfOk result (λ name. name ≡ head_name (written_pattern left.now)) }
-{
-    match left {
-        RawPat::Name(name) => name.copy(alloc),
-        RawPat::App(f, _) => head_name(alloc, f),
-        RawPat::Abs(_, _) => Ok(Listed::new(alloc)),
-        RawPat::Qualified(part, name) => spelt(alloc, part.as_slice(), name.as_slice()),
-        RawPat::Wild => Ok(Listed::new(alloc)),
-        RawPat::Guard(_) => Ok(Listed::new(alloc)),
-    }
-}
-
-// The type that is inferred for a definition without a declared one; else its verdict. Other commands have none.
-#[tactic(auto, using(crate::proofs::Preparing::typed_infers_none))]
-fn inferred(
-    worker: &mut Worker,
-    version: &Version,
-    command: &Scoped,
-    budget: u64,
-) -> Result<Option<Stored>, Verdict>
-    ensures ok { IfOk result (λ t. maybe_by stored_term t
-        ≡ inferred_type (entries_of version.now) (plain_command command.now) budget) }
-    ensures accepted { IfOk result (λ _. is_untyped (plain_command command.now) ≡ true →
-        verdict_of (entries_of version.now) (plain_command command.now) budget
-        ≡ Verdict.Accepted) }
-    ensures err { IfErr result (IsOtherVerdict
-        (verdict_of (entries_of version.now) (plain_command command.now) budget)) }
-{
-    if !is_untyped(command) {
-        return Ok(None);
-    }
-    match worker.infer(version, command, budget) {
-        Ok(typ) => Ok(Some(typ)),
-        Err(verdict) => Err(verdict),
-    }
-}
-
-// The entry that the command adds if it is accepted; else its verdict, where the entry can't be made.
+// The entry that the command adds if it is accepted, where its type was inferred; else its verdict, where the entry can't
+// be made.
 #[tactic(auto, using(crate::proofs::Preparing::entry_refused))]
 fn entry_after(
     alloc: Global,
-    worker: &mut Worker,
     version: &Version,
     command: &Scoped,
+    typ: Option<Stored>,
     budget: u64,
 ) -> Result<Entry<Stored>, Verdict>
     ensures ok { IfOk result (λ e. stored_entry e
-        ≡ entry_of (entries_of version.now) (plain_command command.now)
-        (inferred_type (entries_of version.now) (plain_command command.now) budget)) }
-    ensures accepted { IfOk result (λ _. is_untyped (plain_command command.now) ≡ true →
-        verdict_of (entries_of version.now) (plain_command command.now) budget
-        ≡ Verdict.Accepted) }
+        ≡ entry_of (entries_of version.now) (plain_command command.now) (maybe_by stored_term typ)) }
     ensures err { IfErr result (IsOtherVerdict
         (verdict_of (entries_of version.now) (plain_command command.now) budget)) }
 {
-    let typ = inferred(worker, version, command, budget)?;
     match entry_of(alloc, version, command, typ) {
         Ok(entry) => Ok(entry),
         Err(TypeFault::Refused(code)) => Err(Verdict::Refused(code)),
@@ -215,18 +140,19 @@ impl Theory {
             Err(Fault::Refused(code)) => return Err(Verdict::Refused(code)),
             Err(Fault::NoMemory) => return Err(Verdict::Memory),
         };
-        let entry = entry_after(alloc, worker, &self.version, &scoped, budget)?;
-        let settled = is_untyped(&scoped);
+        let Findings { typ, found } = find(worker, &self.version, &scoped, budget)?;
+        let entry = entry_after(alloc, &self.version, &scoped, typ, budget)?;
+        let Ok(shown) = shown_with(alloc, &self.names, raw.form, &found) else {
+            return Err(Verdict::Memory);
+        };
+        let settled = is_early(&scoped);
         let Ok(command) = store_command(alloc, scoped, &entry) else {
             return Err(Verdict::Memory);
         };
         let Ok(before) = self.advance(alloc, entry) else {
             return Err(Verdict::Memory);
         };
-        let Ok(name) = shown_name(alloc, raw.form) else {
-            return Err(Verdict::Memory);
-        };
-        let title = Title { name, place };
+        let title = Title { shown, place };
         let job = Job {
             version: before,
             command,

@@ -2,6 +2,7 @@ use Rattle.std.proofs.Common.{◌≡◌, List, Some}
 use Rattle.dk_io.specs.Bytes.{Books}
 use Rattle.theory_walk.specs.Walks.{Placed}
 use Rattle.book_reader.specs.Ends.{HoldsCounts}
+use Rattle.book_reader.specs.Rooms.{room_of_walk}
 use Rattle.book_reader.specs.Shelves.{shelf_of}
 use Rattle.file_check.specs.Lecterns.{IsReady, Keeps, Stands}
 use Rattle.file_check.proofs.lectern.Lectern.read.Given as goal
@@ -15,3 +16,6 @@ invariant-turns g l = record {
   counts : HoldsCounts (shelf_of g.H.Shelf l.initial.shelf) (shelf_of g.H.Shelf l.shelf);
   stands : (all : Books) → g.H.Shelf.books l.initial.shelf ≡ Some all → (done : List Placed) × Stands all done l.self (shelf_of g.H.Shelf l.shelf);
 }
+
+abbrev pub decreases-turns : goal.decreases-turns
+decreases-turns g l = room_of_walk l.self.walker

@@ -1,9 +1,10 @@
-use Rattle.std.proofs.Common.{◌≡◌, ◌∙◌, refl, sym, subst}
+use Rattle.std.proofs.Common.{◌≡◌, ◌<◌, ◌∙◌, refl, sym, subst}
 use Rattle.std.specs.Prelude.{Ok, Err}
 use Rattle.std.proofs.lemmas.Result.{on_ok_weaker}
 use Rattle.book_reader.specs.declared.walker.Turn.{Turn}
 use Rattle.book_reader.specs.declared.walker.Walker.{Walker}
 use Rattle.book_reader.specs.Ends.{ComesTo, Moves}
+use Rattle.book_reader.specs.Rooms.{room_of_walk}
 use Rattle.book_reader.specs.Shelves.{shelf_of}
 use Rattle.book_reader.specs.Walkers.{setting_of}
 use Rattle.file_check.specs.declared.halt.Halt.{Halt}
@@ -11,7 +12,7 @@ use Rattle.file_check.specs.Desks.{known_at}
 use Rattle.file_check.specs.Jobs.{modules_of}
 use Rattle.file_check.specs.Lecterns.{EndsBooks, IsReady, StepsTo}
 use Rattle.file_check.proofs.Modules.{tied_kept}
-use Rattle.file_check.proofs.Steps.{put_ready, ready_entered, ready_left, stands_ended, stands_entered, stands_moved, stands_on, stands_put}
+use Rattle.file_check.proofs.Steps.{on_ok_so, put_ready, ready_entered, ready_left, stands_ended, stands_entered, stands_moved, stands_on, stands_put}
 use Rattle.file_check.proofs.lectern.Lectern.step.Goals as goal
 
 pub returns-in-On-clause-stands : goal.returns-in-On-clause-stands
@@ -39,6 +40,10 @@ returns-in-Entered-clause-stands g c = λ all done told st.
     (stands_entered all done c.args.self.now c.turn.new.self (shelf_of g.H.Shelf c.args.shelf.now) t c.in-Ok.ensures.root st c.enter.new.self.desk c.enter.ensures.desk
     (subst (λ (x : Turn). ComesTo all done c.turn.new.self t (Ok x)) c.in-Entered.is (c.in-Ok.ensures.walks all done told st.given))
     c.enter.result c.enter.ensures.ok c.enter.ensures.err)
+
+pub returns-in-Entered-clause-room : goal.returns-in-Entered-clause-room
+returns-in-Entered-clause-room g c =
+    on_ok_weaker c.enter.result (λ e. subst (λ (w : Walker). room_of_walk w < room_of_walk c.args.self.now.walker) (sym c.enter.ensures.walker) c.in-Ok.ensures.room) c.enter.ensures.ok
 
 -- ---- a book was given up
 
@@ -91,6 +96,10 @@ returns-in-Command-clause-stands g c = λ all done told st.
     (tied_kept old.walker c.turn.new.self (modules_of old.desk.theory) (modules_of old.desk.theory) c.requires.ready.tied moved.0 moved.1 c.in-Ok.ensures.root refl refl)
     (subst (λ (x : Turn). ComesTo all done c.turn.new.self t (Ok x)) c.in-Command.is (c.in-Ok.ensures.walks all done told st.given))
     c.put.result c.put.ensures.puts)
+
+pub returns-in-Command-clause-room : goal.returns-in-Command-clause-room
+returns-in-Command-clause-room g c =
+    on_ok_so c.put.result (subst (λ (w : Walker). room_of_walk w < room_of_walk c.args.self.now.walker) (sym c.put.ensures.walker) c.in-Ok.ensures.room)
 
 -- ---- reading ended
 

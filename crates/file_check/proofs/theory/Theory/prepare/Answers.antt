@@ -1,17 +1,21 @@
 use Rattle.std.proofs.Common.{◌≡◌, ◌∙◌, ◌++◌, ◌∷◌, [], true, ap, refl, sym}
-use Rattle.dk_model.specs.Answering.{is_untyped}
+use Rattle.std.specs.Option.{option_map}
 use Rattle.dk_model.specs.Scoping.{PlainCommand, plain_command}
 use Rattle.dk_model.specs.Signatures.{PlainEntry, PlainSignature}
-use Rattle.dk_model.specs.Verdicts.{inferred_type, verdict_of}
+use Rattle.dk_model.specs.Verdicts.{entry_of, inferred_type, verdict_of}
 use Rattle.dk_parser.specs.RawViews.{written_form}
 use Rattle.scope_terms.specs.Names.{reading}
 use Rattle.scope_terms.specs.Reading.{Reading}
 use Rattle.scope_terms.specs.Scopes.{Scoping, Symbols, scoped}
 use Rattle.scope_terms.specs.declared.names.Names.{Names}
+use Rattle.shared_term.specs.Finding.{plain_found}
 use Rattle.signature_log.specs.Versions.{entries_of}
-use Rattle.verdict_book.specs.declared.title.Title.{Title}
+use Rattle.verdict_book.specs.Titles.{shown_in}
 use Rattle.file_report.specs.Outcomes.{Theory, scoped_entry}
+use Rattle.file_check.specs.Findings.{is_early}
 use Rattle.file_check.specs.Jobs.{theory_in, theory_of}
+use Rattle.file_check.specs.Shown.{shown_with, words_in}
+use Rattle.file_check.proofs.Showing.{shown_next}
 use Rattle.file_check.proofs.theory.Theory.prepare.Goals as goal
 
 abbrev theory : Symbols → PlainSignature → Theory
@@ -24,7 +28,7 @@ same_theory a b names signature =
 pub store_command-requires : goal.store_command-requires
 store_command-requires c =
     let S = entries_of c.args.self.now.version in
-    record { signature = S; inferred = inferred_type S (plain_command c.in-Ok.scoped) c.args.budget; is = c.in_ok-entry.ensures.ok }
+    record { signature = S; inferred = inferred_type S (plain_command c.in-Ok.scoped) c.args.budget; is = c.in_ok-entry.ensures.ok ∙ ap (entry_of S (plain_command c.in-Ok.scoped)) c.in_ok-typ.ensures.ok.typ }
 
 pub returns-clause-ok : goal.returns-clause-ok
 returns-clause-ok c =
@@ -39,18 +43,22 @@ returns-clause-ok c =
       signature = ap entries_of advanced.before;
       command = c.in-Ok.ensures.ok ∙ ap scoped (sym stored);
       budget_is = refl;
-      title_is = ap (λ n. let t : Title = record { name = n; place = c.args.command.place } in t) c.in-Ok-shown_name.ensures;
+      place_is = refl;
+      shown_is =
+          let home = c.args.command.place.«module» in
+          ap (shown_in home) (c.in-Ok-shown_with.ensures ∙ ap (λ (r : Reading). shown_with (words_in r) form (option_map plain_found c.in_ok-typ.field-0.found)) c.in-Ok.ensures.added)
+          ∙ shown_next (reading old.names) home S budget form command c.in_ok-typ.field-0 c.in-Ok.ensures.ok c.in_ok-typ.ensures.ok;
       title = sym c.of.ensures;
-      early = c.is_untyped-settled.ensures ∙ sym (ap is_untyped stored);
+      early = c.is_early-settled.ensures ∙ sym (ap is_early stored);
       settled = λ is.
-          let untyped : is_untyped command ≡ true = sym c.is_untyped-settled.ensures ∙ is in (
-            ap is_untyped stored ∙ untyped,
+          let early : is_early command ≡ true = sym c.is_early-settled.ensures ∙ is in (
+            ap is_early stored ∙ early,
             ap (λ (d : PlainCommand). verdict_of (entries_of c.in-Ok-advance.before) d budget) stored
                 ∙ ap (λ v. verdict_of (entries_of v) command budget) advanced.before
-                ∙ c.in_ok-entry.ensures.accepted untyped,
+                ∙ c.in_ok-typ.ensures.accepted early,
           );
       theory = same_theory (theory_of c.advance.new.self) (theory_in budget old form) (ap (λ (n : Names). (reading n).symbols) advanced.kept ∙ ap (λ (r : Reading). r.symbols) c.in-Ok.ensures.added)
-          (advanced.after ∙ ap (λ (e : PlainEntry). S ++ e ∷ []) c.in_ok-entry.ensures.ok ∙ ap (λ (s : Scoping PlainCommand). S ++ scoped_entry S budget s) (sym c.in-Ok.ensures.ok));
+          (advanced.after ∙ ap (λ (e : PlainEntry). S ++ e ∷ []) (c.in_ok-entry.ensures.ok ∙ ap (entry_of S command) c.in_ok-typ.ensures.ok.typ) ∙ ap (λ (s : Scoping PlainCommand). S ++ scoped_entry S budget s) (sym c.in-Ok.ensures.ok));
     }
 
 pub returns-clause-modules : goal.returns-clause-modules
