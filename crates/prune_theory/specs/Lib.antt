@@ -1,0 +1,6 @@
+pub mod Alike
+pub mod Renumbering
+pub mod Mentions
+pub mod Folds
+pub mod Renamed
+pub mod Laws

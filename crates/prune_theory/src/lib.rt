@@ -1,0 +1,10 @@
+//! Pruned theories: of accepted commands those on which one rests, each with the verdict and the units that it had;
+//! and verdicts that can be kept, since a command has the same one wherever it rests on the same commands.
+//!
+//! Begin at specs/Mentions.antt, which says what a command rests on, then at `laws`.
+#![tactic(auto)]
+
+pub mod laws;
+mod symbols;
+
+pub use symbols::{heads, mentions};
