@@ -1,4 +1,5 @@
 //! Texts of commands, with the number and the verdict of the last one that is looked at.
+use crate::texts::Parts;
 use dk_model::{Code, Verdict};
 
 /// A text, the budget of each command, and how many commands are looked at, the last one with this verdict.
@@ -308,22 +309,22 @@ const ADDITION: &str =
     "nat : Type. z : nat. s : nat -> nat. def plus : nat -> nat -> nat. [n] plus z n --> n [m, n] plus (s m) n --> s (plus m n).";
 
 /// The parts of a text, each so often: arguments, binders and brackets nearly as deep as a text may have them.
-pub const DEEP: [[(&str, u32); 5]; 3] = [
-    [
+pub const DEEP: [Parts; 3] = [
+    &[
         ("a : Type. x : a. f : a -> a. thm t : a := ", 1),
         ("f (", 900),
         ("x", 1),
         (")", 900),
         (".", 1),
     ],
-    [
+    &[
         ("a : Type. x : a. f : a", 1),
         (" -> a", 900),
         (". thm t : a := f", 1),
         (" x", 900),
         (".", 1),
     ],
-    [
+    &[
         ("a : Type. x : a. z : a. thm t : a", 1),
         (" -> a", 900),
         (" := ", 1),

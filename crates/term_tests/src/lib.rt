@@ -6,22 +6,14 @@ mod check_rows;
 #[cfg(test)]
 mod checks;
 #[cfg(test)]
-mod many_rules;
+mod evaluation;
+#[cfg(test)]
+mod evaluation_rows;
 #[cfg(test)]
 mod matcher;
 #[cfg(test)]
-mod pool_forms;
-#[cfg(test)]
 mod pools;
 #[cfg(test)]
-mod rows;
-#[cfg(test)]
-mod samples;
-#[cfg(test)]
 mod texts;
-#[cfg(test)]
-mod tree_forms;
-#[cfg(test)]
-mod trees;
 #[cfg(test)]
 mod versions;

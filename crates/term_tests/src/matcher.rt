@@ -1,35 +1,26 @@
 //! Selections by asks: which column is asked for, which rule is taken, and its captures.
-ghost use Rattle.std.specs.Prelude.{length, IfOk};
+ghost use Rattle.std.specs.Prelude.{◌<◌, length, IfOk};
 ghost use Rattle.rule_match.specs.Columns.{AreWithin};
 ghost use Rattle.rule_match.specs.Matching.{IsMatcher, Awaits};
 ghost use Rattle.rule_match.specs.Trees.{IsPlaced};
+ghost use Rattle.shared_term.specs.Pools.{Extends};
 
-use crate::rows::first_wrong;
-use crate::samples::{PLUS, S, Z, one, plus_rules, rule, rule_variable, symbol_alone, two};
-use dk_model::{Listed, NoMemory, NodeOf, Rule, Term};
+use crate::texts::{Parts, version_of_text};
+use dk_model::{Entry, NoMemory, NodeOf, Rule};
 use rule_match::{Answer, Ask, LeftSide, Matcher, Tree, compile};
 use shared_term::{Pool, Stored, TermId};
+use signature_log::Version;
 use std::alloc::Global;
 
-/// `[x] same x x --> Type.`
-fn same_rules(alloc: Global) -> Result<Listed<Rule<Stored>>, NoMemory> {
-    let mut rules = Listed::new(alloc);
-    let pats = two(rule_variable(alloc, 0), rule_variable(alloc, 0), alloc)?;
-    rules.push(rule(alloc, PLUS, 1, pats, Term::Star)?)?;
-    Ok(rules)
-}
-
-/// A rule for each of the first symbols: `head c0 --> Type. head c1 --> Type.` and so on.
-fn head_rules(alloc: Global, count: u32) -> Result<Listed<Rule<Stored>>, NoMemory> {
-    let mut rules = Listed::new(alloc);
-    for symbol in 0..count {
-        let pats = one(symbol_alone(alloc, symbol), alloc)?;
-        rules.push(rule(alloc, PLUS, 0, pats, Term::Star)?)?;
+/// The rules of the last command of a version.
+fn last_rules(version: &Version) -> &[Rule<Stored>] {
+    match version.get(version.len().saturating_sub(1)) {
+        Some(Entry::Rules(rules)) => rules.as_slice(),
+        _ => &[],
     }
-    Ok(rules)
 }
 
-fn tree_of(alloc: Global, rules: &[Rule<Stored>]) -> Result<Tree, NoMemory>
+fn compiled(alloc: Global, rules: &[Rule<Stored>]) -> Result<Tree, NoMemory>
     ensures { IfOk result IsPlaced }
 {
     let mut sides = Vec::new(alloc);
@@ -42,148 +33,251 @@ fn tree_of(alloc: Global, rules: &[Rule<Stored>]) -> Result<Tree, NoMemory>
     compile(alloc, sides.as_slice())
 }
 
-/// What a selection is told for what it asked.
-#[derive(Clone, Copy)]
-enum Told {
-    Term(TermId),
-    Alike(bool),
+/// The tree of the rules that end a text.
+fn tree_of(alloc: Global, parts: &[(&str, u32)]) -> Result<Tree, NoMemory>
+    ensures { IfOk result IsPlaced }
+{
+    let version = version_of_text(alloc, parts)?;
+    compiled(alloc, last_rules(&version))
 }
 
-/// What the selection asks for once it is told that; where the answer is of another kind, want of memory.
+/// What the selection asks for once it is told whether two terms are alike, or that a term stands; where it asks for
+/// neither, want of memory.
 #[tactic(auto, using(rule_match::proofs::Telling::value_fits, rule_match::proofs::Telling::alike_fits))]
-fn tell(matcher: &mut Matcher, pool: &mut Pool, ask: &Ask, told: Told) -> Result<Ask, NoMemory>
+fn tell(
+    matcher: &mut Matcher,
+    pool: &mut Pool,
+    ask: &Ask,
+    term: TermId,
+    alike: bool,
+) -> Result<Ask, NoMemory>
     requires within { IsMatcher (length pool.old) matcher.old }
     requires awaits { Awaits matcher.old.stage ask.now }
+    requires term { term.0 < length pool.old }
 {
-    match (ask, told) {
-        (Ask::Evaluate(_), Told::Term(term)) => {
-            if (term.number() as usize) < pool.len() {
-                return matcher.next(pool, Answer::Value(term));
-            }
-            Err(NoMemory)
-        }
-        (Ask::Same(_, _), Told::Alike(true)) => matcher.next(pool, Answer::Yes),
-        (Ask::Same(_, _), Told::Alike(false)) => matcher.next(pool, Answer::No),
+    match ask {
+        Ask::Evaluate(_) => matcher.next(pool, Answer::Value(term)),
+        Ask::Same(_, _) if alike => matcher.next(pool, Answer::Yes),
+        Ask::Same(_, _) => matcher.next(pool, Answer::No),
         _ => Err(NoMemory),
     }
 }
 
-/// The column that is asked for.
-fn column_of(ask: &Ask) -> Option<usize> {
-    match ask {
-        Ask::Evaluate(column) => Some(*column),
-        _ => None,
-    }
-}
-
-/// A rule, how many captures it has, and what each of them is.
-type Taken = (usize, usize, TermId);
+/// A rule, and how many captures it has, each of them this one of the arguments.
+type Taken = (usize, usize, usize);
 
 /// Whether this rule is taken with these captures, or none.
-fn is_taken(ask: &Ask, due: Option<Taken>) -> bool {
+fn is_taken(ask: &Ask, arguments: &[TermId], due: Option<Taken>) -> bool {
     match (ask, due) {
         (Ask::Take(at, captures), Some((rule, count, capture))) => {
             *at == rule
                 && captures.len() == count
-                && captures.iter().all(|found| *found == Some(capture))
+                && captures
+                    .iter()
+                    .all(|found| *found == arguments.get(capture).copied())
         }
         (Ask::Nothing, None) => true,
         _ => false,
     }
 }
 
-/// Whether the selection for the arguments of a stack asks first for this column, or for another answer, and, once it is
-/// told that, takes this rule with these captures, or none.
+/// Whether the selection for two arguments, the first one on top, asks first for column 0, or whether two terms are alike,
+/// and, once it is told that the first one stands, or that, takes this rule, or none.
 fn selects(
-    pool: &mut Pool,
     alloc: Global,
+    pool: &mut Pool,
     tree: &Tree,
-    arguments: &[TermId],
-    asked: (Option<usize>, Told),
-    due: Option<Taken>,
+    arguments: [TermId; 2],
+    row: &Row,
 ) -> Result<bool, NoMemory>
-    requires within { AreWithin (length pool.old) arguments.now }
+    requires within { AreWithin (length pool.old) arguments }
     requires placed { IsPlaced tree.now }
 {
-    let mut matcher = Matcher::start(alloc, tree, arguments)?;
+    let mut matcher = Matcher::start(alloc, tree, &arguments)?;
     let ask = matcher.next(pool, Answer::Begin)?;
-    let (column, told) = asked;
-    if column_of(&ask) != column {
-        return Ok(false);
-    }
-    let last = tell(&mut matcher, pool, &ask, told)?;
-    Ok(is_taken(&last, due))
+    let is_asked = match &ask {
+        Ask::Evaluate(column) => *column == 0 && row.alike.is_none(),
+        Ask::Same(_, _) => row.alike.is_some(),
+        _ => false,
+    };
+    let last = tell(
+        &mut matcher,
+        pool,
+        &ask,
+        arguments[1],
+        row.alike == Some(true),
+    )?;
+    Ok(is_asked && is_taken(&last, &arguments, row.taken))
 }
 
-/// The value of the first argument of `plus`.
+/// An argument, which stands.
 #[derive(Clone, Copy)]
-enum Form {
-    Zero,
+enum Argument {
+    Symbol(u32),
+    /// `s z`, of the first two symbols.
     Successor,
-    Variable,
+    Variable(u32),
 }
 
-/// Whether `plus`, whose first argument has a value of this form and whose second one is `z`, asks for column 0 and then
-/// takes the first rule with `z`, the second one with `z` and `z`, or none.
-fn plus_takes(alloc: Global, form: Form) -> Result<bool, NoMemory> {
-    let mut rules = Listed::new(alloc);
-    plus_rules(alloc, &mut rules)?;
-    let tree = tree_of(alloc, rules.as_slice())?;
+/// A text whose rules have a tree of so many nodes, where they have one.
+struct Row {
+    parts: Parts,
+    nodes: u32,
+    /// The second argument, and the first one.
+    arguments: [Argument; 2],
+    /// Whether the two are told to be alike, where that is asked.
+    alike: Option<bool>,
+    taken: Option<Taken>,
+}
+
+/// A node for the first cell of each rule, and the first one.
+const PLUS: Parts = &[
+    ("z : Type. s : Type. def plus : Type. ", 1),
+    (
+        "[y] plus z y --> y [x, y] plus (s x) y --> s (plus x y).",
+        1,
+    ),
+];
+
+const SAME: Parts = &[("def same : Type. [x] same x x --> Type.", 1)];
+
+const HEADS_100: Parts = &[
+    ("c# : Type. ", 100),
+    ("def f : Type. ", 1),
+    ("[] f c# --> c0 ", 100),
+    (".", 1),
+];
+
+const HEADS_4095: Parts = &[
+    ("c# : Type. ", 4_096),
+    ("def f : Type. ", 1),
+    ("[] f c# --> c0 ", 4_095),
+    (".", 1),
+];
+
+const HEADS_4096: Parts = &[
+    ("c# : Type. ", 4_096),
+    ("def f : Type. ", 1),
+    ("[] f c# --> c0 ", 4_096),
+    (".", 1),
+];
+
+const ROWS: [Row; 9] = [
+    Row {
+        parts: PLUS,
+        nodes: 3,
+        arguments: [Argument::Symbol(0), Argument::Symbol(0)],
+        alike: None,
+        taken: Some((0, 1, 0)),
+    },
+    Row {
+        parts: PLUS,
+        nodes: 3,
+        arguments: [Argument::Symbol(0), Argument::Successor],
+        alike: None,
+        taken: Some((1, 2, 0)),
+    },
+    Row {
+        parts: PLUS,
+        nodes: 3,
+        arguments: [Argument::Symbol(0), Argument::Variable(7)],
+        alike: None,
+        taken: None,
+    },
+    Row {
+        parts: SAME,
+        nodes: 1,
+        arguments: [Argument::Variable(8), Argument::Variable(7)],
+        alike: Some(true),
+        taken: Some((0, 1, 1)),
+    },
+    Row {
+        parts: SAME,
+        nodes: 1,
+        arguments: [Argument::Variable(8), Argument::Variable(7)],
+        alike: Some(false),
+        taken: None,
+    },
+    Row {
+        parts: HEADS_100,
+        nodes: 101,
+        arguments: [Argument::Symbol(0), Argument::Symbol(70)],
+        alike: None,
+        taken: Some((70, 0, 0)),
+    },
+    Row {
+        parts: HEADS_100,
+        nodes: 101,
+        arguments: [Argument::Symbol(0), Argument::Symbol(100)],
+        alike: None,
+        taken: None,
+    },
+    // A tree has 4,096 nodes at the most.
+    Row {
+        parts: HEADS_4095,
+        nodes: 4_096,
+        arguments: [Argument::Symbol(0), Argument::Symbol(4_000)],
+        alike: None,
+        taken: Some((4_000, 0, 0)),
+    },
+    Row {
+        parts: HEADS_4096,
+        nodes: 0,
+        arguments: [Argument::Symbol(0), Argument::Symbol(4_000)],
+        alike: None,
+        taken: Some((4_000, 0, 0)),
+    },
+];
+
+fn interned(pool: &mut Pool, argument: Argument) -> Result<TermId, NoMemory>
+    ensures within { IfOk result (λ id. id.0 < length pool.new) }
+    ensures keeps { Extends pool.old pool.new }
+{
+    match argument {
+        Argument::Symbol(symbol) => pool.intern(NodeOf::Sym(symbol)),
+        Argument::Variable(variable) => pool.intern(NodeOf::Rvar(variable)),
+        Argument::Successor => {
+            let zero = pool.intern(NodeOf::Sym(0))?;
+            let successor = pool.intern(NodeOf::Sym(1))?;
+            pool.intern(NodeOf::App(successor, zero))
+        }
+    }
+}
+
+fn is_selected(alloc: Global, pool: &mut Pool, tree: &Tree, row: &Row) -> Result<bool, NoMemory>
+    requires { IsPlaced tree.now }
+{
+    let second = interned(pool, row.arguments[0])?;
+    let first = interned(pool, row.arguments[1])?;
+    selects(alloc, pool, tree, [second, first], row)
+}
+
+fn has_tree(alloc: Global, tree: &Tree, row: &Row) -> Result<bool, NoMemory>
+    requires { IsPlaced tree.now }
+{
     let mut pool = Pool::new(alloc)?;
-    let z = pool.intern(NodeOf::Sym(Z))?;
-    let s = pool.intern(NodeOf::Sym(S))?;
-    let successor = pool.intern(NodeOf::App(s, z))?;
-    let variable = pool.intern(NodeOf::Rvar(7))?;
-    let (value, due) = match form {
-        Form::Zero => (z, Some((0, 1, z))),
-        Form::Successor => (successor, Some((1, 2, z))),
-        Form::Variable => (variable, None),
-    };
-    let asked = (Some(0), Told::Term(value));
-    Ok(tree.nodes() != 0 && selects(&mut pool, alloc, &tree, &[z, value], asked, due)?)
+    is_selected(alloc, &mut pool, tree, row)
 }
 
-/// Whether `same` of two arguments that are told to be alike is taken with the first one, and else isn't.
-fn same_takes(alloc: Global, alike: bool) -> Result<bool, NoMemory> {
-    let rules = same_rules(alloc)?;
-    let tree = tree_of(alloc, rules.as_slice())?;
-    let mut pool = Pool::new(alloc)?;
-    let first = pool.intern(NodeOf::Rvar(7))?;
-    let second = pool.intern(NodeOf::Rvar(8))?;
-    let due = if alike { Some((0, 1, first)) } else { None };
-    let asked = (None, Told::Alike(alike));
-    selects(&mut pool, alloc, &tree, &[second, first], asked, due)
+fn is_row(alloc: Global, row: &Row) -> Result<bool, NoMemory> {
+    let tree = tree_of(alloc, row.parts)?;
+    let is_selected = has_tree(alloc, &tree, row) == Ok(true);
+    Ok(is_selected && tree.nodes() == row.nodes)
 }
 
-/// Whether the rules for so many heads have a tree of so many nodes, and this symbol takes its own, where it has one.
-fn head_takes(alloc: Global, count: u32, nodes: u32, symbol: u32) -> Result<bool, NoMemory> {
-    let rules = head_rules(alloc, count)?;
-    let tree = tree_of(alloc, rules.as_slice())?;
-    let mut pool = Pool::new(alloc)?;
-    let argument = pool.intern(NodeOf::Sym(symbol))?;
-    let due = if symbol < count {
-        Some((symbol as usize, 0, argument))
-    } else {
-        None
-    };
-    let asked = (Some(0), Told::Term(argument));
-    Ok(tree.nodes() == nodes && selects(&mut pool, alloc, &tree, &[argument], asked, due)?)
+/// The first row that isn't as told, by its number.
+fn first_wrong(alloc: Global) -> Result<Option<usize>, NoMemory> {
+    let mut number = 0usize;
+    for row in &ROWS {
+        if !is_row(alloc, row)? {
+            return Ok(Some(number));
+        }
+        number = number.wrapping_add(1);
+    }
+    Ok(None)
 }
 
-/// A tree has a node for each head and the first one, and 4,096 at the most.
 #[test]
 fn rules_are_taken_by_what_is_asked(rt: HostRuntime) {
-    let alloc = rt.alloc();
-    let rows = [
-        ("plus z z", plus_takes(alloc, Form::Zero)),
-        ("plus (s z) z", plus_takes(alloc, Form::Successor)),
-        ("plus x z", plus_takes(alloc, Form::Variable)),
-        ("same x x", same_takes(alloc, true)),
-        ("same x y", same_takes(alloc, false)),
-        ("one of 100", head_takes(alloc, 100, 101, 70)),
-        ("none of 100", head_takes(alloc, 100, 101, 100)),
-        ("one of 4095", head_takes(alloc, 4_095, 4_096, 4_000)),
-        ("one of 4096", head_takes(alloc, 4_096, 0, 4_000)),
-    ];
-    assert_eq!(rt; first_wrong(&rows), None, "of the selections");
+    assert_eq!(rt; first_wrong(rt.alloc()), Ok(None), "of the selections");
 }

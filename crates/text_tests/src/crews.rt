@@ -15,7 +15,7 @@ use std::sync::{Arc, Wait};
 use std::test::Fail;
 use std::thread::Threads;
 use task_board::{Board, ReaderPass, SealedPass, WorkerPass};
-use verdict_book::{Title, Titles};
+use verdict_book::{Shown, Title, Titles};
 use worker_crew::{Reading, run_crew, work};
 
 // The two jobs.
@@ -70,9 +70,9 @@ fn put_one<R: Wait>(
 fn titles_of(alloc: Global) -> Result<Titles, NoMemory> {
     let mut titles = Titles::new(alloc);
     for (name, _) in &JOBS {
-        let name = Listed::from_slice(alloc, name.as_bytes())?;
+        let shown = Shown::Name(Listed::from_slice(alloc, name.as_bytes())?);
         let place = Place::in_file(alloc, 9);
-        titles.push(&Title { name, place })?;
+        titles.push(&Title { shown, place })?;
     }
     Ok(titles)
 }
@@ -109,7 +109,7 @@ fn reports_without_threads<R: Wait + Abort>(rt: &R, alloc: Global) -> Result<boo
     last_works(rt, &board, &mut passes, &mut back);
     last_works(rt, &board, &mut passes, &mut back);
     let book = board.close(sealed, back);
-    is_reported(alloc, &book, &titles_of(alloc)?, REPORT)
+    is_reported(alloc, &book, &titles_of(alloc)?, false, REPORT)
 }
 
 /// Puts the jobs while a crew works.
@@ -179,7 +179,7 @@ fn reports_with_threads<R: Threads + Wait + Sync>(rt: &R, alloc: Global) -> Resu
     let (board, reader, passes) = Board::<Told>::new(alloc, 2)?;
     let (sealed, passes) = read_with_crew(rt, alloc, &board, &checker, reader, passes);
     let book = board.close(sealed, passes);
-    let reported = is_reported(alloc, &book, &titles_of(alloc)?, REPORT)?;
+    let reported = is_reported(alloc, &book, &titles_of(alloc)?, false, REPORT)?;
     Ok(reported && checker.met.load(Ordering::SeqCst) == 2)
 }
 

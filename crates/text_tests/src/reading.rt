@@ -139,7 +139,8 @@ fn reads_up_to_the_first_fault(alloc: Global) -> Result<Option<&'static str>, Fa
         ("a : Type.\n\n b\n b.", 1, refused(3, Code::E02)),
         ("a : Type. $", 1, refused(1, Code::E01)),
         (".", 0, refused(1, Code::E02)),
-        ("#CHECK m.", 0, refused(1, Code::E06)),
+        ("#CONV m.", 0, refused(1, Code::E06)),
+        ("a : Type. #CHECK a", 1, refused(1, Code::E03)),
         ("#NAME m.\na : Type. #NAME n.", 3, WHOLE),
         (
             "#REQUIRE m.\na : m.b.\n\n#REQUIRE",
@@ -212,6 +213,11 @@ fn reads_each_form_of_command(alloc: Global) -> Result<Option<&'static str>, Fai
         ("[] g {c} --> a. [] {c} --> a.", 2),
         ("{m.n} [] f --> a {r} [] g --> b. x : Type.", 2),
         ("[x : a -> b, y] f (_ => x) {m.n} --> x.", 1),
+        // queries
+        ("#CHECK x : a -> b. #CHECK x == y => y.", 2),
+        ("#ASSERT f x (y => z) : (x : a) -> b. #ASSERT _ == _.", 2),
+        ("#CHECK ((x : a) -> b) : Type. #CHECK (x : a => b) == c.", 2),
+        ("#INFER x : a => b. #EVAL x. a : Type.", 3),
     ] {
         if !is_told(alloc, text, READING, taken, None, WHOLE)? {
             return Ok(Some(text));
@@ -254,6 +260,17 @@ fn refuses_what_is_no_command(alloc: Global) -> Result<Option<&'static str>, Fai
         "[] f {a --> b.",
         "[] --> a.",
         "{r} f : a.",
+        // queries
+        "#CHECK x.",
+        "#CHECK : a.",
+        "#ASSERT x := a.",
+        "#CHECK (x : a) -> b : Type.",
+        "#CHECK a -> b : Type.",
+        "#CHECK x => x == x => x.",
+        "#CHECK x : a == b.",
+        "#INFER x == y.",
+        "#EVAL [x] y.",
+        "#INFER.",
     ] {
         if !is_told(alloc, text, READING, 0, None, end)? {
             return Ok(Some(text));
@@ -313,6 +330,9 @@ fn counts_the_levels_of_parameters_and_rules(alloc: Global) -> Result<Option<&'s
         ("[] f a b --> c.", 2),
         ("[] f (a) {b} --> c.", 2),
         ("[x : (a)] f --> c.", 1),
+        ("#CHECK (f a) b : a -> b.", 1),
+        ("#ASSERT (f a) == (f b) -> (c).", 2),
+        ("#EVAL (f a) -> (b).", 2),
     ] {
         if !takes_levels(alloc, text, levels)? {
             return Ok(Some(text));

@@ -11,9 +11,10 @@ use std::alloc::Global;
 use std::process::Abort;
 use std::sync::Arc;
 use std::test::Fail;
-use verdict_book::{Title, Titles, first_fault, write_report};
+use verdict_book::{Shown, Title, Titles, first_fault, write_report};
 
 // How the reader ends, at line 20 of a module's file where it ends at a place.
+#[derive(Drop)]
 enum Ends {
     Whole,
     Fault(&'static str, Verdict),
@@ -23,11 +24,23 @@ enum Ends {
     Nothing,
 }
 
-// The report with the folder `lib/`, the jobs with the module of each, its name, the verdict that it is answered with and whether
-// it is settled, the end, and the first fault. Job K stands at line K + 10.
+// What is shown of a job.
+#[derive(Drop)]
+enum Says {
+    Name(&'static str),
+    Asserted,
+    Yes,
+    No,
+    Of(&'static str),
+    Value(&'static str),
+}
+
+// The report with the folder `lib/`, the jobs with the module of each, what is shown of it, the verdict that it is answered with
+// and whether it is settled, the end, and the first fault. Job K stands at line K + 10.
+#[derive(Drop)]
 struct Row {
     text: &'static str,
-    jobs: &'static [(&'static str, &'static str, Verdict, bool)],
+    jobs: &'static [(&'static str, Says, Verdict, bool)],
     end: Ends,
     fault: Option<(u32, Verdict)>,
 }
@@ -42,8 +55,8 @@ const ROWS: [Row; 17] = [
     Row {
         text: "ok 1 a\nok 2 b\naccepted 2\n",
         jobs: &[
-            ("", "a", Verdict::Accepted, false),
-            ("", "b", Verdict::Accepted, true),
+            ("", Says::Name("a"), Verdict::Accepted, false),
+            ("", Says::Name("b"), Verdict::Accepted, true),
         ],
         end: Ends::Whole,
         fault: None,
@@ -51,9 +64,9 @@ const ROWS: [Row; 17] = [
     Row {
         text: "ok 1 a\nrefused 2 line 12 E21\n",
         jobs: &[
-            ("", "a", Verdict::Accepted, false),
-            ("", "b", Verdict::Refused(Code::E21), false),
-            ("", "c", Verdict::Refused(Code::E20), false),
+            ("", Says::Name("a"), Verdict::Accepted, false),
+            ("", Says::Name("b"), Verdict::Refused(Code::E21), false),
+            ("", Says::Name("c"), Verdict::Refused(Code::E20), false),
         ],
         end: Ends::Whole,
         fault: Some((2, Verdict::Refused(Code::E21))),
@@ -61,33 +74,33 @@ const ROWS: [Row; 17] = [
     Row {
         text: "ok 1 a\nbudget 2 line 12 7\n",
         jobs: &[
-            ("", "a", Verdict::Accepted, true),
-            ("", "b", Verdict::Ended, false),
+            ("", Says::Name("a"), Verdict::Accepted, true),
+            ("", Says::Name("b"), Verdict::Ended, false),
         ],
         end: Ends::Unread("m"),
         fault: Some((2, Verdict::Ended)),
     },
     Row {
         text: "memory 1 line 11\n",
-        jobs: &[("", "a", Verdict::Memory, false)],
+        jobs: &[("", Says::Name("a"), Verdict::Memory, false)],
         end: Ends::Fault("", Verdict::Ended),
         fault: Some((1, Verdict::Memory)),
     },
     Row {
         text: "ok 1 a\nunread 2\n",
-        jobs: &[("", "a", Verdict::Accepted, false)],
+        jobs: &[("", Says::Name("a"), Verdict::Accepted, false)],
         end: Ends::Unread(""),
         fault: None,
     },
     Row {
         text: "ok 1 a\nrefused 2 line 20 E02\n",
-        jobs: &[("", "a", Verdict::Accepted, false)],
+        jobs: &[("", Says::Name("a"), Verdict::Accepted, false)],
         end: Ends::Fault("", Verdict::Refused(Code::E02)),
         fault: Some((2, Verdict::Refused(Code::E02))),
     },
     Row {
         text: "ok 1 a\nmemory 2 line 20\n",
-        jobs: &[("", "a", Verdict::Accepted, false)],
+        jobs: &[("", Says::Name("a"), Verdict::Accepted, false)],
         end: Ends::Fault("", Verdict::Memory),
         fault: Some((2, Verdict::Memory)),
     },
@@ -100,10 +113,10 @@ const ROWS: [Row; 17] = [
     Row {
         text: "ok 1 m.a\nok 2 n.{|b|}\nok 3 m.c\nok 4 d\naccepted 4\n",
         jobs: &[
-            ("m", "a", Verdict::Accepted, false),
-            ("n", "{|b|}", Verdict::Accepted, true),
-            ("m", "c", Verdict::Accepted, false),
-            ("", "d", Verdict::Accepted, false),
+            ("m", Says::Name("a"), Verdict::Accepted, false),
+            ("n", Says::Name("{|b|}"), Verdict::Accepted, true),
+            ("m", Says::Name("c"), Verdict::Accepted, false),
+            ("", Says::Name("d"), Verdict::Accepted, false),
         ],
         end: Ends::Whole,
         fault: None,
@@ -111,9 +124,9 @@ const ROWS: [Row; 17] = [
     Row {
         text: "ok 1 a\nrefused 2 line 12 E21 in lib/m.dk\n",
         jobs: &[
-            ("", "a", Verdict::Accepted, false),
-            ("m", "b", Verdict::Refused(Code::E21), false),
-            ("", "c", Verdict::Refused(Code::E20), false),
+            ("", Says::Name("a"), Verdict::Accepted, false),
+            ("m", Says::Name("b"), Verdict::Refused(Code::E21), false),
+            ("", Says::Name("c"), Verdict::Refused(Code::E20), false),
         ],
         end: Ends::Unopened("n"),
         fault: Some((2, Verdict::Refused(Code::E21))),
@@ -121,27 +134,27 @@ const ROWS: [Row; 17] = [
     Row {
         text: "ok 1 m.a\nbudget 2 line 12 7\n",
         jobs: &[
-            ("m", "a", Verdict::Accepted, true),
-            ("", "b", Verdict::Ended, false),
+            ("m", Says::Name("a"), Verdict::Accepted, true),
+            ("", Says::Name("b"), Verdict::Ended, false),
         ],
         end: Ends::Whole,
         fault: Some((2, Verdict::Ended)),
     },
     Row {
         text: "memory 1 line 11 in lib/n.dk\n",
-        jobs: &[("n", "a", Verdict::Memory, false)],
+        jobs: &[("n", Says::Name("a"), Verdict::Memory, false)],
         end: Ends::Whole,
         fault: Some((1, Verdict::Memory)),
     },
     Row {
         text: "ok 1 a\nunread 2 in lib/m.dk\n",
-        jobs: &[("", "a", Verdict::Accepted, false)],
+        jobs: &[("", Says::Name("a"), Verdict::Accepted, false)],
         end: Ends::Unread("m"),
         fault: None,
     },
     Row {
         text: "ok 1 m.a\nunopened lib/n.dk\n",
-        jobs: &[("m", "a", Verdict::Accepted, false)],
+        jobs: &[("m", Says::Name("a"), Verdict::Accepted, false)],
         end: Ends::Unopened("n"),
         fault: None,
     },
@@ -153,11 +166,30 @@ const ROWS: [Row; 17] = [
     },
     Row {
         text: "ok 1 a\nmemory 2 line 20 in lib/m.dk\n",
-        jobs: &[("", "a", Verdict::Accepted, false)],
+        jobs: &[("", Says::Name("a"), Verdict::Accepted, false)],
         end: Ends::Fault("m", Verdict::Memory),
         fault: Some((2, Verdict::Memory)),
     },
 ];
+
+// The lines of queries, of which a quiet report drops that of `#ASSERT` alone; numbers count on.
+const QUERIES: Row = Row {
+    text: "ok 1 m.a\nok 2 #ASSERT\nyes 3\nno 4\ntype 5 nat -> nat\nvalue 6 s m.z\nok 7 b\nno 8\naccepted 8\n",
+    jobs: &[
+        ("m", Says::Name("a"), Verdict::Accepted, false),
+        ("m", Says::Asserted, Verdict::Accepted, false),
+        ("m", Says::Yes, Verdict::Accepted, true),
+        ("", Says::No, Verdict::Accepted, true),
+        ("m", Says::Of("nat -> nat"), Verdict::Accepted, true),
+        ("", Says::Value("s m.z"), Verdict::Accepted, true),
+        ("", Says::Name("b"), Verdict::Accepted, false),
+        ("m", Says::No, Verdict::Accepted, true),
+    ],
+    end: Ends::Whole,
+    fault: None,
+};
+
+const QUIET: &str = "yes 3\nno 4\ntype 5 nat -> nat\nvalue 6 s m.z\nno 8\naccepted 8\n";
 
 fn module_of<R: Abort>(rt: &R, alloc: Global, module: &str) -> Listed<u8> {
     Listed::from_slice(alloc, module.as_bytes()).expect(rt, "memory for a module")
@@ -180,11 +212,26 @@ fn end_of<R: Abort>(rt: &R, alloc: Global, end: &Ends) -> End {
     }
 }
 
+fn listed<R: Abort>(rt: &R, alloc: Global, text: &str) -> Listed<u8> {
+    Listed::from_slice(alloc, text.as_bytes()).expect(rt, "memory for a text")
+}
+
+fn shown_of<R: Abort>(rt: &R, alloc: Global, says: &Says) -> Shown {
+    match says {
+        Says::Name(name) => Shown::Name(listed(rt, alloc, name)),
+        Says::Asserted => Shown::Asserted,
+        Says::Yes => Shown::Yes,
+        Says::No => Shown::No,
+        Says::Of(term) => Shown::Of(listed(rt, alloc, term)),
+        Says::Value(term) => Shown::Value(listed(rt, alloc, term)),
+    }
+}
+
 // A book with these jobs, which nobody has claimed, and their titles.
 fn put_jobs<R: Abort>(
     rt: &R,
     alloc: Global,
-    jobs: &[(&str, &str, Verdict, bool)],
+    jobs: &[(&str, Says, Verdict, bool)],
     titles: &mut Titles,
 ) -> Book<Verdict>
     ensures unsealed { list_any is_seal result.events ≡ false }
@@ -192,13 +239,13 @@ fn put_jobs<R: Abort>(
 {
     let mut book: Book<Verdict> = Book::new(alloc).expect(rt, "memory for a book");
     let mut line = 11;
-    for (module, name, verdict, settled) in jobs {
+    for (module, says, verdict, settled) in jobs {
         assert!(rt; line < 100);
         put_job(rt, alloc, &mut book, *verdict, *settled);
-        let name = Listed::from_slice(alloc, name.as_bytes()).expect(rt, "memory for a name");
+        let shown = shown_of(rt, alloc, says);
         let place = place_in(rt, alloc, module, line);
         titles
-            .push(&Title { name, place })
+            .push(&Title { shown, place })
             .expect(rt, "memory for a title");
         line += 1;
     }
@@ -281,33 +328,48 @@ pub fn is_reported(
     alloc: Global,
     book: &Book<Verdict>,
     titles: &Titles,
+    quiet: bool,
     text: &str,
 ) -> Result<bool, Fail>
     requires finished { IsFinished (marks_of book.now.jobs) book.now.events }
 {
     let mut sink = MemSink::new(alloc, 1000, 7, Vec::new(alloc))?;
     let wrote = titles.len() == book.len()
-        && write_report(book, titles, 7, false, "lib/", &mut sink).is_ok();
+        && write_report(book, titles, 7, quiet, "lib/", &mut sink).is_ok();
     Ok(wrote && sink.bytes() == text.as_bytes())
 }
 
-// Whether the row's jobs, put, sealed and answered, have its report and its first fault.
-fn is_row<R: Abort>(rt: &R, alloc: Global, row: &Row) -> Result<bool, Fail> {
+// Whether the row's jobs, put, sealed and answered, have its first fault, and this report.
+fn is_row<R: Abort>(
+    rt: &R,
+    alloc: Global,
+    row: &Row,
+    quiet: bool,
+    text: &str,
+) -> Result<bool, Fail> {
     let mut titles = Titles::new(alloc);
     let mut book = put_jobs(rt, alloc, row.jobs, &mut titles);
     seal(rt, &mut book, end_of(rt, alloc, &row.end));
     answer_all(rt, &mut book);
-    Ok(first_fault(&book) == row.fault && is_reported(alloc, &book, &titles, row.text)?)
+    Ok(first_fault(&book) == row.fault && is_reported(alloc, &book, &titles, quiet, text)?)
 }
 
 #[test]
 fn tells_the_first_fault_or_the_end(rt: HostRuntime) -> Result<(), Fail> {
     for row in &ROWS {
         assert!(rt;
-            is_row(&rt, rt.alloc(), row)?,
+            is_row(&rt, rt.alloc(), row, false, row.text)?,
             "where {:?} is due",
             row.text
         );
     }
+    Ok(())
+}
+
+#[test]
+fn tells_what_queries_found_where_it_is_quiet_too(rt: HostRuntime) -> Result<(), Fail> {
+    let alloc = rt.alloc();
+    assert!(rt; is_row(&rt, alloc, &QUERIES, false, QUERIES.text)?);
+    assert!(rt; is_row(&rt, alloc, &QUERIES, true, QUIET)?);
     Ok(())
 }

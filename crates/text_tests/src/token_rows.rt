@@ -13,7 +13,7 @@ pub enum Limit {
 /// The text, the limit, the tokens, the fault, and the line at the end.
 pub type Row<'a> = (&'a [u8], Limit, &'static str, Option<Code>, u32);
 
-pub const ROWS: [Row<'static>; 100] = [
+pub const ROWS: [Row<'static>; 103] = [
     (
         b"a.b c.",
         Limit::Standard,
@@ -109,6 +109,9 @@ pub const ROWS: [Row<'static>; 100] = [
     (b"- ", Limit::Standard, "", Some(Code::E01), 1),
     (b"--x", Limit::Standard, "", Some(Code::E01), 1),
     (b"=a", Limit::Standard, "", Some(Code::E01), 1),
+    (b"a==b", Limit::Standard, " plain 0 == 1 plain 3", None, 1),
+    (b"===>", Limit::Standard, " == 0 => 2", None, 1),
+    (b"=== ", Limit::Standard, " == 0", Some(Code::E01), 1),
     (b"#5", Limit::Standard, "", Some(Code::E01), 1),
     (b"a._", Limit::Standard, "", Some(Code::E01), 1),
     (b"a._ ", Limit::Standard, "", Some(Code::E01), 1),

@@ -38,6 +38,7 @@ fn sign_text(sign: Sign) -> &'static str {
         Sign::CloseSquare => "]",
         Sign::OpenBrace => "{",
         Sign::CloseBrace => "}",
+        Sign::Equal => "==",
     }
 }
 

@@ -1,4 +1,0 @@
-use Rattle.term_tests.proofs.versions.counted.Given as goal
-
-abbrev pub ghosts-append_counted : goal.ghosts-append_counted
-ghosts-append_counted a = record { name = a.blank.name; parts = a.blank.parts }
