@@ -18,6 +18,11 @@ def commands(number):
     return b''.join(texts)
 
 
+def queries(number):
+    """That many queries, ten on a line."""
+    return b''.join(b'#CHECK Type == Type.' + (b'\n' if place % 10 == 0 else b' ') for place in range(1, number + 1))
+
+
 def open_comment(deep):
     """A comment that nests so deep, then a declaration."""
     return b'(;' * deep + b' x ' + b';)' * deep + b'\na : Type.\nb : (;;) a.\n'
@@ -79,6 +84,7 @@ FILES = {
     'command_past_limit': lambda: command_of(COMMAND + 1),
     'commands_at_limit': lambda: commands(COMMANDS),
     'commands_past_limit': lambda: commands(COMMANDS) + b'\nx1 : unknown.\n',
+    'queries_past_limit': lambda: queries(COMMANDS) + b'\n#ASSERT unknown == unknown.\n',
     'comment_100000_deep': lambda: open_comment(100000),
     'arrows_1000': lambda: b'a : Type.\nf : ' + b'a -> ' * 1000 + b'a.\n',
     'arrows_1001': lambda: b'a : Type.\nf : ' + b'a -> ' * 1001 + b'a.\n',
@@ -116,7 +122,7 @@ FILES = {
     'patterns_1001': lambda: b'a : Type.\nx : a.\ndef f : a -> a.\n[] f' + b' x' * 1001 + b' --> x.\n',
 }
 LARGE = {'command_at_limit', 'command_past_limit', 'commands_at_limit', 'commands_past_limit', 'commands_past_limit_in_modules',
-         'arguments_of_1000_levels', 'left_arguments_of_900_levels'}
+         'queries_past_limit', 'arguments_of_1000_levels', 'left_arguments_of_900_levels'}
 
 
 def write(name, folder):

@@ -2,6 +2,7 @@
 import os
 import re
 
+from .terms import QUERIES
 from .texts import KEYWORDS, NAME_BYTES, TOKEN, behind_blanks, command_ends, place, tokens
 
 DECLARED = re.compile(rb"(?:(?:def|thm)(?![A-Za-z0-9_!?']))?[ \t\r\n]*(NAME|\{\|[^\n]*?\|\})".replace(b"NAME", NAME_BYTES))
@@ -112,13 +113,16 @@ class Command:
     def is_directive(self):
         return bool(self.tokens) and self.tokens[0].text in (b"#NAME", b"#REQUIRE")
 
+    def is_query(self):
+        return bool(self.tokens) and self.tokens[0].text in QUERIES
+
     def is_rules(self):
         return bool(self.tokens) and self.tokens[0].text in (b"[", b"{")
 
     def declared(self):
         """The token of the name that the command declares; of rules the head of the first."""
         words = self.tokens
-        if self.is_directive():
+        if self.is_directive() or self.is_query():
             return None
         if self.is_rules():
             closed = next((k for k, it in enumerate(words) if it.text == b"]"), len(words))
@@ -144,6 +148,9 @@ class Command:
     def with_parts(self, changes):
         """The text with parts of the command in the place of others: triples of a start, an end and what stands there."""
         parts, at = [self.before], self.start
+        if self.is_query() and self.tokens[0].text == b"#CHECK":
+            # What the check refuses is told of the demand alone.
+            changes = [*changes, (self.start, self.tokens[0].end, b"#ASSERT")]
         for start, end, instead in sorted(changes):
             parts += [self.text[at:start], instead]
             at = end

@@ -1,6 +1,6 @@
 """Faults of names, E10 to E13: which name of the command it is."""
 from .program import Unsure, first
-from .terms import Reader
+from .terms import ASKS_FOR_TWO, Reader
 from .texts import Place, place, readable
 
 
@@ -8,6 +8,7 @@ def named_in_terms(words, declared):
     """The names and wildcards of a command that aren't bound there, each with what may stand in its place: a wildcard in a left side,
     in any other place a term."""
     found, is_left, guards, at = [], False, 0, 0
+    asked = sign_of_query(words)
     while at < len(words):
         text = words[at].text
         behind = words[at + 1].text if at + 1 < len(words) else b""
@@ -22,10 +23,20 @@ def named_in_terms(words, declared):
         if text == b"-->":
             is_left = False
         guards += {b"{": 1, b"}": -1}.get(text, 0)
-        if words[at].is_name() and behind not in (b":", b"=>") and words[at] is not declared:
+        if words[at].is_name() and (behind not in (b":", b"=>") or at + 1 == asked) and words[at] is not declared:
             found.append((words[at], b"_" if is_left and guards == 0 else b"Type"))
         at += 1
     return found
+
+
+def sign_of_query(words):
+    """The place of the colon that stands between the terms of a query; None where none does."""
+    depth = 0
+    for at, it in enumerate(words if words and words[0].text in ASKS_FOR_TWO else []):
+        depth += {b"(": 1, b")": -1}.get(it.text, 0)
+        if depth == 0 and it.text == b":":
+            return at
+    return None
 
 
 def entries(words, at, found):

@@ -33,28 +33,48 @@ class Program:
 
     def report_of(self, name):
         """The last line of the quiet report on a file of this name, and the status, as a shell has it."""
+        lines, status = self.lines_of(name)
+        return (lines or [b""])[-1], status
+
+    def lines_of(self, name):
+        """The lines of the quiet report, and the status."""
         budget = [] if self.budget is None else ["--budget", self.budget]
         words = [self.path, "check", *budget, "--quiet", "--", name]
         begun = time.monotonic()
         done = subprocess.run(words, stdin=subprocess.DEVNULL, stdout=subprocess.PIPE, check=False)
         self.seconds = time.monotonic() - begun
         status = done.returncode if done.returncode >= 0 else 128 - done.returncode
-        return (done.stdout.split(b"\n")[:-1] or [b""])[-1], status
+        return done.stdout.split(b"\n")[:-1], status
 
     def answer(self, text):
         """The last line's first word and its code or budget, on a file of this text; where another file is named it is accepted."""
-        self.runs += 1
-        path = os.path.join(self.folder, self.book)
-        if os.path.lexists(path):
-            os.unlink(path)
-        with open(path, "wb") as file:
-            file.write(text)
+        path = self.put(text)
         last = self.report_of(os.path.join(self.folder, self.file))[0]
         said, _, named = last.partition(b" in ")
         words = said.split()
         if named != (b"" if self.book == self.file else os.fsencode(path)) and words[:1] != [b"unopened"]:
             return b"accepted", b""
         return (words[0], words[-1]) if words else (b"", b"")
+
+
+    def put(self, text):
+        """Writes the text that is asked about, and tells where."""
+        self.runs += 1
+        path = os.path.join(self.folder, self.book)
+        if os.path.lexists(path):
+            os.unlink(path)
+        with open(path, "wb") as file:
+            file.write(text)
+        return path
+
+    def typed(self, text):
+        """The type that is printed of the last command of a text; None where the text isn't accepted, or no FILE of its own."""
+        if self.book != self.file:
+            return None
+        lines, _ = self.lines_of(self.put(text))
+        if len(lines) < 2 or not lines[-1].startswith(b"accepted ") or not lines[-2].startswith(b"type "):
+            return None
+        return lines[-2].split(b" ", 2)[2]
 
 
 def first(low, high, holds):

@@ -3,6 +3,9 @@ import sys
 
 sys.setrecursionlimit(20000)
 
+ASKS_FOR_TWO = (b"#CHECK", b"#ASSERT")
+QUERIES = (*ASKS_FOR_TWO, b"#INFER", b"#EVAL")
+
 
 class Unread(Exception):
     """The command's form isn't one that this script takes apart."""
@@ -158,6 +161,23 @@ class Reader:
             found.append(self.rule())
         self.expect(b".")
         return found
+
+
+class Query:
+    """A query: its word, the term before its sign, the sign, and the term behind it; of a query of one term no sign."""
+
+    def __init__(self, words):
+        reader = Reader(words, 1)
+        self.word, self.sign, self.right = words[0].text, None, None
+        if self.word in ASKS_FOR_TWO:
+            self.left, self.sign = reader.application(reader.atom), reader.sign()
+            if self.sign not in (b":", b"=="):
+                raise Unread
+            reader.at += 1
+            self.right = reader.term()
+        else:
+            self.left = reader.term()
+        reader.expect(b".")
 
 
 class Declaration:

@@ -5,7 +5,7 @@ NAME_BYTES = rb"[A-Za-z0-9_!?][A-Za-z0-9_!?']*"
 TOKEN = re.compile(
     rb"""(?P<blank>[ \t\r\n]+)|(?P<quoted>\{\|[^\n]*?\|\})|(?P<word>\#[A-Za-z]+)
     |(?P<name>NAME(?:\.(?:NAME|\{\|[^\n]*?\|\}))?)
-    |(?P<sign>-->|->|=>|:=|\{(?!\|)|[:.,()\[\]}])""".replace(b"NAME", NAME_BYTES),
+    |(?P<sign>-->|->|=>|==|:=|\{(?!\|)|[:.,()\[\]}])""".replace(b"NAME", NAME_BYTES),
     re.X,
 )
 COMMENT_SIGN = re.compile(rb"\(;|;\)")
@@ -36,6 +36,7 @@ class Place:
 
     def __init__(self, at, text, said, declared=None):
         self.at, self.text, self.said, self.declared = at, text, said, declared
+        self.term, self.types = None, []
 
 
 def behind_comment(text, start):

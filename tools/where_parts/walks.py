@@ -62,6 +62,10 @@ class Walk:
             raise Unsure
         return behind - 1
 
+    def is_past(self, term):
+        """Whether the fault comes when all parts have their types; this term is the last that is typed by itself."""
+        return self.last_before_fault() == len(self.parts) - 1 and self.answers(term, self.applied_to_mark(term))
+
     def ending_with(self, number):
         """The parts that end with this one, from it outwards, but for abstractions, which have no type of their own to compare."""
         term, found = self.parts[number], []
@@ -114,7 +118,9 @@ class Walk:
         declared = None
         if term.parent is not None and term.parent.form == "application":
             declared = self.command.spelt(self.command.argument(term)[0]).strip(b"() ")
-        return Place(self.command.tokens[term.first].start, self.command.spelt(term), said, declared)
+        place = Place(self.command.tokens[term.first].start, self.command.spelt(term), said, declared)
+        place.term = term
+        return place
 
     def in_place(self, term):
         """What a part is to what stands round it."""
