@@ -72,3 +72,12 @@ pub data Rests (commands : List PlainCommand) (k : ℕ) : ℕ → Type 0 where
 pub record IsClosed (commands : List PlainCommand) (k : ℕ) (keep : ℕ → Bool) : Type 0 where
   pub mentions : (i j : ℕ) (c : PlainCommand) → keep i ≡ true → slice_get commands i ≡ Some c → Contains (symbols_of c) j → keep j ≡ true
   pub rules : (i j : ℕ) (c : PlainCommand) → keep i ≡ true → j < k → slice_get commands j ≡ Some c → Contains (heads_of c) i → keep j ≡ true
+
+-- each command mentions only what stands before it
+abbrev pub MentionBefore : List PlainCommand → Type 0
+MentionBefore commands = (i j : ℕ) (c : PlainCommand) → slice_get commands i ≡ Some c → Contains (symbols_of c) j → j < i
+
+-- each is below all later ones
+abbrev pub IsAscending : List ℕ → Type 0
+IsAscending [] = Unit {0}
+IsAscending (x ∷ xs) = ((y : ℕ) → Contains xs y → x < y) × IsAscending xs

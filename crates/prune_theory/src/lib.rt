@@ -5,6 +5,8 @@
 #![tactic(auto)]
 
 pub mod laws;
+mod resting;
 mod symbols;
 
+pub use resting::rests;
 pub use symbols::{heads, mentions};
