@@ -90,7 +90,8 @@ fn mark(marks: &mut Vec<bool>, place: u32)
 #[tactic(auto, using(crate::proofs::Reached::reaches_seen, crate::proofs::Reached::reaches_new))]
 fn reach(marks: &mut Vec<bool>, waiting: &mut Vec<u32>, place: u32) -> Result<(), NoMemory>
     requires { place < length marks.old.items }
-    ensures { OnOk result (Reaches marks.old.items waiting.old.items marks.new.items waiting.new.items
+    ensures { OnOk result (Reaches marks.old.items waiting.old.items
+        marks.new.items waiting.new.items
         (place ∷ [])) }
 {
     if !marks[place as usize] {
@@ -104,7 +105,8 @@ fn reach(marks: &mut Vec<bool>, waiting: &mut Vec<u32>, place: u32) -> Result<()
 #[tactic(auto, using(crate::proofs::Reached::below_first, crate::proofs::Reached::below_rest, crate::proofs::Reached::leads_all, crate::proofs::Reached::leads_more, crate::proofs::Reached::leads_end, crate::proofs::Reached::same_count))]
 fn reach_all(marks: &mut Vec<bool>, waiting: &mut Vec<u32>, places: &[u32]) -> Result<(), NoMemory>
     requires { AllBelow (length marks.old.items) places.now }
-    ensures { OnOk result (Reaches marks.old.items waiting.old.items marks.new.items waiting.new.items
+    ensures { OnOk result (Reaches marks.old.items waiting.old.items
+        marks.new.items waiting.new.items
         places.now) }
 {
     let mut rest = places;

@@ -64,7 +64,8 @@ fn add_notes(found: &mut Vec<u32>, notes: &[Option<Term>]) -> Result<(), NoMemor
 /// Adds those of a left side.
 #[tactic(auto, using(crate::proofs::Adding::both_added))]
 fn add_left(found: &mut Vec<u32>, left: &Left) -> Result<(), NoMemory>
-    ensures { OnOk result (found.new.items ≡ found.old.items ++ left_symbols (plain_left left.now)) }
+    ensures { OnOk result
+        (found.new.items ≡ found.old.items ++ left_symbols (plain_left left.now)) }
 {
     match left {
         Left::Sym(k) => Ok(found.push(*k)?),
