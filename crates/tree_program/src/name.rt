@@ -1,4 +1,4 @@
-//! The name in the `ok` line of a command.
+//! What the `ok` line of a command shows.
 ghost use Rattle.std.specs.Prelude.{◌≡◌, ◌++◌, IfOk};
 ghost use Rattle.dk_parser.specs.RawViews.{written_form, written_pattern};
 ghost use Rattle.file_report.specs.Outcomes.{head_name, shown_name, spelt};
@@ -6,9 +6,18 @@ ghost use Rattle.file_report.specs.Outcomes.{head_name, shown_name, spelt};
 use dk_model::{Listed, NoMemory};
 use dk_parser::{RawForm, RawPat};
 use std::alloc::Global;
+use verdict_book::Shown;
+
+/// The name of a command, or that an assertion holds.
+pub fn shown_of(alloc: Global, form: &RawForm) -> Result<Shown, NoMemory> {
+    match form {
+        RawForm::Query { .. } => Ok(Shown::Asserted),
+        _ => Ok(Shown::Name(shown_name(alloc, form)?)),
+    }
+}
 
 /// The declared name, or that at the head of the first rule (docs/report.md).
-pub fn shown_name(alloc: Global, form: &RawForm) -> Result<Listed<u8>, NoMemory>
+fn shown_name(alloc: Global, form: &RawForm) -> Result<Listed<u8>, NoMemory>
     ensures { IfOk result (λ name. name ≡ shown_name (written_form form.now)) }
 {
     match form {

@@ -5,16 +5,16 @@ ghost use Rattle.board_core.specs.Machine.{IsFinished, marks_of};
 ghost use Rattle.verdict_book.specs.Stops.{EndsByItself};
 ghost use Rattle.tree_program.specs.Trials.{GoesOn};
 
-use crate::shown::shown_of;
+use crate::name::shown_of;
 use crate::tried::Tried;
 use board_core::{End, Place};
-use command_check::{enter_command, entry_of, is_answered, query};
+use command_check::{enter_command, is_answered};
 use dk_io::Shelf;
-use dk_model::{Code, Entry, Fault, Limits, NoMemory, Scoped, TypeFault, Verdict};
+use dk_model::{Code, Entry, Fault, Limits, NoMemory, Scoped, Verdict};
 use dk_parser::Raw;
 use file_reader::{ReadEnd, Reader};
 use scope_terms::Names;
-use shared_term::{Found, Stored};
+use shared_term::Stored;
 use signature_log::Version;
 use std::alloc::Global;
 use std::sync::Arc;
@@ -81,46 +81,18 @@ impl Trial {
             return Err(Verdict::Refused(Code::E08));
         }
         let command = scoped(alloc, &mut self.names, raw)?;
-        let (entry, found) = self.find(alloc, &command)?;
-        let Ok(shown) = shown_of(alloc, &self.names, &raw.form, found.as_ref()) else {
-            return Err(Verdict::Memory);
-        };
-        let title = Title {
-            shown,
-            place: Place::in_file(alloc, raw.line),
-        };
-        match self.add(alloc, &title, entry) {
+        if is_answered(&command) {
+            return Err(Verdict::Refused(Code::E06));
+        }
+        let entry = enter_command(&mut self.trees, &self.version, &command, self.budget)?;
+        match self.add(alloc, raw, entry) {
             Ok(()) => Ok(()),
             Err(NoMemory) => Err(Verdict::Memory),
         }
     }
 
-    // The entry of an accepted command, and of a query what it found; or the verdict.
-    fn find(
-        &mut self,
-        alloc: Global,
-        command: &Scoped,
-    ) -> Result<(Entry<Stored>, Option<Found>), Verdict>
-        requires { GoesOn self.old }
-        ensures goes_on { GoesOn self.new }
-        ensures kept { self.new.most ≡ self.old.most }
-        ensures titles { self.new.tried ≡ self.old.tried }
-        ensures refused { IfErr result (λ v. ¬ (v ≡ Verdict.Accepted)) }
-    {
-        if !is_answered(command) {
-            let entry = enter_command(&mut self.trees, &self.version, command, self.budget)?;
-            return Ok((entry, None));
-        }
-        let found = query(&mut self.trees, &self.version, command, self.budget)?;
-        match entry_of(alloc, &self.version, command, None) {
-            Ok(entry) => Ok((entry, Some(found))),
-            Err(TypeFault::Refused(code)) => Err(Verdict::Refused(code)),
-            Err(_) => Err(Verdict::Memory),
-        }
-    }
-
     // Adds an accepted command.
-    fn add(&mut self, alloc: Global, title: &Title, entry: Entry<Stored>) -> Result<(), NoMemory>
+    fn add(&mut self, alloc: Global, raw: &Raw, entry: Entry<Stored>) -> Result<(), NoMemory>
         requires goes_on { GoesOn self.old }
         requires few { length self.old.tried.titles < self.old.most }
         ensures goes_on { GoesOn self.new }
@@ -132,7 +104,11 @@ impl Trial {
             return Err(NoMemory);
         };
         self.version = version;
-        self.tried.add(alloc, title)
+        let title = Title {
+            shown: shown_of(alloc, &raw.form)?,
+            place: Place::in_file(alloc, raw.line),
+        };
+        self.tried.add(alloc, &title)
     }
 }
 
