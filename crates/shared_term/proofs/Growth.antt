@@ -10,7 +10,7 @@ use Rattle.dk_model.specs.declared.NodeOf.TheVariants.{Star, Kind, Sym, Var, Rva
 use Rattle.shared_term.specs.declared.id.TermId.{TermId}
 use Rattle.shared_term.specs.declared.summary.Summary.{Summary}
 use Rattle.shared_term.specs.Summaries.{IsSummary, AreSummaries, blank, summary_at, node_summary}
-use Rattle.shared_term.proofs.Summing.{only_itself, both_right, inside_right, annotated_right, product_right}
+use Rattle.shared_term.proofs.Summing.{both_right, inside_right, annotated_right, product_right}
 use Rattle.shared_term.specs.Pools.{Node, at, denoted, IsWithin, terms_after, terms, IsPool, Extends}
 
 pub no_terms : terms [] ≡ []
@@ -191,11 +191,11 @@ pool-push ns n h w new = record {
 
 summary_right : (ss : List Summary) (ts : List Tree) (n : ℕ) (m : Node) → ((i : ℕ) → i < n → IsSummary (get_or ss i blank) (get_or ts i star)) → IsWithin n m
     → IsSummary (node_summary ss m) (denoted ts m)
-summary_right ss ts n Star h w = record { closed = tt; ruled = tt; plain = λ e. tt }
-summary_right ss ts n Kind h w = record { closed = tt; ruled = tt; plain = λ e. tt }
-summary_right ss ts n (Sym k) h w = record { closed = tt; ruled = tt; plain = λ e. tt }
-summary_right ss ts n (Var k) h w = record { closed = omega arith; ruled = tt; plain = λ e. tt }
-summary_right ss ts n (Rvar k) h w = record { closed = tt; ruled = only_itself k; plain = λ e. tt }
+summary_right ss ts n Star h w = record { closed = tt; ruled = λ e. tt; plain = λ e. tt }
+summary_right ss ts n Kind h w = record { closed = tt; ruled = λ e. tt; plain = λ e. tt }
+summary_right ss ts n (Sym k) h w = record { closed = tt; ruled = λ e. tt; plain = λ e. tt }
+summary_right ss ts n (Var k) h w = record { closed = omega arith; ruled = λ e. tt; plain = λ e. tt }
+summary_right ss ts n (Rvar k) h w = record { closed = tt; ruled = λ e. absurd (true≢false e); plain = λ e. tt }
 summary_right ss ts n (App f a) h w = both_right (summary_at ss f) (summary_at ss a) (at ts f) (at ts a) (h f.0 w.0) (h a.0 w.1)
 summary_right ss ts n (Abs None b) h w = inside_right (summary_at ss b) (at ts b) (h b.0 w)
 summary_right ss ts n (Abs (Some a) b) h w = annotated_right (summary_at ss a) (summary_at ss b) (at ts a) (at ts b) (h a.0 w.0) (h b.0 w.1)

@@ -1,10 +1,10 @@
 -- Where a summary shows that a change leaves a term as it is.
-use Rattle.std.proofs.Common.{◌≡◌, ℕ, ◌+◌, ◌<◌, ◌≤◌, nat_lt, List, [], ◌∷◌, Option, Some, None, zero, suc, map, false, refl, ap, ◌∙◌, arith, if◌then◌else◌, true≢false, Bool, true}
+use Rattle.std.proofs.Common.{◌≡◌, ℕ, ◌+◌, ◌<◌, ◌≤◌, nat_lt, List, map, false, refl, ap, ◌∙◌, arith, if◌then◌else◌, true≢false, Bool, true}
 use Rattle.std.proofs.lemmas.Bool.Decides.{nat_tests}
 use Rattle.dk_model.specs.Trees.{Tree, star, kind, symbol, variable, rule_variable, apply, bare, annotated, product}
 use Rattle.dk_model.specs.Erasure.{erased}
 use Rattle.dk_model.specs.Substitution.{shift}
-use Rattle.dk_model.specs.Captures.{Captures, capture_at, filled, renamed}
+use Rattle.dk_model.specs.Captures.{Captures, filled, renamed}
 use Rattle.dk_model.specs.Bounds.{IsClosedAt}
 use Rattle.shared_term.specs.declared.id.TermId.{TermId}
 use Rattle.shared_term.specs.declared.change.Change.TheVariants.{Shift, Substitute, SubstituteAll, Erase, Fill, Rename, Raise}
@@ -12,8 +12,8 @@ use Rattle.shared_term.specs.declared.change.Goal.{Goal}
 use Rattle.shared_term.specs.declared.change.Given.{Given}
 use Rattle.shared_term.specs.declared.summary.Summary.{Summary}
 use Rattle.shared_term.specs.Pools.{Node, term}
-use Rattle.shared_term.specs.Summaries.{IsSummary, AreUnfilled, MayStand, AreAmong, HasNoAnnotation}
-use Rattle.shared_term.specs.Changes.{changed, wanted, captured_terms, capture_id, is_other, others_raised}
+use Rattle.shared_term.specs.Summaries.{IsSummary, HasNoRuleVariable, HasNoAnnotation}
+use Rattle.shared_term.specs.Changes.{changed, wanted, captured_terms, is_other, others_raised}
 use Rattle.dk_model.proofs.Closed.{closed_further, shift_closed, substitute_closed}
 use Rattle.shared_term.proofs.Together.{all_closed}
 
@@ -28,23 +28,16 @@ erased_plain (bare b) h = ap bare (erased_plain b h)
 erased_plain (annotated n b) h = absurd h
 erased_plain (product a b) h = λ i. product (erased_plain a h.0 i) (erased_plain b h.1 i)
 
-filled_without : (cs : Captures) (w : ℕ) → ((k : ℕ) → MayStand w k → capture_at cs k ≡ None) → (u : ℕ) (t : Tree) → AreAmong w t → filled cs u t ≡ t
-filled_without cs w g u star h = refl
-filled_without cs w g u kind h = refl
-filled_without cs w g u (symbol k) h = refl
-filled_without cs w g u (variable k) h = refl
-filled_without cs w g u (rule_variable k) h = rw (g k h, filled) refl
-filled_without cs w g u (apply f a) h = λ i. apply (filled_without cs w g u f h.0 i) (filled_without cs w g u a h.1 i)
-filled_without cs w g u (bare b) h = ap bare (filled_without cs w g (u + 1) b h)
-filled_without cs w g u (annotated n b) h = λ i. annotated (filled_without cs w g u n h.0 i) (filled_without cs w g (u + 1) b h.1 i)
-filled_without cs w g u (product a b) h = λ i. product (filled_without cs w g u a h.0 i) (filled_without cs w g (u + 1) b h.1 i)
-
-no_capture : (ns : List Node) (cs : List (Option TermId)) (k : ℕ) → capture_id cs k ≡ None → capture_at (captured_terms ns cs) k ≡ None
-no_capture ns [] k e = refl
-no_capture ns (None ∷ cs) zero e = refl
-no_capture ns (Some i ∷ cs) zero e = cc
-no_capture ns (None ∷ cs) (suc k) e = no_capture ns cs k e
-no_capture ns (Some i ∷ cs) (suc k) e = no_capture ns cs k e
+pub filled_without : (cs : Captures) (u : ℕ) (t : Tree) → HasNoRuleVariable t → filled cs u t ≡ t
+filled_without cs u star h = refl
+filled_without cs u kind h = refl
+filled_without cs u (symbol k) h = refl
+filled_without cs u (variable k) h = refl
+filled_without cs u (rule_variable k) h = absurd h
+filled_without cs u (apply f a) h = λ i. apply (filled_without cs u f h.0 i) (filled_without cs u a h.1 i)
+filled_without cs u (bare b) h = ap bare (filled_without cs (u + 1) b h)
+filled_without cs u (annotated n b) h = λ i. annotated (filled_without cs u n h.0 i) (filled_without cs (u + 1) b h.1 i)
+filled_without cs u (product a b) h = λ i. product (filled_without cs u a h.0 i) (filled_without cs (u + 1) b h.1 i)
 
 unraised : (b : Bool) (k : ℕ) → variable (if b then k else (k + 0)) ≡ variable k
 unraised true k = refl
@@ -112,9 +105,9 @@ module _ (ns : List Node) (g : Given) (goal : Goal) (s : Summary) (h : IsSummary
   pub unchanged_erase : goal.change ≡ Erase → s.annotations ≡ false → wanted ns g goal ≡ term ns goal.id
   unchanged_erase e l = ap (λ c. changed ns g c goal.depth (term ns goal.id)) e ∙ erased_plain (term ns goal.id) (h.plain l)
 
-  pub unchanged_fill : goal.change ≡ Fill → AreUnfilled g.captures.now s.rule_variables → wanted ns g goal ≡ term ns goal.id
+  pub unchanged_fill : goal.change ≡ Fill → s.rule_variables ≡ false → wanted ns g goal ≡ term ns goal.id
   unchanged_fill e l = ap (λ c. changed ns g c goal.depth (term ns goal.id)) e
-      ∙ filled_without (captured_terms ns g.captures.now) s.rule_variables (λ k m. no_capture ns g.captures.now k (l k m)) goal.depth (term ns goal.id) h.ruled
+      ∙ filled_without (captured_terms ns g.captures.now) goal.depth (term ns goal.id) (h.ruled l)
 
   pub unchanged_rename : goal.change ≡ Rename → s.bound ≤ goal.depth → wanted ns g goal ≡ term ns goal.id
   unchanged_rename e l = ap (λ c. changed ns g c goal.depth (term ns goal.id)) e

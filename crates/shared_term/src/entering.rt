@@ -4,13 +4,11 @@ ghost use Rattle.dk_model.specs.Trees.{variable, rule_variable};
 ghost use Rattle.dk_model.specs.Captures.{is_in, index_of};
 ghost use Rattle.shared_term.specs.Pools.{term, terms, denoted, Extends, IsWithin};
 ghost use Rattle.shared_term.specs.Changes.{IsAsked, IsErase, capture_id, from_last, is_other, wanted};
-ghost use Rattle.shared_term.specs.Summaries.{AreUnfilled};
 ghost use Rattle.shared_term.specs.Memos.{AreDone, AreLasting};
 ghost use Rattle.shared_term.specs.Walks.{IsStep, IsPlaced};
 
 use crate::change::{Change, Given, Goal, Pair};
 use crate::memos::Memos;
-use crate::summary::ANY;
 use crate::{Nodes, TermId};
 use dk_model::{NoMemory, NodeOf};
 
@@ -67,29 +65,6 @@ fn is_other(given: &Given<'_>, depth: u64, k: u64) -> bool
     k >= depth && k - depth < given.bound && !is_in(k - depth, given.arguments)
 }
 
-// The capture of a rule variable.
-fn capture_at(captures: &[Option<TermId>], k: u32) -> Option<TermId>
-    ensures { result ≡ capture_id captures.now k }
-{
-    match captures.get(k as usize) {
-        Some(capture) => *capture,
-        None => None,
-    }
-}
-
-// Whether none of the rule variables that may stand in a term has a capture.
-fn is_unfilled(captures: &[Option<TermId>], rule_variables: u16) -> bool
-    ensures { IsTrue result → AreUnfilled captures.now rule_variables }
-{
-    if rule_variables == 0 {
-        return true;
-    }
-    if rule_variables == ANY {
-        return false;
-    }
-    capture_at(captures, u32::from(rule_variables) - 1).is_none()
-}
-
 /// Whether the change leaves the term as it is, as its summary shows.
 pub(crate) fn stays(nodes: &Nodes, given: &Given<'_>, goal: Goal) -> bool
     requires { goal.id.0 < length nodes.now }
@@ -102,7 +77,7 @@ pub(crate) fn stays(nodes: &Nodes, given: &Given<'_>, goal: Goal) -> bool
         Change::Substitute(_) => u64::from(summary.bound) <= goal.depth,
         Change::SubstituteAll => u64::from(summary.bound) <= goal.depth,
         Change::Erase => !summary.annotations,
-        Change::Fill => is_unfilled(given.captures, summary.rule_variables),
+        Change::Fill => !summary.rule_variables,
         Change::Rename => u64::from(summary.bound) <= goal.depth,
         Change::Raise => u64::from(summary.bound) <= goal.depth,
     }
@@ -180,6 +155,16 @@ fn variable(nodes: &mut Nodes, given: &Given<'_>, goal: Goal, k: u64) -> Result<
         } else {
             Ok(Step::Answer(goal.id))
         },
+    }
+}
+
+// The capture of a rule variable.
+fn capture_at(captures: &[Option<TermId>], k: u32) -> Option<TermId>
+    ensures { result ≡ capture_id captures.now k }
+{
+    match captures.get(k as usize) {
+        Some(capture) => *capture,
+        None => None,
     }
 }
 

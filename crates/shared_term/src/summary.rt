@@ -1,7 +1,7 @@
 //! What is known of a term without a look at its parts.
 ghost use Rattle.std.specs.Prelude.{◌≡◌, ◌<◌, length};
 ghost use Rattle.shared_term.specs.Pools.{IsWithin, HasNext};
-ghost use Rattle.shared_term.specs.Summaries.{node_summary, only, together, both, inside};
+ghost use Rattle.shared_term.specs.Summaries.{node_summary, both, inside};
 
 use crate::Node;
 use dk_model::NodeOf;
@@ -11,37 +11,10 @@ use dk_model::NodeOf;
 pub(crate) struct Summary {
     /// Each variable that isn't bound in the term lies below it.
     pub(crate) bound: u32,
-    /// Which rule variables may stand in it: none at 0, the one of this number less one, any at `ANY`.
-    pub(crate) rule_variables: u16,
+    /// Whether a rule variable stands in it.
+    pub(crate) rule_variables: bool,
     /// Whether an abstraction in it has an annotation.
     pub(crate) annotations: bool,
-}
-
-/// Any rule variable may stand in a term.
-pub(crate) const ANY: u16 = u16::MAX;
-
-// The rule variable of this number; any, where the number is large.
-fn only(number: u32) -> u16
-    ensures { result ≡ only number }
-{
-    if number < 65534 {
-        number as u16 + 1
-    } else {
-        ANY
-    }
-}
-
-// The rule variables of two parts; any, where each has one of its own.
-fn together(first: u16, second: u16) -> u16
-    ensures { result ≡ together first second }
-{
-    if first == 0 {
-        return second;
-    }
-    if second == 0 || second == first {
-        return first;
-    }
-    ANY
 }
 
 /// The summary of a node, from those of its parts.
@@ -53,27 +26,27 @@ pub(crate) fn summary_of(summaries: &[Summary], node: Node) -> Summary
     match node {
         NodeOf::Star => Summary {
             bound: 0,
-            rule_variables: 0,
+            rule_variables: false,
             annotations: false,
         },
         NodeOf::Kind => Summary {
             bound: 0,
-            rule_variables: 0,
+            rule_variables: false,
             annotations: false,
         },
         NodeOf::Sym(_) => Summary {
             bound: 0,
-            rule_variables: 0,
+            rule_variables: false,
             annotations: false,
         },
         NodeOf::Var(k) => Summary {
             bound: k as u32 + 1,
-            rule_variables: 0,
+            rule_variables: false,
             annotations: false,
         },
-        NodeOf::Rvar(k) => Summary {
+        NodeOf::Rvar(_) => Summary {
             bound: 0,
-            rule_variables: only(k),
+            rule_variables: true,
             annotations: false,
         },
         NodeOf::App(f, a) => both(summaries[f.0 as usize], summaries[a.0 as usize]),
@@ -96,7 +69,7 @@ fn both(first: Summary, second: Summary) -> Summary
 {
     Summary {
         bound: first.bound.max(second.bound),
-        rule_variables: together(first.rule_variables, second.rule_variables),
+        rule_variables: first.rule_variables || second.rule_variables,
         annotations: first.annotations || second.annotations,
     }
 }

@@ -7,7 +7,6 @@ ghost use Rattle.std.specs.Process.{exit_status};
 
 mod call;
 mod name;
-mod shown;
 mod trial;
 mod tried;
 

@@ -5,16 +5,16 @@ ghost use Rattle.board_core.specs.Machine.{IsFinished, marks_of};
 ghost use Rattle.verdict_book.specs.Stops.{EndsByItself};
 ghost use Rattle.tree_program.specs.Trials.{GoesOn};
 
-use crate::shown::shown_of;
+use crate::name::shown_of;
 use crate::tried::Tried;
 use board_core::{End, Place};
-use command_check::{enter_command, is_answered, query};
+use command_check::{enter_command, is_answered};
 use dk_io::Shelf;
-use dk_model::{Code, Entry, Fault, Limits, Listed, NoMemory, Scoped, Verdict};
+use dk_model::{Code, Entry, Fault, Limits, NoMemory, Scoped, Verdict};
 use dk_parser::Raw;
 use file_reader::{ReadEnd, Reader};
 use scope_terms::Names;
-use shared_term::{Found, Stored};
+use shared_term::Stored;
 use signature_log::Version;
 use std::alloc::Global;
 use std::sync::Arc;
@@ -80,29 +80,19 @@ impl Trial {
         if self.tried.titles.len() >= self.most as usize {
             return Err(Verdict::Refused(Code::E08));
         }
-        let (entry, title) = self.judge(alloc, raw)?;
-        match self.add(alloc, &title, entry) {
+        let command = scoped(alloc, &mut self.names, raw)?;
+        if is_answered(&command) {
+            return Err(Verdict::Refused(Code::E06));
+        }
+        let entry = enter_command(&mut self.trees, &self.version, &command, self.budget)?;
+        match self.add(alloc, raw, entry) {
             Ok(()) => Ok(()),
             Err(NoMemory) => Err(Verdict::Memory),
         }
     }
 
-    // The entry of an accepted command, and what the report tells of it; or its verdict.
-    fn judge(&mut self, alloc: Global, raw: &Raw) -> Result<(Entry<Stored>, Title), Verdict>
-        ensures most { self.new.most ≡ self.old.most }
-        ensures tried { self.new.tried ≡ self.old.tried }
-        ensures refused { IfErr result (λ v. ¬ (v ≡ Verdict.Accepted)) }
-    {
-        let command = scoped(alloc, &mut self.names, raw)?;
-        let (entry, found) = find(alloc, &mut self.trees, &self.version, &command, self.budget)?;
-        match titled(alloc, &self.names, raw, found) {
-            Ok(title) => Ok((entry, title)),
-            Err(NoMemory) => Err(Verdict::Memory),
-        }
-    }
-
     // Adds an accepted command.
-    fn add(&mut self, alloc: Global, title: &Title, entry: Entry<Stored>) -> Result<(), NoMemory>
+    fn add(&mut self, alloc: Global, raw: &Raw, entry: Entry<Stored>) -> Result<(), NoMemory>
         requires goes_on { GoesOn self.old }
         requires few { length self.old.tried.titles < self.old.most }
         ensures goes_on { GoesOn self.new }
@@ -114,39 +104,12 @@ impl Trial {
             return Err(NoMemory);
         };
         self.version = version;
-        self.tried.add(alloc, title)
+        let title = Title {
+            shown: shown_of(alloc, &raw.form)?,
+            place: Place::in_file(alloc, raw.line),
+        };
+        self.tried.add(alloc, &title)
     }
-}
-
-// The entry of an accepted command, and of a query that asks what it found; or the verdict.
-fn find(
-    alloc: Global,
-    trees: &mut Trees,
-    version: &Version,
-    command: &Scoped,
-    budget: u64,
-) -> Result<(Entry<Stored>, Option<Found>), Verdict>
-    ensures refused { IfErr result (λ v. ¬ (v ≡ Verdict.Accepted)) }
-{
-    if is_answered(command) {
-        let found = query(trees, version, command, budget)?;
-        return Ok((Entry::Rules(Listed::new(alloc)), Some(found)));
-    }
-    let entry = enter_command(trees, version, command, budget)?;
-    Ok((entry, None))
-}
-
-// What the report tells of an accepted command, by what it found where it is a query that asks.
-fn titled(
-    alloc: Global,
-    names: &Names,
-    raw: &Raw,
-    found: Option<Found>,
-) -> Result<Title, NoMemory> {
-    Ok(Title {
-        shown: shown_of(alloc, names, &raw.form, found.as_ref())?,
-        place: Place::in_file(alloc, raw.line),
-    })
 }
 
 // The command with its names as numbers. There are as many as accepted commands, so they don't run out before these do.

@@ -21,7 +21,7 @@ pub returns-in-Erase : goal.returns-in-Erase
 returns-in-Erase c = λ h. unchanged_erase c.args.nodes.now c.args.given.now c.args.goal c.summary-summary.result c.summary-summary.ensures c.in-Erase.is (not-true _ h)
 
 pub returns-in-Fill : goal.returns-in-Fill
-returns-in-Fill c = λ h. unchanged_fill c.args.nodes.now c.args.given.now c.args.goal c.summary-summary.result c.summary-summary.ensures c.in-Fill.is (c.is_unfilled.ensures h)
+returns-in-Fill c = λ h. unchanged_fill c.args.nodes.now c.args.given.now c.args.goal c.summary-summary.result c.summary-summary.ensures c.in-Fill.is (not-true _ h)
 
 pub returns-in-Rename : goal.returns-in-Rename
 returns-in-Rename c = λ h. unchanged_rename c.args.nodes.now c.args.given.now c.args.goal c.summary-summary.result c.summary-summary.ensures c.in-Rename.is (grind (arith, nat_tests))
