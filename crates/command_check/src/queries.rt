@@ -18,8 +18,8 @@ use crate::declaration::{check_typed, infer_kept};
 use crate::found::FoundOf;
 use crate::kept::Boxed;
 use crate::verdict::fault_verdict;
-use dk_model::{Asked, Code, NoMemory, Scoped, Term, TypeFault, Verdict};
-use infer_check::{Expected, Walk, as_convertible, infer};
+use dk_model::{Asked, NoMemory, Scoped, Term, TypeFault, Verdict};
+use infer_check::{Walk, as_same, infer};
 use shared_term::Found;
 use signature_log::{Reducer, Version};
 
@@ -63,11 +63,7 @@ fn compare<R: Reducer>(
 {
     let t = typed_term(r, version, t, left)?;
     let u = typed_term(r, version, u, left)?;
-    let expected = Expected {
-        typ: &u,
-        code: Code::E21,
-    };
-    as_convertible(r, version, &t, expected, left)
+    as_same(r, version, &t, &u, left)
 }
 
 /// The normal form of a term that has a type.

@@ -5,7 +5,7 @@ ghost use Rattle.infer_check.specs.Clauses.{Checks};
 ghost use Rattle.infer_check.specs.Walks.{IsReady, Continues};
 
 use crate::Walk;
-use crate::expect::{Expected, as_convertible, into_product};
+use crate::expect::{as_same, into_product};
 use crate::inference::{infer_domain, infer_node};
 use dk_model::{Code, NodeOf, TypeFault};
 use signature_log::{Reducer, Version};
@@ -77,11 +77,7 @@ pub(crate) fn check_taken<R: Reducer>(
         },
         other => {
             let found = infer_node(r, version, walk, other)?;
-            let expected = Expected {
-                typ: &expected,
-                code: Code::E21,
-            };
-            as_convertible(r, version, &found, expected, &mut walk.left)
+            as_same(r, version, &found, &expected, &mut walk.left)
         }
     }
 }
@@ -147,11 +143,7 @@ fn check_annotated<R: Reducer>(
     let function = into_product(r, version, Code::E24, expected, &mut walk.left)?;
     let erased = r.erase(&annotation)?;
     infer_domain(r, version, walk, annotation)?;
-    let domain = Expected {
-        typ: &function.domain,
-        code: Code::E21,
-    };
-    as_convertible(r, version, &erased, domain, &mut walk.left)?;
+    as_same(r, version, &erased, &function.domain, &mut walk.left)?;
     walk.context.bind(function.domain)?;
     let fits = check_taken(r, version, walk, body, function.codomain);
     let _domain = walk.context.leave();

@@ -8,3 +8,7 @@ pub mod Rows
 pub mod Distinct
 pub mod Variables
 pub mod Spines
+pub mod Refining
+pub mod Grouping
+pub mod Compiling
+pub mod Trees

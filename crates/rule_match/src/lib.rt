@@ -1,23 +1,14 @@
-//! Matching trees: the rules of a symbol compiled to tests of heads, and the selection of a rule by asking for one
-//! answer after another.
+//! Matching: the selection of a rule by asking for one answer after another.
 //!
-//! The meaning is `selection_of` of dk_model (docs/evaluation.md). Begin at `Tree` and `Matcher::next`.
+//! The meaning is `selection_of` of dk_model (docs/evaluation.md). Begin at `Matcher::next`; then `Left`, the rows that are
+//! left, found by the tree of tests that a version keeps with the rules.
 #![tactic(auto)]
 
-mod branch;
-mod cell;
-mod group;
-mod key;
 mod left;
 mod matcher;
-mod nodes;
-mod refine;
 mod row;
-mod side;
-mod tree;
+mod rules;
 mod value;
-mod walk;
 
 pub use matcher::{Answer, Ask, Matcher};
-pub use tree::{Tree, compile};
-pub use walk::LeftSide;
+pub use rules::{SymbolRule, rule_at};

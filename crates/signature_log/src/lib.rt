@@ -23,6 +23,7 @@ mod slots;
 mod steps;
 mod storing;
 mod table;
+mod unbuilt;
 mod version;
 
 pub use grow::Grow;

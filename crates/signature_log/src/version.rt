@@ -14,8 +14,10 @@ use crate::fork::Fork;
 use crate::held::Held;
 use crate::slots::Slots;
 use crate::table::{RuleTable, with_entry};
+use crate::unbuilt::Unbuilt;
 use crate::{Grow, Rows, Steps};
 use dk_model::{Entry, Listed, NoMemory, Signature};
+use pattern_compile::MOST_NODES;
 use shared_term::Stored;
 use std::alloc::Global;
 use std::marker::{Brand, Model};
@@ -31,6 +33,9 @@ pub struct Version {
     alloc: Global,
     entries: Entries,
     rules: RuleTable,
+    unbuilt: Unbuilt,
+    /// How many nodes the tree of a symbol's rules has at most.
+    nodes: u32,
 }
 
 impl Model for Version {
@@ -74,10 +79,19 @@ impl Version {
     pub fn empty(alloc: Global) -> Result<Version, NoMemory>
         ensures { IfOk result (λ v. v ≡ []) }
     {
+        Version::with_nodes(alloc, MOST_NODES)
+    }
+
+    /// No entries. The tree of a symbol's rules will have at most so many nodes; with 0 all rules are rows.
+    pub fn with_nodes(alloc: Global, nodes: u32) -> Result<Version, NoMemory>
+        ensures { IfOk result (λ v. v ≡ []) }
+    {
         Ok(Version {
             alloc,
             entries: Entries::empty(alloc)?,
             rules: Fork::empty(alloc)?,
+            unbuilt: Unbuilt::new(alloc),
+            nodes,
         })
     }
 
@@ -118,12 +132,14 @@ impl Version {
             return Err(Grow::Full);
         }
         let held = Held::new(entry);
-        let rules = with_entry(self.alloc, &self.rules, &held)?;
+        let rules = with_entry(self.alloc, &self.rules, &held, self.nodes)?;
         let entries = self.entries.append(self.alloc, held, steps)?;
         Ok(Version {
             alloc: self.alloc,
             entries,
             rules,
+            unbuilt: Unbuilt::new(self.alloc),
+            nodes: self.nodes,
         })
     }
 
@@ -151,6 +167,8 @@ impl Version {
             alloc: self.alloc,
             entries: self.entries.share()?,
             rules: self.rules.share()?,
+            unbuilt: Unbuilt::new(self.alloc),
+            nodes: self.nodes,
         })
     }
 
@@ -174,6 +192,6 @@ impl Version {
     {
         let body = body_of(self.get(symbol));
         let declared = self.rules.find(symbol as u64);
-        Rows::new(body, declared)
+        Rows::new(body, declared, &self.unbuilt)
     }
 }

@@ -122,17 +122,29 @@ pub fn entered(alloc: Global, version: &Version, command: &Scoped) -> Result<Ver
     }
 }
 
-/// The version after these commands.
-pub fn version_after(alloc: Global, commands: &[Scoped]) -> Result<Version, NoMemory> {
-    let mut version = Version::empty(alloc)?;
+fn after(alloc: Global, version: Version, commands: &[Scoped]) -> Result<Version, NoMemory> {
+    let mut version = version;
     for command in commands {
         version = entered(alloc, &version, command)?;
     }
     Ok(version)
 }
 
-/// The version after the commands of a text.
-pub fn version_of_text(alloc: Global, parts: &[(&str, u32)]) -> Result<Version, NoMemory> {
+/// The version after these commands.
+pub fn version_after(alloc: Global, commands: &[Scoped]) -> Result<Version, NoMemory> {
+    after(alloc, Version::empty(alloc)?, commands)
+}
+
+/// The version after the commands of a text, whose trees have at most so many nodes.
+pub fn version_of_text(
+    alloc: Global,
+    parts: &[(&str, u32)],
+    nodes: u32,
+) -> Result<Version, NoMemory> {
     let commands = commands_of(alloc, parts)?;
-    version_after(alloc, commands.as_slice())
+    after(
+        alloc,
+        Version::with_nodes(alloc, nodes)?,
+        commands.as_slice(),
+    )
 }
