@@ -8,7 +8,3 @@ pub mod Rows
 pub mod Distinct
 pub mod Variables
 pub mod Spines
-pub mod Refining
-pub mod Grouping
-pub mod Compiling
-pub mod Trees

@@ -1,8 +1,3 @@
 pub mod Answers
 pub mod Patterns
 pub mod Marks
-pub mod Rows
-pub mod Keys
-pub mod Groups
-pub mod Nodes
-pub mod Trees

@@ -11,8 +11,8 @@ use Rattle.dk_model.specs.Equations.{selection_of}
 use Rattle.shared_term.specs.declared.id.TermId.{TermId}
 use Rattle.shared_term.specs.Pools.{Node as PoolNode, term, Extends}
 use Rattle.shared_term.specs.Changes.{captured_terms}
-use Rattle.pattern_compile.specs.declared.cell.Cell.{Cell}
-use Rattle.pattern_compile.specs.declared.cell.Row.{Row}
+use Rattle.rule_match.specs.declared.cell.Cell.{Cell}
+use Rattle.rule_match.specs.declared.cell.Row.{Row}
 use Rattle.rule_match.specs.declared.value.Column.{Column}
 use Rattle.rule_match.specs.declared.matcher.Ask.TheVariants.{Nothing, Evaluate}
 use Rattle.rule_match.specs.declared.matcher.Stage.TheVariants.{Begins, Ends, Evaluates}
@@ -42,18 +42,18 @@ module _ (rules : List PlainRule) (ns : List PoolNode) (m : Matcher) (s : Stands
   cols = plain ns m.columns.items
 
   pub no_row : slice_get rows m.tried ≡ None → Asks rules ns (record m { stage = Ends }) Nothing (λ S. selects S rules ns m)
-  no_row e = record { stands = record { source = s.source }; asks = λ S n. select_none S n cols rows m.tried e }
+  no_row e = record { stands = record { source = s.source; left = s.left }; asks = λ S n. select_none S n cols rows m.tried e }
 
   module _ (r : Row) (there : slice_get rows m.tried ≡ Some (row rules r)) where
     pub no_column : (at : ℕ) → rigid_at (map plain_cell r.cells.items) ≡ Some at → length m.columns.items ≤ at → Asks rules ns (record m { stage = Ends }) Nothing (λ S. selects S rules ns m)
     no_column at e l = record {
-      stands = record { source = s.source };
+      stands = record { source = s.source; left = s.left };
       asks = λ S n. select_missing S n cols rows m.tried (row rules r) there at e (past cols at (let q : length cols ≡ length m.columns.items = length-map m.columns.items (column ns) in omega (arith, q, l)));
     }
 
     pub asks_value : (at : ℕ) → rigid_at (map plain_cell r.cells.items) ≡ Some at → at < length m.columns.items → Asks rules ns (record m { stage = Evaluates at }) (Evaluate at) (λ S. selects S rules ns m)
     asks_value at e l = record {
-      stands = record { source = s.source };
+      stands = record { source = s.source; left = s.left };
       asks = λ S n. select_rigid S n cols rows m.tried (row rules r) there at e (column_at cols at)
           (column_there cols at (let q : length cols ≡ length m.columns.items = length-map m.columns.items (column ns) in omega (arith, q, l)));
     }

@@ -1,18 +1,12 @@
 -- The rows that are kept for a value are those for its head.
-use Rattle.std.proofs.Common.{List, [], ◌∷◌, ◌++◌, ◌≡◌, ◌+◌, ℕ, Option, Some, None, Bool, true, false, refl, ap, ◌∙◌, sym as flip, map, take, drop, length}
+use Rattle.std.proofs.Common.{List, [], ◌∷◌, ◌++◌, ◌≡◌, ◌+◌, ℕ, Option, Some, None, Bool, true, false, refl, ap, ◌∙◌, map, take, drop, length}
 use Rattle.std.proofs.lemmas.List.{length-map}
 use Rattle.std.specs.Prelude.{◌&&◌, eqb, if◌then◌else◌}
 use Rattle.dk_model.specs.Trees.{Tree, star, kind, symbol, variable, rule_variable, apply, bare, annotated, product}
 use Rattle.dk_model.specs.Signatures.{rule_variable_pattern, wildcard_pattern, guard_pattern, symbol_pattern, variable_pattern, abstraction_pattern, pattern_list}
 use Rattle.dk_model.specs.Spines.{head, arguments}
-use Rattle.dk_model.specs.Matrix.{Cell, blank, cell, Column, Row, heads_same, is_bare, cell_at, first_cells, refined_cells, refined_rows, opened_columns}
-use Rattle.dk_model.specs.Signatures.{PlainRule}
-use Rattle.pattern_compile.specs.declared.key.Key.{Key}
-use Rattle.pattern_compile.specs.Rows.{PlacedRow}
-use Rattle.rule_match.specs.declared.left.Test.{Test}
-use Rattle.rule_match.specs.Rows.{rule_at}
-use Rattle.rule_match.specs.Remaining.{tested, cells_of, row_of, placed_row, kept_places}
-use Rattle.pattern_compile.specs.Keys.{key_at, key_of, parts, has_symbol, has_variable, has_abstraction, is_kept, cells_after, cells_when_kept, rows_by}
+use Rattle.dk_model.specs.Matrix.{Cell, blank, cell, Column, Row, heads_same, is_bare, cell_at, refined_cells, refined_rows, opened_columns}
+use Rattle.rule_match.specs.Keys.{key_at, key_of, parts, has_symbol, has_variable, has_abstraction, is_kept, cells_after, cells_when_kept, rows_by}
 
 symbol_at : (h : Tree) (n k m : ℕ) → (heads_same h (symbol k) && eqb n m) ≡ has_symbol (key_at h n) k m
 symbol_at star n k m = refl
@@ -122,47 +116,12 @@ module _ (i : ℕ) (r : Row) (rows : List Row) where
   by_test true cs = refl
   by_test false cs = refl
 
--- one test more
+rows_of_value : (v : Tree) (i : ℕ) (rows : List Row) → refined_rows v (parts (key_of v)) i rows ≡ rows_by (key_of v) i rows
+rows_of_value v i [] = refl
+rows_of_value v i (r ∷ rows) =
+    ap (with_cells i r (refined_rows v (parts (key_of v)) i rows)) (refined_by_key v (parts (key_of v)) (cell_at r.cells i))
+    ∙ by_test i r (refined_rows v (parts (key_of v)) i rows) (is_kept (key_of v) (cell_at r.cells i)) (cells_after (parts (key_of v)) (cell_at r.cells i))
+    ∙ ap (λ (l : List Row). if is_kept (key_of v) (cell_at r.cells i) then record { cells = cells_when_kept (parts (key_of v)) i r.cells; rule = r.rule } ∷ l else l) (rows_of_value v i rows)
 
-tested_more : (ts : List Test) (t : Test) (cs : List Cell) → tested (ts ++ (t ∷ [])) cs ≡ cells_when_kept t.parts t.column (tested ts cs)
-tested_more [] t cs = refl
-tested_more (x ∷ ts) t cs = tested_more ts t (cells_when_kept x.parts x.column cs)
-
-module _ (rules : List PlainRule) (w : ℕ) (ts : List Test) (i : ℕ) where
-  abbrev test : Key → Test
-  test key = record { parts = parts key; column = i }
-
-  abbrev kept : Key → List ℕ → List ℕ
-  kept key ps = kept_places (cells_of rules w ts) key i ps
-
-  abbrev next : Key → ℕ → Row
-  next key p = row_of rules w (ts ++ (test key ∷ [])) p
-
-  abbrev next_placed : Key → ℕ → PlacedRow
-  next_placed key p = placed_row rules w (ts ++ (test key ∷ [])) p
-
-  place_kept : (key : Key) (b : Bool) (p : ℕ) (ps : List ℕ) (rest : List Row) → rest ≡ map (next key) ps
-      → (if b then record { cells = cells_when_kept (parts key) i (cells_of rules w ts p); rule = rule_at rules p } ∷ rest else rest) ≡ map (next key) (if b then p ∷ ps else ps)
-  place_kept key true p ps rest e = λ j. record { cells = flip (tested_more ts (test key) (first_cells w (rule_at rules p))) j; rule = rule_at rules p } ∷ e j
-  place_kept key false p ps rest e = e
-
-  -- the rows that are kept for a value are those of the places that are kept for its head
-  refined_places : (v : Tree) (ps : List ℕ) → refined_rows v (parts (key_of v)) i (map (row_of rules w ts) ps) ≡ map (next (key_of v)) (kept (key_of v) ps)
-  refined_places v [] = refl
-  refined_places v (p ∷ ps) =
-      ap (with_cells i (row_of rules w ts p) (refined_rows v (parts (key_of v)) i (map (row_of rules w ts) ps))) (refined_by_key v (parts (key_of v)) (cell_at (cells_of rules w ts p) i))
-      ∙ by_test i (row_of rules w ts p) (refined_rows v (parts (key_of v)) i (map (row_of rules w ts) ps)) (is_kept (key_of v) (cell_at (cells_of rules w ts p) i)) (cells_after (parts (key_of v)) (cell_at (cells_of rules w ts p) i))
-      ∙ place_kept (key_of v) (is_kept (key_of v) (cell_at (cells_of rules w ts p) i)) p (kept (key_of v) ps) (refined_rows v (parts (key_of v)) i (map (row_of rules w ts) ps)) (refined_places v ps)
-
-  pub rows_by_head : (v : Tree) (depth : ℕ) (ps : List ℕ) → refined_rows v (length (opened_columns depth v)) i (map (row_of rules w ts) ps) ≡ map (next (key_of v)) (kept (key_of v) ps)
-  rows_by_head v depth ps = ap (λ (n : ℕ). refined_rows v n i (map (row_of rules w ts) ps)) (opened_count depth v) ∙ refined_places v ps
-
-  placed_kept : (key : Key) (b : Bool) (p : ℕ) (ps : List ℕ) (rest : List PlacedRow) → rest ≡ map (next_placed key) ps
-      → (if b then record { cells = cells_when_kept (parts key) i (cells_of rules w ts p); place = p } ∷ rest else rest) ≡ map (next_placed key) (if b then p ∷ ps else ps)
-  placed_kept key true p ps rest e = λ j. record { cells = flip (tested_more ts (test key) (first_cells w (rule_at rules p))) j; place = p } ∷ e j
-  placed_kept key false p ps rest e = e
-
-  -- the same of the rows that a node stands for
-  pub node_rows : (key : Key) (ps : List ℕ) → rows_by key i (map (placed_row rules w ts) ps) ≡ map (next_placed key) (kept key ps)
-  node_rows key [] = refl
-  node_rows key (p ∷ ps) = placed_kept key (is_kept key (cell_at (cells_of rules w ts p) i)) p (kept key ps) (rows_by key i (map (placed_row rules w ts) ps)) (node_rows key ps)
+pub rows_by_head : (v : Tree) (depth i : ℕ) (rows : List Row) → refined_rows v (length (opened_columns depth v)) i rows ≡ rows_by (key_of v) i rows
+rows_by_head v depth i rows = ap (λ (n : ℕ). refined_rows v n i rows) (opened_count depth v) ∙ rows_of_value v i rows

@@ -15,7 +15,7 @@ use Rattle.dk_model.specs.declared.memory.NoMemory.{NoMemory}
 use Rattle.shared_term.specs.declared.id.TermId.{TermId}
 use Rattle.shared_term.specs.Pools.{Node as PoolNode, term, Extends}
 use Rattle.shared_term.specs.Changes.{AreCaptures, captured_terms}
-use Rattle.pattern_compile.specs.declared.cell.Cell.{Cell as HeldCell}
+use Rattle.rule_match.specs.declared.cell.Cell.{Cell as HeldCell}
 use Rattle.rule_match.specs.declared.value.Column.{Column as HeldColumn}
 use Rattle.rule_match.specs.declared.row.NextGuard.{NextGuard}
 use Rattle.rule_match.specs.declared.row.Passage.{Passage}

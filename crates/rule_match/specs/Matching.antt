@@ -19,7 +19,7 @@ use Rattle.rule_match.specs.declared.matcher.Stage.TheVariants.{Begins, Evaluate
 use Rattle.rule_match.specs.declared.matcher.Matcher.{Matcher}
 use Rattle.rule_match.specs.Rows.{row, rule_at}
 use Rattle.rule_match.specs.Columns.{plain, argument_column, from_top, AreColumns}
-use Rattle.rule_match.specs.Remaining.{rows_left, IsSource, rule_count, ArePlaced}
+use Rattle.rule_match.specs.Remaining.{rows_left, IsSource, IsLeftOf, rule_count, ArePlaced}
 use Rattle.rule_match.specs.Trying.{column_at}
 use Rattle.rule_match.specs.Standing.{after_cell, cell_normal, cell_compared, guard_compared, finished, decided, capturing, guarding, with_value}
 
@@ -85,9 +85,10 @@ IsAsk n (Same a b) = (a.0 < n) × (b.0 < n)
 IsAsk n (Take at cs) = AreCaptures n cs.items
 IsAsk n Nothing = Unit {0}
 
--- the rules are these
+-- the rules are these, and the rows left are theirs
 pub record Stands (rules : List PlainRule) (m : Matcher) : Type 0 where
   pub source : IsSource rules m.source
+  pub left : IsLeftOf rules m.source m.left
 
 -- the term that stands in a column
 abbrev pub term_in : List PoolNode → Matcher → ℕ → Tree

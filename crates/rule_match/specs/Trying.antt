@@ -12,7 +12,7 @@ use Rattle.shared_term.specs.declared.id.TermId.{TermId}
 use Rattle.shared_term.specs.Pools.{Node, term}
 use Rattle.shared_term.specs.Storage.{stored_term}
 use Rattle.shared_term.specs.Changes.{captured_terms, capture_id}
-use Rattle.pattern_compile.specs.declared.cell.Cell.{Cell}
+use Rattle.rule_match.specs.declared.cell.Cell.{Cell}
 use Rattle.rule_match.specs.declared.value.Column.{Column}
 use Rattle.rule_match.specs.declared.row.Step.{Step}
 use Rattle.rule_match.specs.declared.row.Step.TheVariants.{Passes, Captures as Catches, Guards}

@@ -1,349 +1,274 @@
-//! The rows that are left of a selection: places of a symbol's rules, with the tests that were made since its start. A row
-//! is made of its rule where it is tried, or where a test asks for a cell of it.
-ghost use Rattle.std.specs.Prelude.{◌≡◌, ◌≤◌, ◌<◌, ◌+◌, ◌^◌, ◌++◌, ℕ, IfOk, IfSome, OnOk, List, length, max, slice_get, map, drop, replicate};
-ghost use Rattle.std.specs.Option.{option_map};
+//! The rows that are left of a selection: those of a node, or rows that were worked out.
+ghost use Rattle.std.specs.Prelude.{◌≡◌, ◌≤◌, ◌<◌, ◌+◌, ◌^◌, IfOk, IfSome, List, slice_get, map, drop};
+ghost use Rattle.std.specs.Option.{option_copied, option_map};
 ghost use Rattle.dk_model.specs.Signatures.{PlainRule};
-ghost use Rattle.dk_model.specs.Matrix.{blank, cell_at, width};
-ghost use Rattle.pattern_compile.specs.Rows.{pattern_cell, plain_cell};
-ghost use Rattle.pattern_compile.specs.Trees.{IsTree, widest};
+ghost use Rattle.dk_model.specs.Matrix.{rows_for, width, width as width_of};
 ghost use Rattle.rule_match.specs.Rows.{row as row_of};
-ghost use Rattle.rule_match.specs.Remaining.{cells_of, own_places, places_left, places_from, places_within, rows_left, kept_places, GoesOn, IsNext, untried, untried_own, IsSource, IsLeftOf, ArePlaced, ArePlaces, HasVariables, StartsFrom, rule_count, rules_in};
+ghost use Rattle.rule_match.specs.declared.left.Left.TheVariants.{Kept, Whole};
+ghost use Rattle.rule_match.specs.Keys.{rows_by};
+ghost use Rattle.rule_match.specs.Sides.{AreLeftSides};
+ghost use Rattle.rule_match.specs.Branches.{IsNode};
+ghost use Rattle.rule_match.specs.Trees.{IsTree};
+ghost use Rattle.rule_match.specs.Remaining.{rows_left, IsLeft, Follows, GoesOn, IsRoot, IsSource, IsLeftOf, HasVariables, WalksFrom, rule_count};
 
-use crate::rules::rule_at;
-use dk_model::{NoMemory, Pat};
-use pattern_compile::{
-    Cell, Key, Node, Row, Tree, cell_of, first_row, is_kept, parts, refined_row,
-};
-use shared_term::Stored;
-use signature_log::Rows;
+use crate::branch::{Node, found};
+use crate::cell::{Row, seen_row, seen_rows};
+use crate::key::Key;
+use crate::refine::{refined_rows, untried};
+use crate::side::{rows_for, width};
+use crate::tree::Tree;
+use crate::walk::{LeftSide, walked_kept, walked_row, walked_rows, walked_width, widest_side};
+use dk_model::NoMemory;
 use std::alloc::Global;
-
-/// The rules of a symbol, and the tree of the first ones.
-#[derive(Clone, Copy)]
-pub(crate) struct Source<'v> {
-    pub(crate) alloc: Global,
-    pub(crate) symbol: u32,
-    pub(crate) rows: Rows<'v>,
-    pub(crate) tree: &'v Tree,
-}
-
-/// A test that was made.
-#[derive(Clone, Copy)]
-pub(crate) struct Test {
-    /// How many columns the value opened.
-    pub(crate) parts: usize,
-    /// The column that had the value.
-    pub(crate) column: usize,
-}
-
-/// A value of a column.
-#[derive(Clone, Copy)]
-pub(crate) struct Found {
-    /// How many of the rows that are left were tried before.
-    pub(crate) tried: usize,
-    pub(crate) key: Key,
-    pub(crate) column: usize,
-}
 
 /// The rows that are left.
 #[derive(Drop)]
-pub(crate) struct Left<'v> {
-    /// Over how many columns they began.
-    pub(crate) width: usize,
-    pub(crate) tests: Vec<Test>,
-    /// The node of the tree that stands for the first ones.
-    pub(crate) node: Option<&'v Node>,
-    /// The places of the others' rules.
-    pub(crate) others: Vec<u32>,
+pub(crate) enum Left<'t> {
+    /// Those of a node.
+    Kept(&'t Node),
+    /// All rules, none of which has more patterns than there are arguments, as rows of so many cells.
+    Whole(usize),
+    Walked(Vec<Row<'t>>),
 }
 
-/// How many variables a rule has.
-pub(crate) fn variable_count(source: &Source, at: u32) -> u32
-    requires { at < rule_count source.now }
-    ensures { (rules : List PlainRule) → IsSource rules source.now → HasVariables rules at result }
-{
-    rule_at(&source.rows, source.symbol, at).variable_count()
-}
-
-/// The places of the rules whose rows the node stands for.
-fn own_places<'l>(left: &'l Left) -> &'l [u32]
-    ensures { result.now ≡ own_places left.now.node }
-{
-    match left.node {
-        Some(node) => node.places.as_slice(),
-        None => &[],
-    }
-}
-
-/// The place of the rule of the row at `at`.
-fn place_at(source: &Source, left: &Left, at: usize) -> Option<u32>
-    requires { ArePlaced source.now left.now }
-    ensures is { result ≡ slice_get (places_left left.now) at }
-    ensures counted { IfSome result (λ _. at + 1 < 2 ^ 64) }
-{
-    if at >= source.rows.len() as usize {
-        return None;
-    }
-    let own = own_places(left);
-    if at < own.len() {
-        return Some(own[at]);
-    }
-    match left.others.get(at - own.len()) {
-        Some(place) => Some(*place),
-        None => None,
-    }
+/// Where the rules of a selection stand.
+#[derive(Drop)]
+pub(crate) enum Source<'t> {
+    Tree(&'t Tree),
+    /// Where they were declared: they have no tree.
+    Sides(Vec<LeftSide<'t>>),
 }
 
 /// The row of the rule at a place.
-fn row_at_place<'v>(source: &Source<'v>, left: &Left<'v>, place: u32) -> Result<Row<'v>, NoMemory>
-    requires { place < rule_count source.now }
-    ensures cells { IfOk result (λ row. map plain_cell row.cells.items
-        ≡ cells_of (rules_in source.now) left.now.width left.now.tests.items place) }
-    ensures at { IfOk result (λ row. row.at ≡ place) }
-{
-    let rule = rule_at(&source.rows, source.symbol, place);
-    let mut row = first_row(source.alloc, left.width, rule.patterns(), place)?;
-    for test in &left.tests {
-        row = refined_row(source.alloc, test.parts, test.column, &row)?;
-    }
-    Ok(row)
-}
-
-/// The row at `at`.
-pub(crate) fn row_at<'v>(
-    source: &Source<'v>,
-    left: &Left<'v>,
+fn whole_row<'t>(
+    alloc: Global,
+    source: &Source<'t>,
+    width: usize,
     at: usize,
-) -> Result<Option<Row<'v>>, NoMemory>
-    requires { ArePlaced source.now left.now }
+) -> Result<Option<Row<'t>>, NoMemory>
     ensures is { IfOk result (λ o. (rules : List PlainRule) → IsSource rules source.now
-        → option_map (row_of rules) o ≡ slice_get (rows_left rules left.now) at) }
-    ensures there { IfOk result (λ o. IfSome o (λ row. row.at < rule_count source.now)) }
+        → IsLeftOf rules source.now (Whole width)
+        → option_map (row_of rules) o ≡ slice_get (rows_for width width rules) at) }
     ensures counted { IfOk result (λ o. IfSome o (λ _. at + 1 < 2 ^ 64)) }
 {
-    match place_at(source, left, at) {
-        Some(place) => Ok(Some(row_at_place(source, left, place)?)),
-        None => Ok(None),
+    match source {
+        Source::Tree(_) => Ok(None),
+        Source::Sides(sides) => match sides.get(at) {
+            Some(side) => Ok(Some(walked_row(alloc, width, *side, at)?)),
+            None => Ok(None),
+        },
     }
 }
 
-/// What patterns ask of a column.
-fn first_cell<'v>(patterns: &'v [Pat<Stored>], column: usize) -> Cell<'v>
-    ensures { (n : ℕ) → plain_cell result
-        ≡ cell_at (map pattern_cell patterns.now ++ replicate n blank) column }
+/// The row at a place.
+pub(crate) fn row_at<'t>(
+    alloc: Global,
+    source: &Source<'t>,
+    left: &Left<'t>,
+    at: usize,
+) -> Result<Option<Row<'t>>, NoMemory>
+    ensures is { IfOk result (λ o. (rules : List PlainRule) → IsSource rules source.now
+        → IsLeftOf rules source.now left.now
+        → option_map (row_of rules) o ≡ slice_get (rows_left rules left.now) at) }
+    ensures counted { IfOk result (λ o. IfSome o (λ _. at + 1 < 2 ^ 64)) }
 {
-    match patterns.get(column) {
-        Some(pattern) => Cell::Pattern(pattern),
-        None => Cell::Blank,
-    }
-}
-
-/// What the row of the rule at a place asks of a column.
-fn cell_at_place<'v>(
-    source: &Source<'v>,
-    left: &Left<'v>,
-    place: u32,
-    column: usize,
-) -> Result<Cell<'v>, NoMemory>
-    requires { place < rule_count source.now }
-    ensures { IfOk result (λ cell. plain_cell cell
-        ≡ cell_at (cells_of (rules_in source.now) left.now.width left.now.tests.items place) column) }
-{
-    if left.tests.is_empty() {
-        let rule = rule_at(&source.rows, source.symbol, place);
-        return Ok(first_cell(rule.patterns(), column));
-    }
-    let row = row_at_place(source, left, place)?;
-    Ok(cell_of(row.cells.as_slice(), column))
-}
-
-/// Puts in those of these places whose rows are kept where the value of the column has the head.
-fn push_kept<'v>(
-    source: &Source<'v>,
-    left: &Left<'v>,
-    found: Found,
-    places: &[u32],
-    kept: &mut Vec<u32>,
-) -> Result<(), NoMemory>
-    requires { ArePlaces (rule_count source.now) places.now }
-    ensures { OnOk result (kept.new.items ≡ kept.old.items
-        ++ kept_places (cells_of (rules_in source.now) left.now.width left.now.tests.items) found.key
-        found.column places.now) }
-{
-    for place in places {
-        let cell = cell_at_place(source, left, *place, found.column)?;
-        if is_kept(found.key, &cell) {
-            kept.push(*place)?;
-        }
-    }
-    Ok(())
-}
-
-/// The node to which the tree's test goes, where it tests this column once so many rows were tried.
-fn next_node<'v>(source: &Source<'v>, left: &Left<'v>, found: Found) -> Option<&'v Node>
-    ensures { IfSome result (IsNext source.now.tree.now left.now.node found) }
-{
-    match left.node {
-        Some(node) => {
-            if node.tried == found.tried && node.column == found.column {
-                source.tree.next(node, found.key)
-            } else {
-                None
+    match left {
+        Left::Kept(node) => match node.rows.get(at) {
+            Some(row) => Ok(Some(seen_row(alloc, row)?)),
+            None => Ok(None),
+        },
+        Left::Whole(width) => whole_row(alloc, source, *width, at),
+        Left::Walked(rows) => match rows.get(at) {
+            Some(row) => {
+                let cells = Vec::from_slice(alloc, row.cells.as_slice())?;
+                Ok(Some(Row { cells, at: row.at }))
             }
-        }
+            None => Ok(None),
+        },
+    }
+}
+
+/// The node at a place.
+fn node_at<'t>(tree: &'t Tree, place: usize) -> Option<&'t Node>
+    ensures { option_copied result ≡ slice_get tree.now.nodes.items place }
+{
+    tree.nodes.as_slice().get(place)
+}
+
+/// The node that a test at this column goes to.
+fn branch_for<'t>(
+    tree: &'t Tree,
+    node: &'t Node,
+    tried: usize,
+    key: Key,
+    column: usize,
+) -> Option<&'t Node>
+    ensures { IfSome result (λ child. (rules : List PlainRule) → IsTree rules tree.now
+        → IsNode rules tree.now.nodes.items node.now
+        → Follows rules tree.now node.now tried key column child.now) }
+{
+    if node.tried != tried || node.column != column {
+        return None;
+    }
+    match found(node.branches.as_slice(), key) {
+        Some(place) => node_at(tree, place),
         None => None,
     }
 }
 
-/// What is behind the first `count`.
-fn behind(places: &[u32], count: usize) -> &[u32]
-    ensures { result.now ≡ drop count places.now }
+/// The node that the tree goes to from the rows that are left, where it has one for this head.
+fn next_node<'t>(
+    source: &Source<'t>,
+    left: &Left<'t>,
+    tried: usize,
+    key: Key,
+    column: usize,
+) -> Option<&'t Node>
+    ensures { IfSome result (λ child. (rules : List PlainRule) → IsSource rules source.now
+        → IsLeftOf rules source.now left.now
+        → GoesOn rules source.now left.now tried key column (Kept child)) }
 {
-    if count < places.len() {
-        &places[count..]
+    match source {
+        Source::Tree(tree) => match left {
+            Left::Kept(node) => branch_for(tree, node, tried, key, column),
+            Left::Whole(_) => None,
+            Left::Walked(_) => None,
+        },
+        Source::Sides(_) => None,
+    }
+}
+
+/// The rows of all rules that are kept where the value of this column has this head.
+fn whole_for<'t>(
+    alloc: Global,
+    source: &Source<'t>,
+    width: usize,
+    tried: usize,
+    key: Key,
+    column: usize,
+) -> Result<Vec<Row<'t>>, NoMemory>
+    ensures { IfOk result (λ kept. (rules : List PlainRule) → IsSource rules source.now
+        → IsLeftOf rules source.now (Whole width)
+        → map (row_of rules) kept.items ≡ rows_by key column (drop tried (rows_for width width rules))) }
+{
+    match source {
+        Source::Tree(_) => Ok(Vec::new(alloc)),
+        Source::Sides(sides) => walked_kept(alloc, sides.as_slice(), width, tried, key, column),
+    }
+}
+
+/// The rows that are kept where the value of this column has this head, worked out.
+fn walked_for<'t>(
+    alloc: Global,
+    source: &Source<'t>,
+    left: &Left<'t>,
+    tried: usize,
+    key: Key,
+    column: usize,
+) -> Result<Vec<Row<'t>>, NoMemory>
+    ensures { IfOk result (λ kept. (rules : List PlainRule) → IsSource rules source.now
+        → IsLeftOf rules source.now left.now
+        → map (row_of rules) kept.items ≡ rows_by key column (drop tried (rows_left rules left.now))) }
+{
+    match left {
+        Left::Kept(node) => {
+            let rows = seen_rows(alloc, node.rows.as_slice())?;
+            refined_rows(alloc, key, column, untried(rows.as_slice(), tried))
+        }
+        Left::Whole(width) => whole_for(alloc, source, *width, tried, key, column),
+        Left::Walked(rows) => refined_rows(alloc, key, column, untried(rows.as_slice(), tried)),
+    }
+}
+
+/// The rows that are kept where the value of this column has this head.
+pub(crate) fn kept_for<'t>(
+    alloc: Global,
+    source: &Source<'t>,
+    left: &Left<'t>,
+    tried: usize,
+    key: Key,
+    column: usize,
+) -> Result<Left<'t>, NoMemory>
+    ensures { IfOk result (λ next. (rules : List PlainRule) → IsSource rules source.now
+        → IsLeftOf rules source.now left.now → GoesOn rules source.now left.now tried key column next) }
+{
+    if let Some(child) = next_node(source, left, tried, key, column) {
+        return Ok(Left::Kept(child));
+    }
+    let kept = walked_for(alloc, source, left, tried, key, column)?;
+    Ok(Left::Walked(kept))
+}
+
+/// How many variables a rule has.
+pub(crate) fn variable_count(source: &Source, at: usize) -> u32
+    requires { at < rule_count source.now }
+    ensures { (rules : List PlainRule) → IsSource rules source.now → HasVariables rules at result }
+{
+    match source {
+        Source::Tree(tree) => tree.sides[at].vars,
+        Source::Sides(sides) => sides[at].vars,
+    }
+}
+
+/// How many columns the rules need before so many arguments.
+pub(crate) fn width_before(tree: &Tree, count: usize) -> usize
+    ensures within { result ≤ count }
+    ensures width { (rules : List PlainRule) → IsTree rules tree.now → result ≡ width count rules }
+{
+    if count >= tree.widest {
+        tree.widest
     } else {
-        &places[places.len()..]
+        width(count, tree.sides.as_slice()).min(count)
     }
-}
-
-/// The node's places that weren't tried; none where the tree goes on with them.
-fn own_behind(own: &[u32], tried: usize, goes_on: bool) -> &[u32]
-    ensures { result.now ≡ untried_own own.now tried goes_on }
-{
-    if goes_on { &[] } else { behind(own, tried) }
-}
-
-/// The places that are kept of those that weren't tried, but for the node's where the tree goes on with them.
-fn others_kept<'v>(
-    source: &Source<'v>,
-    left: &Left<'v>,
-    found: Found,
-    goes_on: bool,
-) -> Result<Vec<u32>, NoMemory>
-    requires { ArePlaced source.now left.now }
-    ensures { IfOk result (λ kept. kept.items ≡ kept_places
-        (cells_of (rules_in source.now) left.now.width left.now.tests.items) found.key found.column
-        (untried left.now found.tried goes_on)) }
-{
-    let own = own_places(left);
-    let first = own_behind(own, found.tried, goes_on);
-    let others = behind(
-        left.others.as_slice(),
-        found.tried.saturating_sub(own.len()),
-    );
-    let mut kept = Vec::new(source.alloc);
-    push_kept(source, left, found, first, &mut kept)?;
-    push_kept(source, left, found, others, &mut kept)?;
-    Ok(kept)
-}
-
-/// The rows that are kept for a value of a column.
-pub(crate) fn kept_for<'v>(
-    source: &Source<'v>,
-    left: Left<'v>,
-    found: Found,
-) -> Result<Left<'v>, NoMemory>
-    requires { ArePlaced source.now left }
-    ensures { IfOk result (GoesOn source.now left.entry found) }
-{
-    let node = next_node(source, &left, found);
-    let others = others_kept(source, &left, found, node.is_some())?;
-    let mut tests = left.tests;
-    tests.push(Test {
-        parts: parts(found.key),
-        column: found.column,
-    })?;
-    Ok(Left {
-        width: left.width,
-        tests,
-        node,
-        others,
-    })
-}
-
-/// No rows.
-pub(crate) fn nothing<'v>(alloc: Global) -> Left<'v> {
-    Left {
-        width: 0,
-        tests: Vec::new(alloc),
-        node: None,
-        others: Vec::new(alloc),
-    }
-}
-
-/// The greatest number of patterns of the rules from this place on, and of those before.
-fn widest_from(source: &Source, from: usize, before: usize) -> usize
-    ensures { result ≡ max before (widest (drop from (rules_in source.now))) }
-{
-    let mut widest = before;
-    for at in from..source.rows.len() as usize {
-        let count = rule_at(&source.rows, source.symbol, at as u32).pattern_count();
-        if widest < count {
-            widest = count;
-        }
-    }
-    widest
-}
-
-/// The places from this one on.
-fn all_from(source: &Source, from: usize) -> Result<Vec<u32>, NoMemory>
-    ensures { IfOk result (λ places. places.items ≡ places_from from (drop from (rules_in source.now))) }
-{
-    let mut places = Vec::new(source.alloc);
-    for at in from..source.rows.len() as usize {
-        places.push(at as u32)?;
-    }
-    Ok(places)
-}
-
-/// The places of the rules that have at most so many patterns, and the greatest number of these.
-fn all_within(source: &Source, count: usize) -> Result<(usize, Vec<u32>), NoMemory>
-    ensures width { IfOk result (λ r. r.0 ≡ width count (rules_in source.now)) }
-    ensures within { IfOk result (λ r. r.0 ≤ count) }
-    ensures places { IfOk result (λ r. r.1.items ≡ places_within count 0 (rules_in source.now)) }
-{
-    let mut places = Vec::new(source.alloc);
-    let mut width = 0;
-    for at in 0..source.rows.len() {
-        let patterns = rule_at(&source.rows, source.symbol, at).pattern_count();
-        if patterns <= count {
-            places.push(at)?;
-            if width < patterns {
-                width = patterns;
-            }
-        }
-    }
-    Ok((width, places))
 }
 
 /// The rows of the rules before so many arguments.
-pub(crate) fn left_before<'v>(source: &Source<'v>, count: usize) -> Result<Left<'v>, NoMemory>
-    requires { IsTree (rules_in source.now) source.now.tree.now }
-    ensures { IfOk result (StartsFrom source.now count) }
+#[tactic(auto, using(crate::proofs::Following::root_rows))]
+pub(crate) fn left_before<'t>(
+    alloc: Global,
+    tree: &'t Tree,
+    count: usize,
+    width: usize,
+) -> Result<Left<'t>, NoMemory>
+    ensures rows { IfOk result (λ left. (rules : List PlainRule) → IsTree rules tree.now
+        → width ≡ width_of count rules → rows_left rules left ≡ rows_for count width rules) }
+    ensures is { IfOk result (λ left. (rules : List PlainRule) → IsTree rules tree.now
+        → IsLeft rules tree.now left) }
 {
-    let widest = widest_from(source, source.tree.count(), source.tree.widest());
-    if widest > count {
-        let (width, others) = all_within(source, count)?;
-        return Ok(Left {
-            width,
-            tests: Vec::new(source.alloc),
-            node: None,
-            others,
-        });
+    if count >= tree.widest {
+        if let Some(root) = root_of(tree) {
+            return Ok(Left::Kept(root));
+        }
     }
-    let node = if source.tree.widest() == widest {
-        source.tree.root()
-    } else {
-        None
-    };
-    let from = match node {
-        Some(_) => source.tree.count(),
-        None => 0,
-    };
-    Ok(Left {
-        width: widest,
-        tests: Vec::new(source.alloc),
-        node,
-        others: all_from(source, from)?,
-    })
+    Ok(Left::Walked(rows_for(alloc, count, width, tree.sides.as_slice())?))
+}
+
+/// The rows of rules without a tree before so many arguments, and how many columns they have.
+pub(crate) fn walked_before<'t>(
+    alloc: Global,
+    sides: &[LeftSide<'t>],
+    count: usize,
+) -> Result<(usize, Left<'t>), NoMemory>
+    ensures within { IfOk result (λ r. r.0 ≤ count) }
+    ensures begins { IfOk result (λ r. (rules : List PlainRule) → AreLeftSides rules sides.now
+        → WalksFrom rules count r.0 r.1) }
+{
+    let widest = widest_side(sides);
+    if widest <= count {
+        return Ok((widest, Left::Whole(widest)));
+    }
+    let width = walked_width(count, sides);
+    let rows = walked_rows(alloc, count, width, sides)?;
+    Ok((width, Left::Walked(rows)))
+}
+
+/// The first node.
+fn root_of<'t>(tree: &'t Tree) -> Option<&'t Node>
+    ensures { IfSome result (λ node. (rules : List PlainRule) → IsTree rules tree.now
+        → IsRoot rules tree.now node.now) }
+{
+    match tree.root {
+        Some(place) => node_at(tree, place),
+        None => None,
+    }
 }

@@ -1,14 +1,23 @@
-//! Matching: the selection of a rule by asking for one answer after another.
+//! Matching trees: the rules of a symbol compiled to tests of heads, and the selection of a rule by asking for one
+//! answer after another.
 //!
-//! The meaning is `selection_of` of dk_model (docs/evaluation.md). Begin at `Matcher::next`; then `Left`, the rows that are
-//! left, found by the tree of tests that a version keeps with the rules.
+//! The meaning is `selection_of` of dk_model (docs/evaluation.md). Begin at `Tree` and `Matcher::next`.
 #![tactic(auto)]
 
+mod branch;
+mod cell;
+mod group;
+mod key;
 mod left;
 mod matcher;
+mod nodes;
+mod refine;
 mod row;
-mod rules;
+mod side;
+mod tree;
 mod value;
+mod walk;
 
 pub use matcher::{Answer, Ask, Matcher};
-pub use rules::{SymbolRule, rule_at};
+pub use tree::{Tree, compile};
+pub use walk::LeftSide;

@@ -1,22 +1,28 @@
 //! The selection of a rule by asking for one answer after another.
 ghost use Rattle.std.specs.Prelude.{◌≡◌, ℕ, ◌<◌, [], None, IfOk, OnOk, List, length, vec_len, replicate};
 ghost use Rattle.dk_model.specs.Signatures.{PlainRule};
+ghost use Rattle.dk_model.specs.Matrix.{width};
 ghost use Rattle.shared_term.specs.Pools.{Node, term, Extends};
-ghost use Rattle.signature_log.specs.Rows.{row_rules};
 ghost use Rattle.rule_match.specs.Rows.{plain_cell};
 ghost use Rattle.rule_match.specs.Columns.{AreColumns, AreWithin};
+ghost use Rattle.rule_match.specs.Sides.{AreLeftSides};
 ghost use Rattle.rule_match.specs.Remaining.{rule_count};
 ghost use Rattle.rule_match.specs.Standing.{others_in};
+ghost use Rattle.rule_match.specs.Trees.{IsTree, IsPlaced};
 ghost use Rattle.rule_match.specs.declared.matcher.Stage.TheVariants.{Begins};
 ghost use Rattle.rule_match.specs.Matching.{IsMatcher, IsTried, IsAnswer, IsAsk, Awaits, Stands, Asks, IsStart, selects, captures_due, guards_due, after_value, after_normal, after_compared, after_guard, answered, fails, term_in};
 
-use crate::left::{Found, Left, Source, kept_for, left_before, nothing, row_at, variable_count};
+use crate::cell::{Cell, Row};
+use crate::left::{
+    Left, Source, kept_for, left_before, row_at, variable_count, walked_before, width_before,
+};
+use crate::refine::{cell_of, rigid_at};
 use crate::row::{Passage, mentions_others, next_guard, pass};
+use crate::tree::Tree;
 use crate::value::{Column, column_of, first_columns, put_column, spliced, taken_apart};
+use crate::walk::LeftSide;
 use dk_model::{NoMemory, Pat};
-use pattern_compile::{Cell, Row, cell_of, rigid_at};
 use shared_term::{Pool, TermId};
-use signature_log::Rows;
 use std::alloc::Global;
 use std::mem;
 
@@ -44,7 +50,7 @@ pub enum Ask {
     /// Whether both are alike.
     Same(TermId, TermId),
     /// This rule is taken, with its captures.
-    Take(u32, Vec<Option<TermId>>),
+    Take(usize, Vec<Option<TermId>>),
     /// No rule is taken.
     Nothing,
 }
@@ -135,32 +141,39 @@ fn begun<'t>(alloc: Global, source: Source<'t>, columns: Vec<Column>, left: Left
 }
 
 impl<'t> Matcher<'t> {
-    /// The selection of a rule of the symbol for these arguments, at its start. The arguments lie on a stack, the first one
+    /// The selection of a rule of the tree for these arguments, at its start. The arguments lie on a stack, the first one
     /// on top.
     pub fn start(
         alloc: Global,
-        rows: Rows<'t>,
-        symbol: u32,
+        tree: &'t Tree,
         arguments: &[TermId],
     ) -> Result<Matcher<'t>, NoMemory>
-        requires { 0 < length (row_rules symbol rows) }
-        ensures starts { IfOk result (IsStart (row_rules symbol rows.entry) arguments.now) }
+        requires { IsPlaced tree.now }
+        ensures starts { IfOk result (λ m. (rules : List PlainRule) → IsTree rules tree.now
+            → IsStart rules arguments.now m) }
         ensures within { IfOk result (λ m. (n : ℕ) → AreWithin n arguments.now → IsMatcher n m) }
         ensures begins { IfOk result (λ m. m.stage ≡ Begins) }
     {
-        let tree = match rows.tree() {
-            Some(tree) => tree,
-            None => unreachable!(),
-        };
-        let source = Source {
-            alloc,
-            symbol,
-            rows,
-            tree,
-        };
-        let left = left_before(&source, arguments.len())?;
-        let columns = first_columns(alloc, left.width, arguments)?;
-        Ok(begun(alloc, source, columns, left))
+        let width = width_before(tree, arguments.len());
+        let left = left_before(alloc, tree, arguments.len(), width)?;
+        let columns = first_columns(alloc, width, arguments)?;
+        Ok(begun(alloc, Source::Tree(tree), columns, left))
+    }
+
+    /// The same of rules that have no tree, by their left sides.
+    pub fn walk(
+        alloc: Global,
+        sides: Vec<LeftSide<'t>>,
+        arguments: &[TermId],
+    ) -> Result<Matcher<'t>, NoMemory>
+        ensures starts { IfOk result (λ m. (rules : List PlainRule) → AreLeftSides rules sides.entry.items
+            → IsStart rules arguments.now m) }
+        ensures within { IfOk result (λ m. (n : ℕ) → AreWithin n arguments.now → IsMatcher n m) }
+        ensures begins { IfOk result (λ m. m.stage ≡ Begins) }
+    {
+        let (width, left) = walked_before(alloc, sides.as_slice(), arguments.len())?;
+        let columns = first_columns(alloc, width, arguments)?;
+        Ok(begun(alloc, Source::Sides(sides), columns, left))
     }
 
     /// The term that stands in this column.
@@ -223,7 +236,7 @@ impl<'t> Matcher<'t> {
         ensures within { OnOk result (IsMatcher (length pool.new) self.new) }
         ensures keeps { Extends pool.old pool.new }
     {
-        match row_at(&self.source, &self.left, self.tried)? {
+        match row_at(self.alloc, &self.source, &self.left, self.tried)? {
             None => {
                 self.stage = Stage::Ends;
                 Ok(Ask::Nothing)
@@ -339,13 +352,7 @@ impl<'t> Matcher<'t> {
     {
         let depth = column_of(self.columns.as_slice(), at).depth;
         let (key, parts) = taken_apart(self.alloc, pool, depth, value)?;
-        let left = mem::replace(&mut self.left, nothing(self.alloc));
-        let found = Found {
-            tried: self.tried,
-            key,
-            column: at,
-        };
-        self.left = kept_for(&self.source, left, found)?;
+        self.left = kept_for(self.alloc, &self.source, &self.left, self.tried, key, at)?;
         self.tried = 0;
         let columns = mem::replace(&mut self.columns, Vec::new(self.alloc));
         self.columns = spliced(columns, at, value, parts)?;

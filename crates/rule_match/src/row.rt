@@ -9,9 +9,9 @@ ghost use Rattle.rule_match.specs.Rows.{plain_cell};
 ghost use Rattle.rule_match.specs.Columns.{plain, AreColumns};
 ghost use Rattle.rule_match.specs.Trying.{ActsAs, IsGuard, HasGuard, Records, CellSteps, RowPasses, GuardsPass, AreCaught, ArePassed};
 
+use crate::cell::Cell;
 use crate::value::{Column, column_of};
 use dk_model::{NoMemory, Pat};
-use pattern_compile::Cell;
 use shared_term::{Pool, Stored, TermId};
 use std::alloc::Global;
 

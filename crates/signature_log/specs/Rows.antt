@@ -6,7 +6,6 @@ use Rattle.dk_model.specs.Signatures.{PlainRule}
 use Rattle.shared_term.specs.Storage.{stored_term}
 use Rattle.shared_term.specs.declared.stored.Stored.{Stored}
 use Rattle.signature_log.specs.Placed.{listed_rules}
-use Rattle.signature_log.specs.declared.rule_list.RuleList.{RuleList}
 use Rattle.signature_log.specs.declared.rows.Rows.{Rows}
 
 -- the body as a rule of no patterns, where there is one
@@ -15,8 +14,5 @@ body_rows symbol None = []
 body_rows symbol (Some body) = record { head = symbol; vars = 0; pats = []; notes = []; right = stored_term body.now } ∷ []
 
 -- the body of this symbol, then its declared rules
-abbrev pub row_rules_of : ℕ → Option (Bor Stored) → Option (Bor RuleList) → List PlainRule
-row_rules_of symbol body declared = body_rows symbol body ++ listed_rules (option_copied declared)
-
 abbrev pub row_rules : ℕ → Rows → List PlainRule
-row_rules symbol rows = row_rules_of symbol rows.body rows.declared
+row_rules symbol rows = body_rows symbol rows.body ++ listed_rules (option_copied rows.declared)

@@ -23,7 +23,6 @@ mod slots;
 mod steps;
 mod storing;
 mod table;
-mod unbuilt;
 mod version;
 
 pub use grow::Grow;

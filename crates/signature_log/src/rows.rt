@@ -1,15 +1,12 @@
 //! The rules of a symbol: its body, then its declared rules in file order.
-ghost use Rattle.std.specs.Prelude.{◌≡◌, ◌↔◌, ℕ, None, IfSome, length, slice_get};
+ghost use Rattle.std.specs.Prelude.{◌≡◌, ℕ, length, slice_get};
 ghost use Rattle.std.specs.Option.{option_copied, option_map};
-ghost use Rattle.pattern_compile.specs.Trees.{IsTree};
 ghost use Rattle.signature_log.specs.Versions.{row_rule};
-ghost use Rattle.signature_log.specs.Rows.{row_rules, row_rules_of};
+ghost use Rattle.signature_log.specs.Rows.{row_rules};
 ghost use Rattle.signature_log.specs.Placed.{listed_rules};
 
 use crate::rule_list::RuleList;
-use crate::unbuilt::Unbuilt;
 use dk_model::Rule;
-use pattern_compile::Tree;
 use shared_term::Stored;
 
 /// A rule of a symbol.
@@ -26,7 +23,6 @@ pub enum Row<'a> {
 pub struct Rows<'a> {
     body: Option<&'a Stored>,
     declared: Option<&'a RuleList>,
-    unbuilt: &'a Unbuilt,
 }
 
 fn declared_row<'a>(declared: Option<&'a RuleList>, at: u32) -> Option<Row<'a>>
@@ -43,18 +39,10 @@ fn declared_row<'a>(declared: Option<&'a RuleList>, at: u32) -> Option<Row<'a>>
 }
 
 impl<'a> Rows<'a> {
-    pub(crate) fn new(
-        body: Option<&'a Stored>,
-        declared: Option<&'a RuleList>,
-        unbuilt: &'a Unbuilt,
-    ) -> Rows<'a>
-        ensures { (k : ℕ) → row_rules k result ≡ row_rules_of k body.entry declared.entry }
+    pub(crate) fn new(body: Option<&'a Stored>, declared: Option<&'a RuleList>) -> Rows<'a>
+        ensures { result ≡ record { body = body.entry; declared = declared.entry } }
     {
-        Rows {
-            body,
-            declared,
-            unbuilt,
-        }
+        Rows { body, declared }
     }
 
     pub fn len(&self) -> u32
@@ -83,23 +71,6 @@ impl<'a> Rows<'a> {
                 }
             }
             None => declared_row(self.declared, i),
-        }
-    }
-
-    /// The tree of the first rules; the others are rows behind it. None exactly where there are no rules.
-    pub fn tree(&self) -> Option<&'a Tree>
-        ensures none { (k : ℕ) → result ≡ None ↔ length (row_rules k self.now) ≡ 0 }
-        ensures is { (k : ℕ) → IfSome result (λ tree. IsTree (row_rules k self.now) tree.now) }
-    {
-        if self.len() == 0 {
-            return None;
-        }
-        match self.body {
-            Some(_) => Some(self.unbuilt.tree()),
-            None => match self.declared {
-                Some(list) => Some(list.tree()),
-                None => unreachable!(),
-            },
         }
     }
 }

@@ -20,20 +20,19 @@ use std::sync::ledger::{Blank, Ledger};
 /// Four levels of blocks: of 32 cells, then of 32 blocks, and as many blocks as the largest number asks for.
 pub type RuleTable = Fork<Fork<Fork<Cells<RuleList>>>>;
 
-/// The list of the head with one rule more.
+/// The list of a symbol with one rule more.
 fn listed<L: Ledger>(
     alloc: Global,
     table: &RuleTable,
+    symbol: u64,
     place: Place,
-    nodes: Option<u32>,
     steps: &mut Steps<L>,
 ) -> Result<RuleList, NoMemory>
-    ensures { IfOk result (λ list. list
-        ≡ places_in (table_at table.now (placed_rule place).head) ++ place ∷ []) }
+    ensures { IfOk result (λ list. list ≡ places_in (table_at table.now symbol) ++ place ∷ []) }
 {
-    match table.find(place.rule().head as u64) {
-        Some(list) => list.append(alloc, place, nodes, steps),
-        None => RuleList::one(alloc, place, nodes, steps),
+    match table.find(symbol) {
+        Some(list) => list.append(alloc, place, steps),
+        None => RuleList::one(alloc, place, steps),
     }
 }
 
@@ -42,13 +41,12 @@ fn with_rule<L: Ledger>(
     alloc: Global,
     table: &RuleTable,
     place: Place,
-    nodes: Option<u32>,
     steps: &mut Steps<L>,
 ) -> Result<RuleTable, NoMemory>
     ensures { IfOk result (λ t. AddsRules table.now t (placed_rule place ∷ [])) }
 {
     let head = place.rule().head as u64;
-    let list = listed(alloc, table, place, nodes, steps)?;
+    let list = listed(alloc, table, head, place, steps)?;
     table.put(alloc, head, list)
 }
 
@@ -61,27 +59,10 @@ fn rule_count(held: &Held) -> usize
     }
 }
 
-/// Whether the rule at this place has the head of the one behind it.
-fn goes_on(held: &Held, at: usize) -> bool {
-    match held.entry() {
-        Entry::Rules(rules) => match (rules.get(at), rules.get(at.saturating_add(1))) {
-            (Some(rule), Some(next)) => rule.head == next.head,
-            _ => false,
-        },
-        Entry::Symbol { .. } => false,
-    }
-}
-
-/// How many nodes a tree may have that is compiled with the rule at this place: none before all rules of its head are there.
-fn nodes_at(held: &Held, at: usize, nodes: u32) -> Option<u32> {
-    if goes_on(held, at) { None } else { Some(nodes) }
-}
-
 fn counted<L: Ledger>(
     alloc: Global,
     table: &RuleTable,
     held: &Held,
-    nodes: u32,
     blank: Blank,
 ) -> Result<RuleTable, NoMemory>
     requires name { blank.name ≡ L.name }
@@ -93,22 +74,17 @@ fn counted<L: Ledger>(
     let mut all = table.share()?;
     for at in 0..rule_count(held) {
         let place = Place::new(held.share()?, at);
-        all = with_rule(alloc, &all, place, nodes_at(held, at, nodes), &mut steps)?;
+        all = with_rule(alloc, &all, place, &mut steps)?;
     }
     Ok(all)
 }
 
-/// The table with the rules of an entry, where a tree may have so many nodes.
-pub fn with_entry(
-    alloc: Global,
-    table: &RuleTable,
-    held: &Held,
-    nodes: u32,
-) -> Result<RuleTable, NoMemory>
+/// The table with the rules of an entry.
+pub fn with_entry(alloc: Global, table: &RuleTable, held: &Held) -> Result<RuleTable, NoMemory>
     ensures { IfOk result (λ t. AddsRules table.now t (entry_rules held.now)) }
 {
     if rule_count(held) == 0 {
         return table.share();
     }
-    counted::<Brand>(alloc, table, held, nodes, Blank::new(1))
+    counted::<Brand>(alloc, table, held, Blank::new(1))
 }

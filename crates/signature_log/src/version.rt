@@ -14,10 +14,8 @@ use crate::fork::Fork;
 use crate::held::Held;
 use crate::slots::Slots;
 use crate::table::{RuleTable, with_entry};
-use crate::unbuilt::Unbuilt;
 use crate::{Grow, Rows, Steps};
 use dk_model::{Entry, Listed, NoMemory, Signature};
-use pattern_compile::MOST_NODES;
 use shared_term::Stored;
 use std::alloc::Global;
 use std::marker::{Brand, Model};
@@ -33,9 +31,6 @@ pub struct Version {
     alloc: Global,
     entries: Entries,
     rules: RuleTable,
-    unbuilt: Unbuilt,
-    /// How many nodes the tree of a symbol's rules has at most.
-    nodes: u32,
 }
 
 impl Model for Version {
@@ -79,19 +74,10 @@ impl Version {
     pub fn empty(alloc: Global) -> Result<Version, NoMemory>
         ensures { IfOk result (λ v. v ≡ []) }
     {
-        Version::with_nodes(alloc, MOST_NODES)
-    }
-
-    /// No entries. The tree of a symbol's rules will have at most so many nodes; with 0 all rules are rows.
-    pub fn with_nodes(alloc: Global, nodes: u32) -> Result<Version, NoMemory>
-        ensures { IfOk result (λ v. v ≡ []) }
-    {
         Ok(Version {
             alloc,
             entries: Entries::empty(alloc)?,
             rules: Fork::empty(alloc)?,
-            unbuilt: Unbuilt::new(alloc),
-            nodes,
         })
     }
 
@@ -132,14 +118,12 @@ impl Version {
             return Err(Grow::Full);
         }
         let held = Held::new(entry);
-        let rules = with_entry(self.alloc, &self.rules, &held, self.nodes)?;
+        let rules = with_entry(self.alloc, &self.rules, &held)?;
         let entries = self.entries.append(self.alloc, held, steps)?;
         Ok(Version {
             alloc: self.alloc,
             entries,
             rules,
-            unbuilt: Unbuilt::new(self.alloc),
-            nodes: self.nodes,
         })
     }
 
@@ -167,8 +151,6 @@ impl Version {
             alloc: self.alloc,
             entries: self.entries.share()?,
             rules: self.rules.share()?,
-            unbuilt: Unbuilt::new(self.alloc),
-            nodes: self.nodes,
         })
     }
 
@@ -192,6 +174,6 @@ impl Version {
     {
         let body = body_of(self.get(symbol));
         let declared = self.rules.find(symbol as u64);
-        Rows::new(body, declared, &self.unbuilt)
+        Rows::new(body, declared)
     }
 }

@@ -5,7 +5,6 @@ use crate::evaluation_rows::{Asked, LARGE, ROWS, Row};
 use crate::texts::version_of_text;
 use conversion::PoolReducer;
 use dk_model::{Entry, NoMemory, Stop};
-use pattern_compile::MOST_NODES;
 use shared_term::Stored;
 use signature_log::{Reducer, Version};
 use std::alloc::Global;
@@ -126,20 +125,14 @@ fn is_told(
         && (!over_trees || trees_tell(alloc, question, units, due))
 }
 
-/// Whether a row is told by matching trees, and by rules as rows.
 fn is_row(
     alloc: Global,
     terms: &mut PoolReducer,
     row: &Row,
     over_trees: bool,
 ) -> Result<bool, NoMemory> {
-    for nodes in [MOST_NODES, 0] {
-        let version = version_of_text(alloc, row.0, nodes)?;
-        if !is_told(alloc, terms, &version, row, over_trees && nodes > 0) {
-            return Ok(false);
-        }
-    }
-    Ok(true)
+    let version = version_of_text(alloc, row.0)?;
+    Ok(is_told(alloc, terms, &version, row, over_trees))
 }
 
 /// The first row of which something else is told, by its number.

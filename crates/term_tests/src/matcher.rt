@@ -2,22 +2,43 @@
 ghost use Rattle.std.specs.Prelude.{◌<◌, length, IfOk};
 ghost use Rattle.rule_match.specs.Columns.{AreWithin};
 ghost use Rattle.rule_match.specs.Matching.{IsMatcher, Awaits};
+ghost use Rattle.rule_match.specs.Trees.{IsPlaced};
 ghost use Rattle.shared_term.specs.Pools.{Extends};
 
 use crate::texts::{Parts, version_of_text};
-use dk_model::{Entry, NoMemory, NodeOf};
-use pattern_compile::MOST_NODES;
-use rule_match::{Answer, Ask, Matcher};
-use shared_term::{Pool, TermId};
+use dk_model::{Entry, NoMemory, NodeOf, Rule};
+use rule_match::{Answer, Ask, LeftSide, Matcher, Tree, compile};
+use shared_term::{Pool, Stored, TermId};
 use signature_log::Version;
 use std::alloc::Global;
 
-/// The head of the first rule of the last command.
-fn last_head(version: &Version) -> u32 {
+/// The rules of the last command of a version.
+fn last_rules(version: &Version) -> &[Rule<Stored>] {
     match version.get(version.len().saturating_sub(1)) {
-        Some(Entry::Rules(rules)) => rules.as_slice().first().map_or(0, |rule| rule.head),
-        _ => 0,
+        Some(Entry::Rules(rules)) => rules.as_slice(),
+        _ => &[],
     }
+}
+
+fn compiled(alloc: Global, rules: &[Rule<Stored>]) -> Result<Tree, NoMemory>
+    ensures { IfOk result IsPlaced }
+{
+    let mut sides = Vec::new(alloc);
+    for rule in rules {
+        sides.push(LeftSide {
+            patterns: rule.pats.as_slice(),
+            vars: rule.vars,
+        })?;
+    }
+    compile(alloc, sides.as_slice())
+}
+
+/// The tree of the rules that end a text.
+fn tree_of(alloc: Global, parts: &[(&str, u32)]) -> Result<Tree, NoMemory>
+    ensures { IfOk result IsPlaced }
+{
+    let version = version_of_text(alloc, parts)?;
+    compiled(alloc, last_rules(&version))
 }
 
 /// What the selection asks for once it is told whether two terms are alike, or that a term stands; where it asks for
@@ -43,7 +64,7 @@ fn tell(
 }
 
 /// A rule, and how many captures it has, each of them this one of the arguments.
-type Taken = (u32, usize, usize);
+type Taken = (usize, usize, usize);
 
 /// Whether this rule is taken with these captures, or none.
 fn is_taken(ask: &Ask, arguments: &[TermId], due: Option<Taken>) -> bool {
@@ -65,18 +86,14 @@ fn is_taken(ask: &Ask, arguments: &[TermId], due: Option<Taken>) -> bool {
 fn selects(
     alloc: Global,
     pool: &mut Pool,
-    version: &Version,
+    tree: &Tree,
     arguments: [TermId; 2],
     row: &Row,
 ) -> Result<bool, NoMemory>
-    requires { AreWithin (length pool.old) arguments }
+    requires within { AreWithin (length pool.old) arguments }
+    requires placed { IsPlaced tree.now }
 {
-    let symbol = last_head(version);
-    let rules = version.rules_of(symbol);
-    if rules.len() == 0 {
-        return Ok(false);
-    }
-    let mut matcher = Matcher::start(alloc, rules, symbol, &arguments)?;
+    let mut matcher = Matcher::start(alloc, tree, &arguments)?;
     let ask = matcher.next(pool, Answer::Begin)?;
     let is_asked = match &ask {
         Ask::Evaluate(column) => *column == 0 && row.alike.is_none(),
@@ -125,34 +142,27 @@ const PLUS: Parts = &[
 const SAME: Parts = &[("def same : Type. [x] same x x --> Type.", 1)];
 
 const HEADS_100: Parts = &[
-    ("c# : Type. ", 100),
+    ("c$ : Type. ", 100),
     ("def f : Type. ", 1),
-    ("[] f c# --> c0 ", 100),
+    ("[] f c$ --> c0 ", 100),
     (".", 1),
 ];
 
-/// Each rule in a command of its own: 64 of them are in the tree, the others stand behind it.
-const HEADS_ONE_BY_ONE: Parts = &[
-    ("c# : Type. ", 100),
-    ("def f : Type. ", 1),
-    ("[] f c# --> c0. ", 100),
-];
-
 const HEADS_4095: Parts = &[
-    ("c# : Type. ", 4_096),
+    ("c$ : Type. ", 4_096),
     ("def f : Type. ", 1),
-    ("[] f c# --> c0 ", 4_095),
+    ("[] f c$ --> c0 ", 4_095),
     (".", 1),
 ];
 
 const HEADS_4096: Parts = &[
-    ("c# : Type. ", 4_096),
+    ("c$ : Type. ", 4_096),
     ("def f : Type. ", 1),
-    ("[] f c# --> c0 ", 4_096),
+    ("[] f c$ --> c0 ", 4_096),
     (".", 1),
 ];
 
-const ROWS: [Row; 12] = [
+const ROWS: [Row; 9] = [
     Row {
         parts: PLUS,
         nodes: 3,
@@ -202,27 +212,6 @@ const ROWS: [Row; 12] = [
         alike: None,
         taken: None,
     },
-    Row {
-        parts: HEADS_ONE_BY_ONE,
-        nodes: 65,
-        arguments: [Argument::Symbol(0), Argument::Symbol(30)],
-        alike: None,
-        taken: Some((30, 0, 0)),
-    },
-    Row {
-        parts: HEADS_ONE_BY_ONE,
-        nodes: 65,
-        arguments: [Argument::Symbol(0), Argument::Symbol(70)],
-        alike: None,
-        taken: Some((70, 0, 0)),
-    },
-    Row {
-        parts: HEADS_ONE_BY_ONE,
-        nodes: 65,
-        arguments: [Argument::Symbol(0), Argument::Symbol(100)],
-        alike: None,
-        taken: None,
-    },
     // A tree has 4,096 nodes at the most.
     Row {
         parts: HEADS_4095,
@@ -255,34 +244,32 @@ fn interned(pool: &mut Pool, argument: Argument) -> Result<TermId, NoMemory>
     }
 }
 
-fn is_selected(alloc: Global, version: &Version, row: &Row) -> Result<bool, NoMemory> {
+fn is_selected(alloc: Global, pool: &mut Pool, tree: &Tree, row: &Row) -> Result<bool, NoMemory>
+    requires { IsPlaced tree.now }
+{
+    let second = interned(pool, row.arguments[0])?;
+    let first = interned(pool, row.arguments[1])?;
+    selects(alloc, pool, tree, [second, first], row)
+}
+
+fn has_tree(alloc: Global, tree: &Tree, row: &Row) -> Result<bool, NoMemory>
+    requires { IsPlaced tree.now }
+{
     let mut pool = Pool::new(alloc)?;
-    let second = interned(&mut pool, row.arguments[0])?;
-    let first = interned(&mut pool, row.arguments[1])?;
-    selects(alloc, &mut pool, version, [second, first], row)
+    is_selected(alloc, &mut pool, tree, row)
 }
 
-/// How many nodes the tree of the last rules has.
-fn nodes_of(version: &Version) -> Option<u32> {
-    match version.rules_of(last_head(version)).tree() {
-        Some(tree) => Some(tree.nodes()),
-        None => None,
-    }
+fn is_row(alloc: Global, row: &Row) -> Result<bool, NoMemory> {
+    let tree = tree_of(alloc, row.parts)?;
+    let is_selected = has_tree(alloc, &tree, row) == Ok(true);
+    Ok(is_selected && tree.nodes() == row.nodes)
 }
 
-/// Whether a row is as told where trees have at most so many nodes.
-fn is_row(alloc: Global, row: &Row, most: u32, nodes: u32) -> Result<bool, NoMemory> {
-    let version = version_of_text(alloc, row.parts, most)?;
-    let is_selected = is_selected(alloc, &version, row)?;
-    Ok(is_selected && nodes_of(&version) == Some(nodes))
-}
-
-/// The first row that isn't as told, by its tree or by its rules as rows, by its number.
+/// The first row that isn't as told, by its number.
 fn first_wrong(alloc: Global) -> Result<Option<usize>, NoMemory> {
     let mut number = 0usize;
     for row in &ROWS {
-        let is_told = is_row(alloc, row, MOST_NODES, row.nodes)? && is_row(alloc, row, 0, 0)?;
-        if !is_told {
+        if !is_row(alloc, row)? {
             return Ok(Some(number));
         }
         number = number.wrapping_add(1);

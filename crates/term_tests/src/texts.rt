@@ -9,13 +9,13 @@ use signature_log::Version;
 use std::alloc::Global;
 use std::sync::Arc;
 
-/// The parts of a text, each so often. In a part `#` stands for how often it was written before, and `@` for one more.
+/// The parts of a text, each so often. In a part `$` stands for how often it was written before, and `@` for one more.
 pub type Parts = &'static [(&'static str, u32)];
 
 /// A byte of a part that was written so often before.
 fn put(alloc: Global, text: &mut Vec<u8>, byte: u8, before: u32) -> Result<(), NoMemory> {
     let number = match byte {
-        b'#' => before,
+        b'$' => before,
         b'@' => before.saturating_add(1),
         _ => {
             text.push(byte)?;
@@ -122,29 +122,17 @@ pub fn entered(alloc: Global, version: &Version, command: &Scoped) -> Result<Ver
     }
 }
 
-fn after(alloc: Global, version: Version, commands: &[Scoped]) -> Result<Version, NoMemory> {
-    let mut version = version;
+/// The version after these commands.
+pub fn version_after(alloc: Global, commands: &[Scoped]) -> Result<Version, NoMemory> {
+    let mut version = Version::empty(alloc)?;
     for command in commands {
         version = entered(alloc, &version, command)?;
     }
     Ok(version)
 }
 
-/// The version after these commands.
-pub fn version_after(alloc: Global, commands: &[Scoped]) -> Result<Version, NoMemory> {
-    after(alloc, Version::empty(alloc)?, commands)
-}
-
-/// The version after the commands of a text, whose trees have at most so many nodes.
-pub fn version_of_text(
-    alloc: Global,
-    parts: &[(&str, u32)],
-    nodes: u32,
-) -> Result<Version, NoMemory> {
+/// The version after the commands of a text.
+pub fn version_of_text(alloc: Global, parts: &[(&str, u32)]) -> Result<Version, NoMemory> {
     let commands = commands_of(alloc, parts)?;
-    after(
-        alloc,
-        Version::with_nodes(alloc, nodes)?,
-        commands.as_slice(),
-    )
+    version_after(alloc, commands.as_slice())
 }

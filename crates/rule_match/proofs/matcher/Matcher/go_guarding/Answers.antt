@@ -13,7 +13,7 @@ use Rattle.shared_term.specs.Pools.{term}
 
 pub returns-in-None-clause-asks : goal.returns-in-None-clause-asks
 returns-in-None-clause-asks c = λ rules s. record {
-  stands = record { source = s.source };
+  stands = record { source = s.source; left = s.left };
   asks = λ S. (
     place_there rules c.args.self.now.source s.source c.args.self.now.row.at c.requires.tried.there,
     λ n.
@@ -41,7 +41,7 @@ returns-in-None-clause-within c = record {
 
 pub returns-in-Some-clause-asks : goal.returns-in-Some-clause-asks
 returns-in-Some-clause-asks c = λ rules s. record {
-  stands = record { source = s.source };
+  stands = record { source = s.source; left = s.left };
   asks = λ S n.
       guards_asked S (row rules c.args.self.now.row) (drop (c.args.self.now.tried + 1) (rows_left rules c.args.self.now.left)) c.args.self.now.row.cells.items c.args.self.now.columns.items
       c.args.self.now.captures.items c.args.pool.now c.next_guard.new.pool c.args.from n (Some c.in-Some.next) refl c.next_guard.ensures.keeps c.requires.within.columns c.requires.within.captures

@@ -28,7 +28,7 @@ pub returns-in-Through-clause-asks : goal.returns-in-Through-clause-asks
 returns-in-Through-clause-asks c =
     let m1 : Matcher = record c.args.self.now { captures = c.pass.new.captures } in
     asks_on c.go_guarding.result c.go_guarding.new.pool c.go_guarding.new.self c.args.self.now m1 (λ rules S. guards_due S rules c.pass.new.pool m1 0)
-    (λ rules S. captures_due S rules c.args.pool.now c.args.self.now c.args.from) (λ rules s. record { source = s.source })
+    (λ rules S. captures_due S rules c.args.pool.now c.args.self.now c.args.from) (λ rules s. record { source = s.source; left = s.left })
     (λ rules s S n. cells_asked S (row rules c.args.self.now.row) (drop (c.args.self.now.tried + 1) (rows_left rules c.args.self.now.left)) c.args.self.now.row.cells.items c.args.self.now.columns.items
     c.args.self.now.captures.items c.pass.new.captures.items c.args.pool.now c.pass.new.pool c.args.from n Through refl
     (rw (c.as_slice.ensures.value, c.as_slice-2.ensures.value, c.in-Through.is) at c.in_ok-pass.ensures.passes))
@@ -39,7 +39,7 @@ returns-in-Escapes-clause-asks c = λ rules s.
     let m1 : Matcher = record c.args.self.now { captures = c.pass.new.captures; stage = Escapes c.in-Escapes.at } in
     let rest : List PlainRow = drop (c.args.self.now.tried + 1) (rows_left rules c.args.self.now.left) in
     record {
-      stands = record { source = s.source };
+      stands = record { source = s.source; left = s.left };
       asks = λ S n.
           cells_asked S (row rules c.args.self.now.row) rest c.args.self.now.row.cells.items c.args.self.now.columns.items c.args.self.now.captures.items c.pass.new.captures.items c.args.pool.now
           c.pass.new.pool c.args.from n (EscapesAt c.in-Escapes.at) refl (rw (c.as_slice.ensures.value, c.as_slice-2.ensures.value, c.in-Escapes.is) at c.in_ok-pass.ensures.passes)
@@ -61,7 +61,7 @@ pub returns-in-Compares-clause-asks : goal.returns-in-Compares-clause-asks
 returns-in-Compares-clause-asks c = λ rules s.
     let rest : List PlainRow = drop (c.args.self.now.tried + 1) (rows_left rules c.args.self.now.left) in
     record {
-      stands = record { source = s.source };
+      stands = record { source = s.source; left = s.left };
       asks = λ S n.
           cells_asked S (row rules c.args.self.now.row) rest c.args.self.now.row.cells.items c.args.self.now.columns.items c.args.self.now.captures.items c.pass.new.captures.items c.args.pool.now
           c.pass.new.pool c.args.from n (ComparesAt c.in-Compares.at c.in-Compares.earlier c.in-Compares.part) refl

@@ -9,6 +9,7 @@ use Rattle.rule_match.specs.Columns.{value_put}
 use Rattle.rule_match.proofs.Following.{value_there, depth_got}
 use Rattle.rule_match.proofs.Matching.{asks_on}
 use Rattle.rule_match.proofs.Asking.{put_within}
+use Rattle.rule_match.proofs.Placing.{next_placed}
 use Rattle.rule_match.proofs.matcher.Matcher.put_value.Goals as goal
 
 pub try_row-requires : goal.try_row-requires
@@ -20,7 +21,7 @@ try_row-requires c =
       captures = c.requires.within.captures;
       stage = tt;
       tried = tt;
-      placed = c.in_ok-self.ensures.placed;
+      placed = next_placed c.args.self.now.source c.args.self.now.left c.in_ok-self.field-0 c.args.self.now.tried c.in_ok-key.key c.args.at c.requires.within.placed c.in_ok-self.ensures;
     }
 
 pub returns-clause-asks : goal.returns-clause-asks
@@ -30,9 +31,9 @@ returns-clause-asks c =
     c.in_ok-self-2.ensures ∙ ap (λ (u : Vec Column Global). value_put u.items c.args.at c.args.value c.in_ok-key.parts.items) c.replace-columns.ensures.value in
     asks_on c.try_row.result c.try_row.new.pool c.try_row.new.self c.args.self.now m1 (λ rules S. selects S rules c.args.pool.now m1)
     (λ rules S. after_value S rules c.args.pool.now c.args.self.now c.args.at (term c.args.pool.now c.args.value))
-    (λ rules s. record { source = s.source })
-    (λ rules s S n. value_there S rules c.args.self.now.source c.args.pool.now c.args.self.now.columns.items c.column_of-depth.result.depth c.args.value c.in_ok-key.parts.items
-    c.in_ok-self-2.field-0.items c.args.self.now.left c.in_ok-self.field-0 (record { tried = c.args.self.now.tried; key = c.in_ok-key.key; column = c.args.at }) n s.source
+    (λ rules s. record { source = s.source; left = (c.in_ok-self.ensures rules s.source s.left).is })
+    (λ rules s S n. value_there S rules c.args.self.now.source c.args.pool.now c.args.self.now.columns.items c.args.at c.column_of-depth.result.depth c.args.value c.in_ok-key.parts.items
+    c.in_ok-self-2.field-0.items c.args.self.now.left c.in_ok-self.field-0 c.args.self.now.tried c.in_ok-key.key n
     (depth_got c.args.self.now.columns.items c.args.at c.column_of-depth.result (rw c.as_slice.ensures.value at c.column_of-depth.ensures)) c.in_ok-key.ensures.opens c.in_ok-key.ensures.key
-    c.in_ok-self.ensures e)
+    (c.in_ok-self.ensures rules s.source s.left) e)
     c.try_row.ensures.asks
