@@ -1,21 +1,19 @@
 -- A newline behind a whole command settles what its end would settle.
-use Rattle.std.proofs.Common.{List, [], ◌∷◌, ◌++◌, length, append-nil, ℕ, zero, suc, ◌≡◌, ◌<◌, ◌≤◌, ◌+◌, Bool, true, false, nat_lt, is_some, Option, Some, None, refl, ap, sym, subst, ◌∙◌, true≢false, arith, if◌then◌else◌}
+use Rattle.std.proofs.Common.{List, [], ◌∷◌, ℕ, ◌≡◌, ◌<◌, true, false, is_some, Option, Some, None, refl, ap, sym, subst, ◌∙◌, true≢false}
 use Rattle.dk_model.specs.declared.code.Code.{Code}
-use Rattle.dk_model.specs.declared.limits.Limits.{Limits}
 use Rattle.dk_lexer.specs.declared.token.Token.{Token}
 use Rattle.dk_lexer.specs.declared.token.TokenKind.{TokenKind}
 use Rattle.dk_lexer.specs.declared.token.TokenKind.TheVariants as kind
 use Rattle.dk_lexer.specs.declared.token.Sign.TheVariants as sign
-use Rattle.dk_lexer.specs.declared.place.Place.{Place}
 use Rattle.dk_lexer.specs.declared.class.Class.TheVariants as class
 use Rattle.dk_lexer.specs.declared.part.Part.{Part}
 use Rattle.dk_lexer.specs.declared.part.Part.TheVariants as part
 use Rattle.dk_lexer.specs.declared.lexer.Lexer.{Lexer}
 use Rattle.dk_lexer.specs.Classes.{class_of}
 use Rattle.dk_lexer.specs.Spelling.{kind_of}
-use Rattle.dk_lexer.specs.Tokens.{bound, input_limit, command_after, token_at}
+use Rattle.dk_lexer.specs.Tokens.{bound, input_limit, token_at}
 use Rattle.dk_lexer.specs.Given.{with_token, given}
-use Rattle.dk_lexer.specs.Steps.{Move, Step, one, two, past, past_bound, own, taken, ended, begin, settles, sign_at, dot_ends, part_step, part_ends, step, ends}
+use Rattle.dk_lexer.specs.Steps.{Move, Step, past, past_bound, own, taken, ended, begin, settles, sign_at, part_step, part_ends, step, ends}
 use Rattle.text_law.proofs.Moves.{within_past}
 use Rattle.text_law.proofs.Opens.{keeps_open, open_after, after_kind}
 

@@ -1,8 +1,7 @@
 -- Whether a command is open behind some tokens: exactly where the last of them is no dot.
-use Rattle.std.proofs.Common.{List, [], ◌∷◌, ◌++◌, length, ℕ, zero, suc, ◌≡◌, ◌<◌, ◌≤◌, ◌+◌, ◌-◌, min, Bool, true, false, not, nat_le, is_some, Option, Some, None, refl, ap, sym, subst, ◌∙◌, codes, ◌==◌, arith, if◌then◌else◌}
+use Rattle.std.proofs.Common.{List, [], ◌∷◌, ◌++◌, length, ℕ, zero, suc, ◌≡◌, ◌+◌, ◌-◌, Bool, true, false, nat_le, is_some, Option, Some, None, refl, ap, sym, subst, ◌∙◌, codes, ◌==◌, if◌then◌else◌}
 use Rattle.dk_model.specs.declared.code.Code.{Code}
 use Rattle.dk_model.specs.declared.code.Code.TheVariants.{E05}
-use Rattle.dk_model.specs.declared.limits.Limits.{Limits}
 use Rattle.dk_lexer.specs.declared.token.Token.{Token}
 use Rattle.dk_lexer.specs.declared.token.TokenKind.{TokenKind}
 use Rattle.dk_lexer.specs.declared.token.TokenKind.TheVariants as kind
@@ -15,11 +14,11 @@ use Rattle.dk_lexer.specs.declared.part.Part.TheVariants as part
 use Rattle.dk_lexer.specs.declared.lexer.Lexer.{Lexer}
 use Rattle.dk_lexer.specs.Classes.{class_of}
 use Rattle.dk_lexer.specs.Spelling.{kind_of, is_wildcard, Pair, opens, closes, apart, pair}
-use Rattle.dk_lexer.specs.Tokens.{token_at, command_after}
+use Rattle.dk_lexer.specs.Tokens.{command_after}
 use Rattle.dk_lexer.specs.Given.{with_token, given}
 use Rattle.dk_lexer.specs.Parts.{fault_of}
 use Rattle.dk_lexer.specs.Pieces.{piece_tokens}
-use Rattle.dk_lexer.specs.Steps.{Move, Step, one, past, own, fails, taken, takes, goes_on, completed, completes, ended, begin_name, begin_by, begin, settles, comment_closes, comment_pair, run_name, run_step, second_begins, sign_at, dot_ends, dot_step, second_opens, brace_step, second_name, second_step, quoted_step, bar_more, bar_step, hash_step, word_step, bracket_step, open_step, colon_step, equals_step, minus_step, two_minus_step, part_step, step, lexer_from}
+use Rattle.dk_lexer.specs.Steps.{Move, Step, past, own, fails, taken, takes, goes_on, completed, completes, ended, begin_name, begin_by, begin, settles, comment_closes, comment_pair, run_name, run_step, second_begins, dot_ends, dot_step, brace_step, second_name, second_step, quoted_step, bar_more, bar_step, hash_step, word_step, bracket_step, open_step, colon_step, equals_step, minus_step, two_minus_step, part_step, step, lexer_from}
 use Rattle.text_law.proofs.Pieces.{failed_from}
 
 -- a dot ends its command

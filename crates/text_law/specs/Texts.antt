@@ -10,6 +10,7 @@ use Rattle.dk_parser.specs.FileReading as reading
 use Rattle.dk_parser.specs.Grammar.{terminals, SpellsForm}
 use Rattle.dk_parser.specs.Levels.{IsWithin}
 use Rattle.dk_parser.specs.Written.{WrittenForm, WrittenCommand}
+pub use Rattle.text_law.specs.Cutting.{forms_of}
 
 -- by itself the text spells this command, within the limits, and nothing is begun behind it
 pub record IsText (limits : Limits) (text : List ℕ) (form : WrittenForm) : Type 0 where
@@ -21,10 +22,6 @@ pub record IsText (limits : Limits) (text : List ℕ) (form : WrittenForm) : Typ
 pub data AreTexts (limits : Limits) : List (List ℕ) → List WrittenForm → Type 0 where
   texts_none : AreTexts limits [] []
   texts_more : {text : List ℕ} {form : WrittenForm} {texts : List (List ℕ)} {forms : List WrittenForm} → IsText limits text form → AreTexts limits texts forms → AreTexts limits (text ∷ texts) (form ∷ forms)
-
-abbrev pub forms_of : List WrittenCommand → List WrittenForm
-forms_of [] = []
-forms_of (c ∷ cs) = c.form ∷ forms_of cs
 
 -- put one behind the other, these texts are read as just these commands
 pub record AreReadTogether (limits : Limits) (texts : List (List ℕ)) (forms : List WrittenForm) : Type 0 where
