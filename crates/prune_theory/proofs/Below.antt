@@ -9,7 +9,7 @@ use Rattle.dk_parser.specs.Written.{Written, written_name, written_qualified, wr
 use Rattle.std.specs.Map.{lookup}
 use Rattle.scope_terms.specs.Scopes.{Spelling, Module, Symbols, no_symbols, numbers_in, own_of, same_module, with_symbol, with_number, Binder, Numbered, no_names, number_of, with_name, names_after, same_spelling, Scoping, scoped, both, binds, number_from, means_variable, means_rule_variable, means_symbol, unknown, meant_term, meant_left, term_of, maybe_term_of, left_of, Declaration, with_parameter, declaration_of, notes_of, variables_of, rule_of, rules_of, asked_of, scope_of}
 use Rattle.scope_terms.proofs.Numbers.{number_of-added, number_of-others}
-use Rattle.prune_theory.specs.Mentions.{term_symbols, maybe_symbols, notes_symbols, left_symbols, rule_symbols, rules_symbols, asked_symbols, symbols_of, Rests, itself, by_mention, by_head}
+use Rattle.prune_theory.specs.Mentions.{term_symbols, maybe_symbols, notes_symbols, left_symbols, rule_symbols, rules_symbols, asked_symbols, symbols_of, MentionBefore, Rests, itself, by_mention, by_head}
 use Rattle.prune_theory.specs.Folds.{Stated, Declared, nothing_declared, AreAccepted, accepts_none, accepts_more}
 use Rattle.prune_theory.proofs.Names.{declares_new, same_is, count_after}
 use Rattle.prune_theory.proofs.Whole.{Holds, not_held, held, both_holds, one_holds, if_holds, held_at}
@@ -172,8 +172,12 @@ mentions_before n (accepts_more {T} {f} {c} q a rest) h e (suc i) j d g m = subs
 no_names_numbered : AreNumbered no_symbols
 no_names_numbered m x k e = absurd cc
 
+-- each accepted one
+pub accepted_before : {budget : ℕ} {U : Declared} {fs : List Stated} {cs : List PlainCommand} {ns : List ℕ} → AreAccepted budget nothing_declared fs cs ns U → MentionBefore cs
+accepted_before a i j c g m = let q : j < 0 + i = mentions_before 0 a no_names_numbered refl i j c g m in omega arith
+
 -- so a command rests on none behind it
 pub rests_before : {budget : ℕ} {U : Declared} {fs : List Stated} {cs : List PlainCommand} {ns : List ℕ} → AreAccepted budget nothing_declared fs cs ns U → (k : ℕ) {i : ℕ} → Rests cs k i → i ≤ k
 rests_before a k itself = omega arith
-rests_before {cs} a k (by_mention {i} {j} c r g m) = let p : i ≤ k = rests_before a k r in let q : j < 0 + i = mentions_before 0 a no_names_numbered refl i j c g m in omega arith
+rests_before {cs} a k (by_mention {i} {j} c r g m) = let p : i ≤ k = rests_before a k r in let q : j < i = accepted_before a i j c g m in omega arith
 rests_before a k (by_head c r l g m) = omega arith

@@ -19,6 +19,8 @@ pub mod Closure
 pub mod Pruning
 pub mod Replays
 pub mod Adding
+pub mod Stacks
+pub mod Behind
 pub mod Reached
 pub mod Edges
 pub mod Turning

@@ -1,14 +1,21 @@
 -- A declaration that is written has a type or a body, and keeps it when it is scoped.
 use Rattle.std.proofs.Common.{List, [], ◌∷◌, ◌≡◌, Bool, true, false, is_some, ◌||◌, Option, Some, None, refl, subst, ◌∙◌, option_map, if◌then◌else◌}
+use Rattle.std.proofs.lemmas.List.Elements.{All-nil, All-cons}
+use Rattle.std.specs.Prelude.{All}
+use Rattle.dk_model.specs.declared.limits.Limits.{Limits}
+use Rattle.dk_lexer.specs.declared.token.Token.{Token}
+use Rattle.dk_lexer.specs.Tokens.{tokens}
 use Rattle.dk_model.specs.PlainTerms.{Tree, annotated, product}
 use Rattle.dk_model.specs.PlainCommands.{PlainCommand, rule_command, query}
 use Rattle.dk_model.specs.declared.code.Code.{Code}
 use Rattle.dk_model.specs.declared.code.Code.TheVariants.{E11}
 use Rattle.dk_terms.specs.declared.terminal.Terminal.{Terminal}
-use Rattle.dk_parser.specs.Written.{Written, WrittenParam, WrittenForm, written_declare, written_rules, written_query, written_module, written_require}
+use Rattle.dk_parser.specs.Written.{Written, WrittenParam, WrittenForm, WrittenCommand, written_declare, written_rules, written_query, written_module, written_require}
 use Rattle.dk_parser.specs.Grammar.{SpellsForm, spells_static, spells_definable, spells_definition, spells_typed_definition, spells_theorem, spells_rules, spells_typed, spells_alike, spells_type_of, spells_value_of, spells_module, spells_require}
 use Rattle.scope_terms.specs.Scopes.{Binder, Module, Symbols, Numbered, own_of, no_names, Scoping, scoped, refused, one, both, term_of, maybe_term_of, with_parameter, declaration_of, rules_of, asked_of, command_of, scope_of}
-use Rattle.prune_theory.specs.Laws.{HasTypeOrBody}
+use Rattle.dk_parser.specs.Reading.{TokenReading, Reads, reads_nothing, reads_front, reads_fault, reads_command}
+use Rattle.dk_parser.proofs.Exact.{exact}
+use Rattle.prune_theory.specs.Laws.{HasTypeOrBody, ReadHaveTypeOrBody}
 use Rattle.prune_theory.proofs.Scoping.{IsWhole}
 
 pub spelt_has : {xs : List Terminal} {f : WrittenForm} → SpellsForm xs f → HasTypeOrBody f
@@ -24,6 +31,19 @@ spelt_has (spells_type_of t) = tt
 spelt_has (spells_value_of t) = tt
 spelt_has (spells_module m) = tt
 spelt_has (spells_require m) = tt
+
+abbrev HasIt : WrittenCommand → Type 0
+HasIt c = HasTypeOrBody c.form
+
+-- each command that is read has it
+read_has : {limits : Limits} {ts : List Token} {r : TokenReading} → Reads limits ts r → All HasIt r.commands
+read_has reads_nothing = All-nil HasIt
+read_has (reads_front f) = All-nil HasIt
+read_has (reads_fault t rest f h) = All-nil HasIt
+read_has (reads_command {c} {r} s w rest) = All-cons HasIt c r.commands (spelt_has s.form) (read_has rest)
+
+pub read_have : ReadHaveTypeOrBody
+read_have limits bytes ending = read_has (exact limits (tokens limits bytes ending).tokens)
 
 -- where it is scoped, P holds of it
 pub data Holds {A : Type 0} (P : A → Type 0) : Scoping A → Type 0 where

@@ -1,9 +1,11 @@
--- For callers: commands that are accepted one after the other.
+-- Trusted: commands that are accepted one after the other (docs/pruning.md).
 use Rattle.std.specs.Prelude.{ℕ, ◌≡◌, List, [], ◌∷◌, ◌++◌}
 use Rattle.dk_model.specs.PlainEntries.{PlainSignature}
 use Rattle.dk_model.specs.PlainCommands.{PlainCommand}
-use Rattle.dk_model.specs.Typing.{answer}
-use Rattle.dk_model.specs.Verdicts.{command_checked, entry_of, inferred_type}
+use Rattle.dk_model.specs.ByUnits.{by_units}
+use Rattle.dk_model.specs.CommandTypingOver.{command_checked}
+use Rattle.dk_model.specs.TypingOver.{answer}
+use Rattle.dk_model.specs.Verdicts.{entry_of, inferred_type}
 use Rattle.dk_parser.specs.Written.{WrittenForm}
 use Rattle.scope_terms.specs.Scopes.{Module, Symbols, names_after, no_symbols, scope_of, scoped}
 
@@ -29,5 +31,5 @@ declared_with budget T f c = record { names = names_after T.names f.place f.form
 pub data AreAccepted (budget : ℕ) : Declared → List Stated → List PlainCommand → List ℕ → Declared → Type 0 where
   accepts_none : {T : Declared} → AreAccepted budget T [] [] [] T
   accepts_more : {T U : Declared} {f : Stated} {fs : List Stated} {c : PlainCommand} {cs : List PlainCommand} {n : ℕ} {ns : List ℕ}
-      → scope_of T.names f.place f.form ≡ scoped c → command_checked T.signature c budget ≡ answer tt n → AreAccepted budget (declared_with budget T f c) fs cs ns U
+      → scope_of T.names f.place f.form ≡ scoped c → command_checked (by_units T.signature) T.signature c budget ≡ answer tt n → AreAccepted budget (declared_with budget T f c) fs cs ns U
       → AreAccepted budget T (f ∷ fs) (c ∷ cs) (n ∷ ns) U

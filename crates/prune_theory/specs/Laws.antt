@@ -1,12 +1,15 @@
 -- For callers: what the laws say: commands that are left where others are taken out, and verdicts that are kept.
-use Rattle.std.specs.Prelude.{ℕ, ◌≡◌, ◌<◌, Bool, true, is_some, ◌||◌, List, [], ◌∷◌, ◌++◌, length}
+use Rattle.std.specs.Prelude.{ℕ, ◌≡◌, ◌<◌, Bool, true, is_some, ◌||◌, List, [], ◌∷◌, ◌++◌, length, All}
+use Rattle.dk_model.specs.declared.limits.Limits.{Limits}
+use Rattle.dk_lexer.specs.Tokens.{Ending}
 use Rattle.dk_model.specs.PlainCommands.{PlainCommand}
 use Rattle.dk_model.specs.Verdicts.{command_checked, found_of, inferred_type}
-use Rattle.dk_parser.specs.Written.{WrittenForm, written_declare, written_rules, written_query, written_module, written_require}
+use Rattle.dk_parser.specs.FileReading.{read}
+use Rattle.dk_parser.specs.Written.{WrittenForm, WrittenCommand, written_declare, written_rules, written_query, written_module, written_require}
 use Rattle.scope_terms.specs.Scopes.{scoped, scope_of}
 use Rattle.prune_theory.specs.Alike.{Each, Maybe, AlikeCommand}
 use Rattle.prune_theory.specs.Renumbering.{rank, Renumbers, picked}
-use Rattle.prune_theory.specs.Mentions.{Rests}
+use Rattle.prune_theory.specs.Mentions.{MentionBefore, Rests}
 use Rattle.prune_theory.specs.Folds.{AreAccepted, Declared, Stated, nothing_declared}
 use Rattle.prune_theory.specs.Renamed.{found_with_symbols, with_symbols}
 
@@ -21,6 +24,14 @@ HasTypeOrBody (written_require m) = Unit {0}
 abbrev pub HaveTypeOrBody : List Stated → Type 0
 HaveTypeOrBody [] = Unit {0}
 HaveTypeOrBody (f ∷ fs) = HasTypeOrBody f.form × HaveTypeOrBody fs
+
+-- each command and directive that bytes are read as has it
+abbrev pub ReadHaveTypeOrBody : Type 0
+ReadHaveTypeOrBody = (limits : Limits) (bytes : List ℕ) (ending : Ending) → All (λ (c : WrittenCommand). HasTypeOrBody c.form) (read limits bytes ending).commands
+
+-- each accepted command mentions only what stands before it
+abbrev pub AcceptedMentionBefore : Type 0
+AcceptedMentionBefore = (budget : ℕ) (U : Declared) (fs : List Stated) (cs : List PlainCommand) (ns : List ℕ) → AreAccepted budget nothing_declared fs cs ns U → MentionBefore cs
 
 -- a test for what command `k` rests on
 pub record TestsRests (commands : List PlainCommand) (k : ℕ) (keep : ℕ → Bool) : Type 0 where

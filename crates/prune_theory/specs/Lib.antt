@@ -1,7 +1,10 @@
 pub mod Alike
 pub mod Renumbering
+pub mod Resting
 pub mod Mentions
+pub mod Before
 pub mod Reaching
+pub mod Stacks
 pub mod Folds
 pub mod Renamed
 pub mod Laws

@@ -1,5 +1,6 @@
 -- For callers: the numbers of what is left of a list when some places are left out.
-use Rattle.std.specs.Prelude.{ℕ, zero, suc, ◌≡◌, Bool, true, List, [], ◌∷◌, if◌then◌else◌}
+use Rattle.std.specs.Prelude.{ℕ, zero, suc, ◌≡◌, Bool, true, if◌then◌else◌}
+pub use Rattle.prune_theory.specs.Resting.{picked}
 
 -- how many of the `i` places from `n` on are kept
 abbrev pub kept_from : (ℕ → Bool) → ℕ → ℕ → ℕ
@@ -13,8 +14,3 @@ rank keep a = kept_from keep 0 a
 -- the place `a` is kept, and then has the number `b`
 abbrev pub Renumbers : (ℕ → Bool) → ℕ → ℕ → Type 0
 Renumbers keep a b = (keep a ≡ true) × (b ≡ rank keep a)
-
--- those of a list, whose first has the place `n`, that are kept
-abbrev pub picked : {A : Type 0} → (ℕ → Bool) → ℕ → List A → List A
-picked keep n [] = []
-picked keep n (x ∷ xs) = if keep n then x ∷ picked keep (suc n) xs else picked keep (suc n) xs

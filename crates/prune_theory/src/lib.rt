@@ -4,9 +4,12 @@
 //! Begin at specs/Mentions.antt, which says what a command rests on, then at `laws`.
 #![tactic(auto)]
 
+mod before;
 pub mod laws;
+mod left_spine;
 mod resting;
 mod symbols;
 
+pub use before::mention_before;
 pub use resting::rests;
 pub use symbols::{heads, mentions};
