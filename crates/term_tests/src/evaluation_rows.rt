@@ -209,9 +209,9 @@ pub const ROWS: [Row; 23] = [
     // and one for the constant that is left, and `c0` takes one.
     (
         &[
-            ("c# : Type. ", 7),
+            ("c$ : Type. ", 7),
             ("def next : Type. ", 1),
-            ("[] next c# --> c@ ", 6),
+            ("[] next c$ --> c@ ", 6),
             ("[x] next x --> c0. def t := ", 1),
             ("next (", 40),
             ("c0", 1),
@@ -224,9 +224,9 @@ pub const ROWS: [Row; 23] = [
     ),
     (
         &[
-            ("c# : Type. ", 36),
+            ("c$ : Type. ", 36),
             ("def next : Type. ", 1),
-            ("[] next c# --> c@ ", 35),
+            ("[] next c$ --> c@ ", 35),
             ("[x] next x --> c0. def t := ", 1),
             ("next (", 80),
             ("c0", 1),
@@ -239,9 +239,9 @@ pub const ROWS: [Row; 23] = [
     ),
     (
         &[
-            ("c# : Type. ", 190),
+            ("c$ : Type. ", 190),
             ("def next : Type. ", 1),
-            ("[] next c# --> c@ ", 189),
+            ("[] next c$ --> c@ ", 189),
             ("[x] next x --> c0. def t := ", 1),
             ("next (", 40),
             ("c0", 1),
@@ -259,9 +259,9 @@ pub const LARGE: [Row; 4] = [
     // Rules of one symbol in 1,099 commands, which stand in three levels of blocks.
     (
         &[
-            ("c# : Type. ", 1_100),
+            ("c$ : Type. ", 1_100),
             ("def next : Type. ", 1),
-            ("[] next c# --> c@. ", 1_099),
+            ("[] next c$ --> c@. ", 1_099),
             ("def t := ", 1),
             ("next (", 34),
             ("c1050", 1),
@@ -275,9 +275,9 @@ pub const LARGE: [Row; 4] = [
     // More nodes than a tree may have.
     (
         &[
-            ("c# : Type. ", 4_100),
+            ("c$ : Type. ", 4_100),
             ("def next : Type. ", 1),
-            ("[] next c# --> c@ ", 4_099),
+            ("[] next c$ --> c@ ", 4_099),
             ("[x] next x --> c0. def t := ", 1),
             ("next (", 34),
             ("c0", 1),
@@ -295,7 +295,7 @@ pub const LARGE: [Row; 4] = [
         &[
             RULES,
             ("def p0 : Type. [x] p0 x --> plus x z. ", 1),
-            ("def p@ : Type. [x] p@ x --> p# (p# x). ", 16),
+            ("def p@ : Type. [x] p@ x --> p$ (p$ x). ", 16),
             ("def t := p16 z. def v := z.", 1),
         ],
         Asked::Head,

@@ -14,6 +14,10 @@ mod matcher;
 #[cfg(test)]
 mod pools;
 #[cfg(test)]
+mod pruning;
+#[cfg(test)]
+mod queries;
+#[cfg(test)]
 mod texts;
 #[cfg(test)]
 mod versions;

@@ -142,23 +142,23 @@ const PLUS: Parts = &[
 const SAME: Parts = &[("def same : Type. [x] same x x --> Type.", 1)];
 
 const HEADS_100: Parts = &[
-    ("c# : Type. ", 100),
+    ("c$ : Type. ", 100),
     ("def f : Type. ", 1),
-    ("[] f c# --> c0 ", 100),
+    ("[] f c$ --> c0 ", 100),
     (".", 1),
 ];
 
 const HEADS_4095: Parts = &[
-    ("c# : Type. ", 4_096),
+    ("c$ : Type. ", 4_096),
     ("def f : Type. ", 1),
-    ("[] f c# --> c0 ", 4_095),
+    ("[] f c$ --> c0 ", 4_095),
     (".", 1),
 ];
 
 const HEADS_4096: Parts = &[
-    ("c# : Type. ", 4_096),
+    ("c$ : Type. ", 4_096),
     ("def f : Type. ", 1),
-    ("[] f c# --> c0 ", 4_096),
+    ("[] f c$ --> c0 ", 4_096),
     (".", 1),
 ];
 

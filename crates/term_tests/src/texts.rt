@@ -9,13 +9,13 @@ use signature_log::Version;
 use std::alloc::Global;
 use std::sync::Arc;
 
-/// The parts of a text, each so often. In a part `#` stands for how often it was written before, and `@` for one more.
+/// The parts of a text, each so often. In a part `$` stands for how often it was written before, and `@` for one more.
 pub type Parts = &'static [(&'static str, u32)];
 
 /// A byte of a part that was written so often before.
 fn put(alloc: Global, text: &mut Vec<u8>, byte: u8, before: u32) -> Result<(), NoMemory> {
     let number = match byte {
-        b'#' => before,
+        b'$' => before,
         b'@' => before.saturating_add(1),
         _ => {
             text.push(byte)?;

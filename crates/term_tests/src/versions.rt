@@ -103,7 +103,7 @@ fn two_differ(
 ) -> Result<bool, NoMemory> {
     let commands = commands_of(
         alloc,
-        &[("def s0 : Type. ", 1), ("def s@ := s#. ", 31), (last, 1)],
+        &[("def s0 : Type. ", 1), ("def s@ := s$. ", 31), (last, 1)],
     )?;
     leaves_a_version(alloc, commands.as_slice(), symbol, due)
 }
