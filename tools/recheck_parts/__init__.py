@@ -1,0 +1,1 @@
+"""The parts of tools/recheck.py: terms, and the reading of files."""
