@@ -1,0 +1,4 @@
+pub mod Numbers
+pub mod Keeping
+pub mod Answering
+pub mod Nodes
