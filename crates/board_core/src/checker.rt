@@ -1,31 +1,23 @@
 //! What workers do with a claimed job.
-ghost use Rattle.std.specs.Prelude.{◌≡◌};
-
+use crate::checkable::Checkable;
 use dk_model::Verdict;
 
-/// What gives each job its verdict.
+/// Who gives each job its verdict.
 pub trait Checker {
-    ghost use Rattle.std.specs.Prelude.{◌≡◌, ◌⊎◌, Bool};
-    ghost use Rattle.dk_model.specs.declared.code.Verdict.{Verdict};
+    ghost use Rattle.std.specs.Prelude.{◌≡◌, ◌⊎◌};
     ghost use Rattle.dk_model.specs.declared.code.Verdict.TheVariants.{Memory};
 
-    type Job;
+    type Job: Checkable;
 
     /// What a worker keeps from one check to the next. No verdict depends on it.
     type Kit;
-
-    // The verdict that a job has, whoever checks it and when.
-    ghost due: { Self.Job → Verdict };
-
-    // Whether the reader may check the job itself before it puts it.
-    ghost early: { Self.Job → Bool };
 
     /// What a worker begins with.
     fn kit(&self) -> Self::Kit;
 
     /// The verdict of the job, or `Memory` where a growth was refused.
     fn check(&self, kit: &mut Self::Kit, job: &Self::Job) -> Verdict
-        ensures { (result ≡ due job.now) ⊎ (result ≡ Memory) };
+        ensures { (result ≡ Self.Job.due job.now) ⊎ (result ≡ Memory) };
 }
 
 /// What a worker passes before and after it checks a job, so that a test can hold it up there. No

@@ -7,7 +7,7 @@ ghost use Rattle.board_core.specs.declared.event.Event.{Event};
 ghost use Rattle.board_core.specs.Events.{claims, claims_by, answers, answers_by, is_seal, is_settled, verdict_at};
 ghost use Rattle.board_core.specs.Machine.{Holds, HoldsNone, IsClaimable, IsDueTo, IsFinished, IsLawful, IsLegal, marks_of};
 
-use crate::checker::Checker;
+use crate::checkable::Checkable;
 
 /// Each number is claimed at most once.
 pub fn claimed_once()
@@ -75,9 +75,9 @@ pub fn one_task_each()
 {}
 
 /// In a legal history the verdict that stands for a job is the one that it is due, or `Memory`.
-pub fn verdict_due<C: Checker>()
-    ensures { (jobs : List (C.Job × Bool)) (events : List Event) →
-        IsLegal C.due C.early jobs events →
+pub fn verdict_due<J: Checkable>()
+    ensures { (jobs : List (J × Bool)) (events : List Event) →
+        IsLegal J.due J.early jobs events →
         (n : ℕ) (v : Verdict) → 0 < n → verdict_at (marks_of jobs) events n ≡ Some v →
-        IsDueTo C.due jobs n v }
+        IsDueTo J.due jobs n v }
 {}

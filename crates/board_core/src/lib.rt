@@ -7,6 +7,7 @@
 #![tactic(auto)]
 
 mod book;
+mod checkable;
 mod checker;
 mod event;
 mod laws;
@@ -16,6 +17,7 @@ mod steps;
 mod task;
 
 pub use book::Book;
+pub use checkable::Checkable;
 pub use checker::{Checker, Gate};
 pub use event::{End, Event, Place};
 pub use laws::{

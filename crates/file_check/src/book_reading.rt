@@ -1,6 +1,6 @@
 //! Reads books and puts their commands as jobs, while workers check them.
-use crate::checker::JobChecker;
 use crate::halt::end_at;
+use crate::job::Job;
 use crate::lectern::Lectern;
 use dk_io::Shelf;
 use std::alloc::Global;
@@ -15,14 +15,14 @@ pub struct BookReading<'a, 'b, R: Wait, H> {
     pub rt: &'b R,
     pub alloc: Global,
     pub shelf: &'a mut H,
-    pub board: &'b Board<JobChecker>,
+    pub board: &'b Board<Job>,
     pub lectern: Lectern,
 }
 
 /// What reading gives, with the shelf that it was lent.
 pub struct BookRead<'a, H> {
     pub shelf: &'a mut H,
-    pub sealed: SealedPass<JobChecker>,
+    pub sealed: SealedPass<Job>,
     pub titles: Titles,
 }
 

@@ -11,16 +11,10 @@ pub struct JobChecker {
 }
 
 impl Checker for JobChecker {
-    ghost use Rattle.file_check.specs.Jobs.{due, early};
-
     type Job = Job;
 
     // The pool is made at the first job, and again where memory was short.
     type Kit = Option<Worker>;
-
-    ghost due = { due };
-
-    ghost early = { early };
 
     fn kit(&self) -> Option<Worker> {
         None

@@ -58,9 +58,9 @@ pub enum Unchecked {
 
 // The empty board, with the desk at it and the workers' passes.
 struct Table {
-    board: Board<JobChecker>,
+    board: Board<Job>,
     desk: Desk,
-    passes: Listed<WorkerPass<JobChecker>>,
+    passes: Listed<WorkerPass<Job>>,
 }
 
 // The table for a theory of no commands.

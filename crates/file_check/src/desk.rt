@@ -8,9 +8,8 @@ ghost use Rattle.file_report.specs.Jobs.{job_titles};
 ghost use Rattle.file_check.specs.Jobs.{due, early, job_of};
 ghost use Rattle.file_check.specs.Desks.{Enters, IsReady, IsSound, Puts, known_at, same_bounds, seen_at};
 
-use crate::checker::JobChecker;
 use crate::halt::{Located, NotPut};
-use crate::job::Worker;
+use crate::job::{Job, Worker};
 use crate::theory::{Prepared, Theory};
 use board_core::{End, PutRefused};
 use dk_model::{Code, Limits, Verdict};
@@ -28,7 +27,7 @@ pub struct Desk {
     pub theory: Theory,
     /// Who checks a definition without a type, since the next version needs its type, and answers queries.
     pub worker: Worker,
-    pub pass: ReaderPass<JobChecker>,
+    pub pass: ReaderPass<Job>,
     /// What the report shows of the jobs, in order.
     pub titles: Titles,
 }
@@ -39,7 +38,7 @@ impl Desk {
         &mut self,
         rt: &R,
         alloc: Global,
-        board: &Board<JobChecker>,
+        board: &Board<Job>,
         command: Located,
     ) -> Result<(), NotPut>
         requires own { self.old.pass.seat.table_id ≡ board.now }
@@ -68,7 +67,7 @@ impl Desk {
         &mut self,
         rt: &R,
         alloc: Global,
-        board: &Board<JobChecker>,
+        board: &Board<Job>,
         prepared: Prepared,
     ) -> Result<(), NotPut>
         requires own { self.old.pass.seat.table_id ≡ board.now }
@@ -109,12 +108,7 @@ impl Desk {
 
     /// Seals the board so, and gives the titles of its jobs. The theory isn't let go: its memory stays taken until the
     /// program ends.
-    pub fn seal<R: Wait>(
-        self,
-        rt: &R,
-        board: &Board<JobChecker>,
-        end: End,
-    ) -> (SealedPass<JobChecker>, Titles)
+    pub fn seal<R: Wait>(self, rt: &R, board: &Board<Job>, end: End) -> (SealedPass<Job>, Titles)
         requires own { self.pass.seat.table_id ≡ board.now }
         requires sound { IsSound self.limits self.titles (known_at self) }
         requires may_end { MayEnd (seen_at self) end }

@@ -10,7 +10,7 @@ ghost use Rattle.signature_log.specs.Versions.{entries_of};
 ghost use Rattle.file_report.specs.Jobs.{due_on};
 ghost use Rattle.file_check.specs.Jobs.{IsOtherVerdict, job_of};
 
-use board_core::Past;
+use board_core::{Checkable, Past};
 use command_check::{StoredCommand, check_stored, infer_type, query};
 use conversion::PoolReducer;
 use dk_model::{NoMemory, Scoped, Verdict};
@@ -29,6 +29,14 @@ pub struct Job {
     /// The units that its check may take.
     pub budget: u64,
     pub title: Past<Title>,
+}
+
+impl Checkable for Job {
+    ghost use Rattle.file_check.specs.Jobs.{due, early};
+
+    ghost due = { due };
+
+    ghost early = { early };
 }
 
 /// Who checks jobs, with a pool of terms that is used again for each.

@@ -15,9 +15,9 @@ ghost use Rattle.file_check.specs.Halts.{end_at};
 ghost use Rattle.file_check.specs.declared.halt.Halt.TheVariants.{Fault};
 ghost use Rattle.file_check.specs.Lecterns.{EntersModule, HaltCounts, IsBegun, IsReady, Keeps, KeepsDesk, PutsCommand, Stands, StepCounts, StepsTo, halt_at};
 
-use crate::checker::JobChecker;
 use crate::desk::Desk;
 use crate::halt::{Halt, Located, NotPut, place_of};
+use crate::job::Job;
 use book_reader::{Turn, WalkEnd, Walker};
 use dk_io::Shelf;
 use dk_model::Verdict;
@@ -53,14 +53,15 @@ impl Lectern {
         rt: &R,
         alloc: Global,
         shelf: &mut H,
-        board: &Board<JobChecker>,
+        board: &Board<Job>,
     ) -> Halt
         requires own { self.old.desk.pass.seat.table_id ≡ board.now }
         requires begun { IsBegun self.old (shelf_of H.Shelf shelf.old) }
         ensures own { self.new.desk.pass.seat.table_id ≡ board.now }
         ensures keeps { Keeps self.old self.new }
         ensures sound { IsSound self.new.desk.limits self.new.desk.titles (known_at self.new.desk) }
-        ensures may_end { MayEnd (seen_at self.new.desk) (end_at self.new.walker.top.module result) }
+        ensures may_end { MayEnd (seen_at self.new.desk)
+            (end_at self.new.walker.top.module result) }
         ensures books { H.books shelf.new ≡ H.books shelf.old }
         ensures counts { HaltCounts (book_named (string_bytes self.old.walker.root.file))
             (shelf_of H.Shelf shelf.old) (shelf_of H.Shelf shelf.new) result }
@@ -81,7 +82,7 @@ impl Lectern {
         rt: &R,
         alloc: Global,
         shelf: &mut H,
-        board: &Board<JobChecker>,
+        board: &Board<Job>,
     ) -> Result<(), Halt>
         requires own { self.old.desk.pass.seat.table_id ≡ board.now }
         requires ready { IsReady self.old (shelf_of H.Shelf shelf.old) }
@@ -137,7 +138,7 @@ impl Lectern {
         &mut self,
         rt: &R,
         alloc: Global,
-        board: &Board<JobChecker>,
+        board: &Board<Job>,
         raw: Raw,
     ) -> Result<(), Halt>
         requires own { self.old.desk.pass.seat.table_id ≡ board.now }

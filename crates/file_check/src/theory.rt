@@ -54,7 +54,8 @@ fn entry_after(
     budget: u64,
 ) -> Result<Entry<Stored>, Verdict>
     ensures ok { IfOk result (λ e. stored_entry e
-        ≡ entry_of (entries_of version.now) (plain_command command.now) (maybe_by stored_term typ)) }
+        ≡ entry_of (entries_of version.now) (plain_command command.now)
+        (maybe_by stored_term typ)) }
     ensures err { IfErr result (IsOtherVerdict
         (verdict_of (entries_of version.now) (plain_command command.now) budget)) }
 {

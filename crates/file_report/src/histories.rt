@@ -22,7 +22,8 @@ pub fn report_of_theory<J>()
         (report : FileReport) →
         ChecksTheory limits budget own job_of w jobs events →
         IsReportOf (job_titles job_of jobs) events report →
-        ReportsTheory limits budget own w (end_of events) (length jobs) report.lines report.outcome }
+        ReportsTheory limits budget own w (end_of events) (length jobs)
+        report.lines report.outcome }
 {}
 
 /// Where some job is at fault, this is so whatever the end.
@@ -32,7 +33,8 @@ pub fn fault_of_theory<J>()
         (report : FileReport) →
         ChecksJobsIn limits budget own job_of w jobs events →
         list_any is_fault events ≡ true → IsReportOf (job_titles job_of jobs) events report →
-        ReportsTheory limits budget own w (end_of events) (length jobs) report.lines report.outcome }
+        ReportsTheory limits budget own w (end_of events) (length jobs)
+        report.lines report.outcome }
 {}
 
 /// The laws speak of some histories: here memory ends at the first job.

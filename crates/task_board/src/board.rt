@@ -11,10 +11,10 @@ ghost use Rattle.task_board.specs.Passes.{Adds, ClaimTold, HasTask, IsIdle, IsNe
 
 use crate::judged::Judged;
 use crate::passes::{ReaderPass, SealedPass, WorkerPass};
-use board_core::{Book, Checker, Claimed, End, Offer, PutRefused, Task};
+use board_core::{Book, Checkable, Claimed, End, Offer, PutRefused, Task};
 use dk_model::{Listed, NoMemory, Verdict};
 use std::alloc::Global;
-use std::marker::{Model, PhantomData};
+use std::marker::Model;
 use std::mem;
 use std::sync::{Arc, Wait};
 use ticket_slot::Slot;
@@ -24,12 +24,12 @@ use ticket_slot::Slot;
 const MOST_SPENT: usize = 256;
 
 /// A board that the reader and the workers share. Contracts see the identity that its passes carry.
-pub struct Board<C: Checker> {
-    slot: Slot<Judged<C>>,
+pub struct Board<J: Checkable> {
+    slot: Slot<Judged<J>>,
     alloc: Global,
 }
 
-impl<C: Checker> Model for Board<C> {
+impl<J: Checkable> Model for Board<J> {
     ghost use Rattle.atomic_table.specs.Seated.{TableId, table_id_coded};
 
     ghost Value = { TableId };
@@ -39,16 +39,13 @@ impl<C: Checker> Model for Board<C> {
     ghost view = { λ b. b.slot };
 }
 
-impl<C: Checker> Board<C>
-where
-    C::Job: Drop,
-{
+impl<J: Checkable + Drop> Board<J> {
     /// An empty board with the reader's pass and so many workers' passes. The room for the seal is
     /// reserved here.
     pub fn new(
         alloc: Global,
         workers: u32,
-    ) -> Result<(Board<C>, ReaderPass<C>, Listed<WorkerPass<C>>), NoMemory>
+    ) -> Result<(Board<J>, ReaderPass<J>, Listed<WorkerPass<J>>), NoMemory>
         requires few { workers < 2 ^ 32 - 1 }
         ensures own { IfOk result (λ made. made.1.seat.table_id ≡ made.0) }
         ensures reader { IfOk result (λ made. made.1.seat.me.0 ≡ new_reader (workers + 1)) }
@@ -59,18 +56,10 @@ where
         let mut passes = Vec::with_capacity(alloc, workers as usize)?;
         let book = Book::new(alloc)?;
         let spent = Vec::with_capacity(alloc, MOST_SPENT)?;
-        let judged = Judged {
-            book,
-            spent,
-            checker: PhantomData,
-        };
+        let judged = Judged { book, spent };
         match Slot::new(alloc, judged) {
             Err(refused) => {
-                let Judged {
-                    book,
-                    spent,
-                    checker: _,
-                } = refused.value;
+                let Judged { book, spent } = refused.value;
                 drop(book);
                 drop(spent);
                 Err(NoMemory)
@@ -98,16 +87,16 @@ where
     pub fn put<R: Wait>(
         &self,
         rt: &R,
-        pass: &mut ReaderPass<C>,
-        job: Arc<C::Job>,
+        pass: &mut ReaderPass<J>,
+        job: Arc<J>,
         settled: bool,
-    ) -> Result<u32, PutRefused<C::Job>>
+    ) -> Result<u32, PutRefused<J>>
         requires own { pass.old.seat.table_id ≡ self.now }
         requires few { length pass.old.seat.me.0.known < 4294967294 }
-        requires settled { MaySettle C.due C.early (arc_value job, settled) }
+        requires settled { MaySettle J.due J.early (arc_value job, settled) }
         ensures own { pass.new.seat.table_id ≡ self.now }
         ensures made { pass.new.seat.me.0.made ≡ pass.old.seat.me.0.made }
-        ensures turn { TakesTurn C.due C.early pass.old.seat.me.0 pass.new.seat.me.0 }
+        ensures turn { TakesTurn J.due J.early pass.old.seat.me.0 pass.new.seat.me.0 }
         ensures ok { IfOk result (λ n.
             PutTold pass.old.seat.me.0 (arc_value job) settled n pass.new.seat.me.0) }
         ensures refused { IfErr result (λ why.
@@ -132,12 +121,12 @@ where
     }
 
     /// Says that no job comes after this. Takes no memory.
-    pub fn seal<R: Wait>(&self, rt: &R, pass: ReaderPass<C>, end: End) -> SealedPass<C>
+    pub fn seal<R: Wait>(&self, rt: &R, pass: ReaderPass<J>, end: End) -> SealedPass<J>
         requires own { pass.seat.table_id ≡ self.now }
         requires end { MayEnd (events_in pass.seat.me.0.seen) end }
         ensures own { result.seat.table_id ≡ self.now }
         ensures made { result.seat.me.0.made ≡ pass.seat.me.0.made }
-        ensures turn { TakesTurn C.due C.early pass.seat.me.0 result.seat.me.0 }
+        ensures turn { TakesTurn J.due J.early pass.seat.me.0 result.seat.me.0 }
         ensures added { Adds pass.seat.me.0 (Event.Seal end) result.seat.me.0 }
         ensures known { result.seat.me.0.known ≡ pass.seat.me.0.known }
     {
@@ -154,12 +143,12 @@ where
 
     /// Claims the least job that is free and lies below every fault. `Empty` and `Over` change
     /// nothing. Takes no memory.
-    pub fn claim<R: Wait>(&self, rt: &R, pass: &mut WorkerPass<C>) -> Claimed<C::Job>
+    pub fn claim<R: Wait>(&self, rt: &R, pass: &mut WorkerPass<J>) -> Claimed<J>
         requires own { pass.old.seat.table_id ≡ self.now }
         requires idle { IsIdle pass.old.seat.me.0 }
         ensures own { pass.new.seat.table_id ≡ self.now }
         ensures number { pass.new.number ≡ pass.old.number }
-        ensures turn { TakesTurn C.due C.early pass.old.seat.me.0 pass.new.seat.me.0 }
+        ensures turn { TakesTurn J.due J.early pass.old.seat.me.0 pass.new.seat.me.0 }
         ensures reply { ClaimTold pass.old.seat.me.0 result pass.new.seat.me.0 }
     {
         let WorkerPass { seat, number } = pass;
@@ -174,19 +163,13 @@ where
     }
 
     /// Answers the task that the pass holds. Takes no memory.
-    pub fn answer<R: Wait>(
-        &self,
-        rt: &R,
-        pass: &mut WorkerPass<C>,
-        task: Task<C::Job>,
-        verdict: Verdict,
-    )
+    pub fn answer<R: Wait>(&self, rt: &R, pass: &mut WorkerPass<J>, task: Task<J>, verdict: Verdict)
         requires own { pass.old.seat.table_id ≡ self.now }
         requires task { HasTask pass.old.seat.me.0 task.number (arc_value task.job) }
-        requires due { (verdict ≡ C.due (arc_value task.job)) ⊎ (verdict ≡ Memory) }
+        requires due { (verdict ≡ J.due (arc_value task.job)) ⊎ (verdict ≡ Memory) }
         ensures own { pass.new.seat.table_id ≡ self.now }
         ensures number { pass.new.number ≡ pass.old.number }
-        ensures turn { TakesTurn C.due C.early pass.old.seat.me.0 pass.new.seat.me.0 }
+        ensures turn { TakesTurn J.due J.early pass.old.seat.me.0 pass.new.seat.me.0 }
         ensures added { Adds pass.old.seat.me.0
             (Event.Answer pass.old.number task.number verdict) pass.new.seat.me.0 }
         ensures idle { IsIdle pass.new.seat.me.0 }
@@ -209,12 +192,12 @@ where
 
     /// Gives the book once all passes are back and no worker has a task. It has one history: what
     /// each pass has seen is a beginning of it, and each pass's own events are those of its number.
-    pub fn close(self, sealed: SealedPass<C>, passes: Listed<WorkerPass<C>>) -> Book<C::Job>
+    pub fn close(self, sealed: SealedPass<J>, passes: Listed<WorkerPass<J>>) -> Book<J>
         requires own { sealed.seat.table_id ≡ self }
         requires own_workers { All (λ p. p.seat.table_id ≡ self) passes }
         requires all { length passes + 1 ≡ sealed.seat.me.0.made }
         requires idle { All (λ p. IsIdle p.seat.me.0) passes }
-        ensures legal { IsLegal C.due C.early result.jobs result.events }
+        ensures legal { IsLegal J.due J.early result.jobs result.events }
         ensures jobs { result.jobs ≡ sealed.seat.me.0.known }
         ensures reader { EndsIn (log_of result.events) result.jobs (ended_of sealed.seat.me.0) }
         ensures workers { All (λ p. EndsIn (log_of result.events) result.jobs
@@ -237,11 +220,7 @@ where
             self.slot.join(&mut seat, own);
         }
         let Board { slot, alloc: _ } = self;
-        let Judged {
-            book,
-            spent,
-            checker: _,
-        } = slot.close(seat);
+        let Judged { book, spent } = slot.close(seat);
         drop(spent);
         book
     }

@@ -8,13 +8,13 @@ ghost use Rattle.task_board.specs.Histories.{events_in};
 ghost use Rattle.task_board.specs.Passes.{IsIdle};
 
 use crate::judged::Judged;
-use board_core::Checker;
+use board_core::Checkable;
 use ticket_slot::Pass;
 
 /// The reader's right to put jobs and to seal the board.
 #[derive(Drop)]
-pub struct ReaderPass<C: Checker> {
-    pub seat: Pass<Judged<C>>,
+pub struct ReaderPass<J: Checkable> {
+    pub seat: Pass<Judged<J>>,
     /// How many jobs it has put.
     pub count: u32,
     ghost counted: { count ≡ length seat.me.0.known },
@@ -27,8 +27,8 @@ pub struct ReaderPass<C: Checker> {
 
 /// What is left of the reader's right once the board is sealed: to close it.
 #[derive(Drop)]
-pub struct SealedPass<C: Checker> {
-    pub seat: Pass<Judged<C>>,
+pub struct SealedPass<J: Checkable> {
+    pub seat: Pass<Judged<J>>,
     ghost reader: { IsReader seat.me.0 },
     ghost free: { IsFree seat.me },
     ghost none_joined: { length seat.me.0.ended ≡ 0 },
@@ -38,8 +38,8 @@ pub struct SealedPass<C: Checker> {
 
 /// A worker's right to claim jobs and to answer them. Its events have its number, from 1.
 #[derive(Drop)]
-pub struct WorkerPass<C: Checker> {
-    pub seat: Pass<Judged<C>>,
+pub struct WorkerPass<J: Checkable> {
+    pub seat: Pass<Judged<J>>,
     pub number: u32,
     ghost numbered: { number ≡ seat.me.0.number },
     ghost free: { IsFree seat.me },

@@ -5,7 +5,7 @@ ghost use Rattle.task_board.specs.Passes.{IsIdle, IsOver};
 use crate::bell::Bell;
 use crate::room::with_room;
 use crate::worker::{work, work_until_rung};
-use board_core::{Checker, Gate};
+use board_core::{Checkable, Checker, Gate};
 use core::thread::Stack;
 use dk_model::{Listed, NoMemory};
 use std::alloc::Global;
@@ -31,17 +31,17 @@ pub trait Reading {
 }
 
 /// What a worker's thread gives back for the pass that it was given.
-struct Returned<C: Checker> {
-    given: Snapshot<WorkerPass<C>>,
+struct Returned<J: Checkable> {
+    given: Snapshot<WorkerPass<J>>,
 }
 
-impl<C: Checker> Drop for Returned<C> {
+impl<J: Checkable> Drop for Returned<J> {
     fn drop(self) {
         let Returned { given: _ } = self;
     }
 }
 
-impl<C: Checker> Promise<WorkerPass<C>> for Returned<C> {
+impl<J: Checkable> Promise<WorkerPass<J>> for Returned<J> {
     ghost use Rattle.std.specs.Prelude.{◌≡◌};
     ghost use Rattle.task_board.specs.Passes.{IsIdle, IsOver};
 
@@ -63,12 +63,12 @@ pub fn run_crew<
     rt: &R,
     alloc: Global,
     stack: usize,
-    board: &Board<C>,
-    passes: Listed<WorkerPass<C>>,
+    board: &Board<C::Job>,
+    passes: Listed<WorkerPass<C::Job>>,
     checker: &C,
     gate: &G,
     reading: D,
-) -> (T, Listed<WorkerPass<C>>)
+) -> (T, Listed<WorkerPass<C::Job>>)
 where
     C::Job: Drop + Send + Sync,
     C::Kit: Drop + Send,
@@ -84,7 +84,7 @@ where
     thread::scope(
         thread::scope_env(),
         rt,
-        move |scope| -> (T, Listed<WorkerPass<C>>)
+        move |scope| -> (T, Listed<WorkerPass<C::Job>>)
             requires { All (λ p. (p.seat.table_id ≡ board.now) × IsIdle p.seat.me.0) passes
                 × D.can_read reading }
             ensures { D.gives reading result.0 × (length result.1 ≡ length passes)
@@ -108,7 +108,7 @@ where
                 match Stack::new().stack_size(stack).spawn_scoped_with(
                     scope,
                     Returned { given },
-                    move || -> WorkerPass<C>
+                    move || -> WorkerPass<C::Job>
                         requires { (pass.seat.table_id ≡ board.now) × IsIdle pass.seat.me.0 }
                         ensures { (result.seat.table_id ≡ pass.seat.table_id)
                             × IsIdle result.seat.me.0 × IsOver result.seat.me.0 }
@@ -149,11 +149,11 @@ fn make_room<H, L>(handles: &mut Vec<H>, late: &mut Vec<L>, count: usize) -> Res
 /// Works with all passes here, one after the other.
 pub fn work_off<R: Wait, C: Checker, G: Gate>(
     rt: &R,
-    board: &Board<C>,
-    mut passes: Vec<WorkerPass<C>>,
+    board: &Board<C::Job>,
+    mut passes: Vec<WorkerPass<C::Job>>,
     checker: &C,
     gate: &G,
-) -> Vec<WorkerPass<C>>
+) -> Vec<WorkerPass<C::Job>>
 where
     C::Job: Drop,
     C::Kit: Drop,

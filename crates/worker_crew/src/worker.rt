@@ -14,11 +14,11 @@ use task_board::{Board, WorkerPass};
 /// nothing can be claimed yet it rests and asks again.
 pub fn work<R: Wait, C: Checker, G: Gate>(
     rt: &R,
-    board: &Board<C>,
-    pass: WorkerPass<C>,
+    board: &Board<C::Job>,
+    pass: WorkerPass<C::Job>,
     checker: &C,
     gate: &G,
-) -> WorkerPass<C>
+) -> WorkerPass<C::Job>
 where
     C::Job: Drop,
     C::Kit: Drop,
@@ -35,12 +35,12 @@ where
 /// The same, where the bell ends each rest.
 pub fn work_until_rung<R: Wait, C: Checker, G: Gate>(
     rt: &R,
-    board: &Board<C>,
-    mut pass: WorkerPass<C>,
+    board: &Board<C::Job>,
+    mut pass: WorkerPass<C::Job>,
     checker: &C,
     gate: &G,
     bell: &Bell,
-) -> WorkerPass<C>
+) -> WorkerPass<C::Job>
 where
     C::Job: Drop,
     C::Kit: Drop,
@@ -75,7 +75,7 @@ fn gated<C: Checker, G: Gate>(
     number: u32,
     job: &C::Job,
 ) -> Verdict
-    ensures { (result ≡ C.due job.now) ⊎ (result ≡ Memory) }
+    ensures { (result ≡ C.Job.due job.now) ⊎ (result ≡ Memory) }
 {
     gate.enter(number);
     let verdict = checker.check(kit, job);

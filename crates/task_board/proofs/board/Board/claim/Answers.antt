@@ -17,8 +17,8 @@ claim-reply-requires g c = let p = c.args.pass.now in let b = c.lock-judged.resu
 pub add-requires-clause-lawful : goal.add-requires-clause-lawful
 add-requires-clause-lawful g c = let p = c.args.pass.now in let b = c.lock-judged.result.book in let d = c.claim-reply.new.self in let h = c.history-history.ensures in
     let r = subst (λ q. ClaimReply b p.number q d) c.in-Task.is c.claim-reply.ensures.reply in
-    legal_log g.C.Checker.due g.C.Checker.early d.events d.jobs
-    (legal_then g.C.Checker.due g.C.Checker.early b d (Claim p.number c.in-Task.field-0.number) c.lock-judged.ensures.lawful r.2 tt h.lawful h.all_put)
+    legal_log g.J.Checkable.due g.J.Checkable.early d.events d.jobs
+    (legal_then g.J.Checkable.due g.J.Checkable.early b d (Claim p.number c.in-Task.field-0.number) c.lock-judged.ensures.lawful r.2 tt h.lawful h.all_put)
 
 pub add-requires-clause-event : goal.add-requires-clause-event
 add-requires-clause-event g c = let p = c.args.pass.now in let b = c.lock-judged.result.book in let d = c.claim-reply.new.self in let m = c.lock-judged.ensures.turn.1 in
@@ -28,7 +28,7 @@ add-requires-clause-event g c = let p = c.args.pass.now in let b = c.lock-judged
 pub returns : goal.returns
 returns g c = let p = c.args.pass.now in let l = c.lock-judged.ensures in let b = c.lock-judged.result.book in let d = c.claim-reply.new.self in let h = c.history-history.ensures in
     let e = c.claim-reply.ensures in let gave = ap (λ m. m.0) c.unlock.ensures.passed in
-    let told = claim_told g.C.Checker.due g.C.Checker.early p.seat.me.0 p.number l.turn.0 b d p.numbered l.lawful l.seen l.known l.mine c.claim-reply.result c.unlock.new.pass.me.0 c.requires.idle e.reply e.holds h.lawful h.all_put
+    let told = claim_told g.J.Checkable.due g.J.Checkable.early p.seat.me.0 p.number l.turn.0 b d p.numbered l.lawful l.seen l.known l.mine c.claim-reply.result c.unlock.new.pass.me.0 c.requires.idle e.reply e.holds h.lawful h.all_put
     (λ k is. gave ∙ elim c.match-reply.branch [
       | in-Task w ↦ ap (λ s. passed s.me.0) w.seat-is ∙ (ap (λ m. passed m.0) w.add.ensures.added ∙ ap (λ m. passed (added_to m.0 (log_of d.events) d.jobs)) l.turn.1)
       | in_default w ↦ absurd (w.in_default.not-Task k is)

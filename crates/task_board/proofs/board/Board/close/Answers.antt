@@ -41,5 +41,5 @@ close-book-requires g c = let i = c.loop-pass.invariant in let m = i.me in let s
 pub returns : goal.returns
 returns g c = let i = c.loop-pass.invariant in let s = c.args.sealed in let e = c.close-book.ensures in let book = c.close-book.result.book in let none : length c.loop-pass.passes.items ≡ 0 = search rules in
     let joins = join_ends (λ p. ended_of p.seat.me.0) c.loop-pass.passes.items c.loop-pass.seat.me.0.ended (map (λ p. ended_of p.seat.me.0) c.args.passes) none i.joined in
-    let t = together (λ p. p.seat.me.0) g.C.Checker.due g.C.Checker.early book.events book.jobs s.seat.me.0 c.loop-pass.seat.me.0 c.args.passes (ap (λ m. m.0) i.me) joins s.reader.0 s.idle s.sealed c.requires.idle e.lawful e.list e.reader e.ended e.each_once e.no_others in
+    let t = together (λ p. p.seat.me.0) g.J.Checkable.due g.J.Checkable.early book.events book.jobs s.seat.me.0 c.loop-pass.seat.me.0 c.args.passes (ap (λ m. m.0) i.me) joins s.reader.0 s.idle s.sealed c.requires.idle e.lawful e.list e.reader e.ended e.each_once e.no_others in
     record { legal = t.legal; jobs = t.list; reader = t.reader; workers = t.workers; each_once = t.each_once; no_others = t.no_others; end = t.last; finished = t.done }

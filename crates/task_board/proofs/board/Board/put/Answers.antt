@@ -11,15 +11,15 @@ use Rattle.task_board.proofs.board.Board.put.Goals as goal
 
 pub post-reply-requires-clause-unsealed : goal.post-reply-requires-clause-unsealed
 post-reply-requires-clause-unsealed g c = let p = c.args.pass.now in let l = c.lock-judged.ensures in let b = c.lock-judged.result.book in
-    open_book g.C.Checker.due g.C.Checker.early p.seat.me.0 l.turn.0 b b record { reader = p.reader; free = p.free.0; none_joined = p.none_joined; seals = p.unsealed; idle = p.idle } l.lawful l.seen l.known l.mine
+    open_book g.J.Checkable.due g.J.Checkable.early p.seat.me.0 l.turn.0 b b record { reader = p.reader; free = p.free.0; none_joined = p.none_joined; seals = p.unsealed; idle = p.idle } l.lawful l.seen l.known l.mine
 
 pub add-requires-clause-lawful : goal.add-requires-clause-lawful
 add-requires-clause-lawful g c = let p = c.args.pass.now in let l = c.lock-judged.ensures in let b = c.lock-judged.result.book in let d = c.post-reply.new.self in let h = c.history-history.ensures in let o = c.new-offer.ensures in
     let told : IfOk c.post-reply.result.0 (λ n. d ≡ put_on b (arc_value c.args.job) c.args.settled n) = subst (λ s. IfOk c.post-reply.result.0 (λ n. d ≡ put_on b (arc_value c.args.job) s n)) o.settled
     (subst (λ j. IfOk c.post-reply.result.0 (λ n. d ≡ put_on b j c.new-offer.result.settled n)) o.job c.post-reply.ensures.ok) in
     let is = subst (λ q. IfOk q (λ n. d ≡ put_on b (arc_value c.args.job) c.args.settled n)) c.in-Ok.is told in
-    legal_log g.C.Checker.due g.C.Checker.early d.events d.jobs
-    (put_legal g.C.Checker.due g.C.Checker.early p.seat.me.0 l.turn.0 b d record { reader = p.reader; free = p.free.0; none_joined = p.none_joined; seals = p.unsealed; idle = p.idle } l.lawful l.seen l.known l.mine
+    legal_log g.J.Checkable.due g.J.Checkable.early d.events d.jobs
+    (put_legal g.J.Checkable.due g.J.Checkable.early p.seat.me.0 l.turn.0 b d record { reader = p.reader; free = p.free.0; none_joined = p.none_joined; seals = p.unsealed; idle = p.idle } l.lawful l.seen l.known l.mine
     (arc_value c.args.job) c.args.settled c.in-Ok.field-0 c.requires.settled is h.lawful h.all_put)
 
 pub add-requires-clause-event : goal.add-requires-clause-event
@@ -42,7 +42,7 @@ invariant_of-pass g c = let p = c.args.pass.now in let l = c.lock-judged.ensures
     (subst (λ j. IfOk c.post-reply.result.0 (λ n. d ≡ put_on b j c.new-offer.result.settled n)) o.job c.post-reply.ensures.ok) in
     let why : IfErr c.post-reply.result.0 (λ r. IsRefusal b.events (arc_value c.args.job) r) = subst (λ j. IfErr c.post-reply.result.0 (λ r. IsRefusal b.events j r)) o.job e.refused in
     let gave = ap (λ m. m.0) c.unlock.ensures.passed in
-    let done = put_done g.C.Checker.due g.C.Checker.early p.seat.me.0 l.turn.0 b d record { reader = p.reader; free = p.free.0; none_joined = p.none_joined; seals = p.unsealed; idle = p.idle } l.lawful l.seen l.known l.mine
+    let done = put_done g.J.Checkable.due g.J.Checkable.early p.seat.me.0 l.turn.0 b d record { reader = p.reader; free = p.free.0; none_joined = p.none_joined; seals = p.unsealed; idle = p.idle } l.lawful l.seen l.known l.mine
     (arc_value c.args.job) c.args.settled c.post-reply.result.0 c.unlock.new.pass.me.0 (l.reader p.reader.0) c.requires.settled e.running e.number told why h.lawful h.all_put
     (λ n is. gave ∙ elim c.match-reply.branch [
       | in-Ok w ↦ ap (λ s. passed s.me.0) w.seat-is ∙ (ap (λ m. passed m.0) w.add.ensures.added ∙ ap (λ m. passed (added_to m.0 (log_of d.events) d.jobs)) l.turn.1)
@@ -70,7 +70,7 @@ returns g c = let p = c.args.pass.now in let l = c.lock-judged.ensures in let b 
     (subst (λ j. IfOk c.post-reply.result.0 (λ n. d ≡ put_on b j c.new-offer.result.settled n)) o.job c.post-reply.ensures.ok) in
     let why : IfErr c.post-reply.result.0 (λ r. IsRefusal b.events (arc_value c.args.job) r) = subst (λ j. IfErr c.post-reply.result.0 (λ r. IsRefusal b.events j r)) o.job e.refused in
     let gave = ap (λ m. m.0) c.unlock.ensures.passed in
-    let done = put_done g.C.Checker.due g.C.Checker.early p.seat.me.0 l.turn.0 b d record { reader = p.reader; free = p.free.0; none_joined = p.none_joined; seals = p.unsealed; idle = p.idle } l.lawful l.seen l.known l.mine
+    let done = put_done g.J.Checkable.due g.J.Checkable.early p.seat.me.0 l.turn.0 b d record { reader = p.reader; free = p.free.0; none_joined = p.none_joined; seals = p.unsealed; idle = p.idle } l.lawful l.seen l.known l.mine
     (arc_value c.args.job) c.args.settled c.post-reply.result.0 c.unlock.new.pass.me.0 (l.reader p.reader.0) c.requires.settled e.running e.number told why h.lawful h.all_put
     (λ n is. gave ∙ elim c.match-reply.branch [
       | in-Ok w ↦ ap (λ s. passed s.me.0) w.seat-is ∙ (ap (λ m. passed m.0) w.add.ensures.added ∙ ap (λ m. passed (added_to m.0 (log_of d.events) d.jobs)) l.turn.1)
