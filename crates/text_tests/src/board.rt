@@ -7,7 +7,7 @@ ghost use Rattle.task_board.specs.Histories.{events_in};
 ghost use Rattle.task_board.specs.Passes.{HasTask, IsIdle};
 
 use crate::passes::{last_pass, pass_back};
-use crate::told::{Told, are_steps};
+use crate::told::{Own, are_steps};
 use board_core::{Book, Claimed, End, PutRefused, Task};
 use dk_model::{Code, Listed, Verdict};
 use std::alloc::Global;
@@ -19,8 +19,8 @@ use task_board::{Board, ReaderPass, WorkerPass};
 fn put<R: Wait + Abort>(
     rt: &R,
     alloc: Global,
-    board: &Board<Told>,
-    pass: &mut ReaderPass<Told>,
+    board: &Board<Own>,
+    pass: &mut ReaderPass<Own>,
     job: Verdict,
 ) -> u32
     requires own { pass.old.seat.table_id ≡ board.now }
@@ -29,7 +29,7 @@ fn put<R: Wait + Abort>(
     ensures made { pass.new.seat.me.0.made ≡ pass.old.seat.me.0.made }
     ensures known { length pass.new.seat.me.0.known ≡ length pass.old.seat.me.0.known + 1 }
 {
-    let job = Arc::new(alloc, job).expect(rt, "memory for a job");
+    let job = Arc::new(alloc, Own(job)).expect(rt, "memory for a job");
     match board.put(rt, pass, job, false) {
         Ok(number) => number,
         Err(_) => panic!(rt; "the job was refused"),
@@ -40,8 +40,8 @@ fn put<R: Wait + Abort>(
 fn put_late<R: Wait + Abort>(
     rt: &R,
     alloc: Global,
-    board: &Board<Told>,
-    pass: &mut ReaderPass<Told>,
+    board: &Board<Own>,
+    pass: &mut ReaderPass<Own>,
     job: Verdict,
 ) -> (u32, Verdict, Verdict)
     requires own { pass.old.seat.table_id ≡ board.now }
@@ -50,7 +50,7 @@ fn put_late<R: Wait + Abort>(
     ensures made { pass.new.seat.me.0.made ≡ pass.old.seat.me.0.made }
     ensures stopped { list_any is_fault (events_in pass.new.seat.me.0.seen) ≡ true }
 {
-    let job = Arc::new(alloc, job).expect(rt, "memory for a job");
+    let job = Arc::new(alloc, Own(job)).expect(rt, "memory for a job");
     match board.put(rt, pass, job, false) {
         Err(
             PutRefused::Stopped {
@@ -58,17 +58,13 @@ fn put_late<R: Wait + Abort>(
                 verdict,
                 job,
             },
-        ) => (number, verdict, *job),
+        ) => (number, verdict, job.0),
         _ => panic!(rt; "the job was put"),
     }
 }
 
 // The task that the worker is given.
-fn must_claim<R: Wait + Abort>(
-    rt: &R,
-    board: &Board<Told>,
-    pass: &mut WorkerPass<Told>,
-) -> Task<Verdict>
+fn must_claim<R: Wait + Abort>(rt: &R, board: &Board<Own>, pass: &mut WorkerPass<Own>) -> Task<Own>
     requires own { pass.old.seat.table_id ≡ board.now }
     requires idle { IsIdle pass.old.seat.me.0 }
     ensures own { pass.new.seat.table_id ≡ board.now }
@@ -81,7 +77,7 @@ fn must_claim<R: Wait + Abort>(
 }
 
 // Whether all is over, for a worker that is given no task.
-fn finds_nothing<R: Wait + Abort>(rt: &R, board: &Board<Told>, pass: &mut WorkerPass<Told>) -> bool
+fn finds_nothing<R: Wait + Abort>(rt: &R, board: &Board<Own>, pass: &mut WorkerPass<Own>) -> bool
     requires own { pass.old.seat.table_id ≡ board.now }
     requires idle { IsIdle pass.old.seat.me.0 }
     ensures own { pass.new.seat.table_id ≡ board.now }
@@ -95,23 +91,18 @@ fn finds_nothing<R: Wait + Abort>(rt: &R, board: &Board<Told>, pass: &mut Worker
 }
 
 // Answers a task with its job's verdict.
-fn answer<R: Wait + Abort>(
-    rt: &R,
-    board: &Board<Told>,
-    pass: &mut WorkerPass<Told>,
-    task: Task<Verdict>,
-)
+fn answer<R: Wait + Abort>(rt: &R, board: &Board<Own>, pass: &mut WorkerPass<Own>, task: Task<Own>)
     requires own { pass.old.seat.table_id ≡ board.now }
     requires task { HasTask pass.old.seat.me.0 task.number (arc_value task.job) }
     ensures own { pass.new.seat.table_id ≡ board.now }
     ensures idle { IsIdle pass.new.seat.me.0 }
 {
-    let verdict = *task.job;
+    let verdict = task.job.0;
     board.answer(rt, pass, task, verdict);
 }
 
 // Whether the book has two jobs, a fault at the first one, and this history.
-fn is_stopped_at_the_first(book: &Book<Verdict>) -> bool {
+fn is_stopped_at_the_first(book: &Book<Own>) -> bool {
     let fault = Verdict::Refused(Code::E21);
     let steps = [
         (b'p', 0, 1, None),
@@ -132,10 +123,7 @@ fn is_stopped_at_the_first(book: &Book<Verdict>) -> bool {
 fn keeps_two_workers_apart_and_stops_at_a_fault(rt: HostRuntime) {
     let alloc = rt.alloc();
     let fault = Verdict::Refused(Code::E21);
-    let (board, mut reader, passes) = Board::<Told>::new(alloc, 2).expect(
-        &rt,
-        "memory for a board",
-    );
+    let (board, mut reader, passes) = Board::<Own>::new(alloc, 2).expect(&rt, "memory for a board");
     let mut passes = passes.into_vec();
     let mut second = last_pass(&rt, &board, &mut passes);
     let mut first = last_pass(&rt, &board, &mut passes);
@@ -163,13 +151,10 @@ fn keeps_two_workers_apart_and_stops_at_a_fault(rt: HostRuntime) {
 #[test]
 fn lets_a_job_go(rt: HostRuntime) {
     let alloc = rt.alloc();
-    let (board, mut reader, passes) = Board::<Told>::new(alloc, 1).expect(
-        &rt,
-        "memory for a board",
-    );
+    let (board, mut reader, passes) = Board::<Own>::new(alloc, 1).expect(&rt, "memory for a board");
     let mut passes = passes.into_vec();
     let mut worker = last_pass(&rt, &board, &mut passes);
-    let job = Arc::new(alloc, Verdict::Accepted).expect(&rt, "memory for a job");
+    let job = Arc::new(alloc, Own(Verdict::Accepted)).expect(&rt, "memory for a job");
     let open = job.clone().expect(&rt, "a share");
     let first = board.put(&rt, &mut reader, open, false).is_ok();
     let settled = job.clone().expect(&rt, "a share");

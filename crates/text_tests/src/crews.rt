@@ -5,7 +5,7 @@ ghost use Rattle.task_board.specs.Passes.{IsIdle, IsNew, IsOver};
 
 use crate::passes::{last_pass, pass_back};
 use crate::reports::is_reported;
-use crate::told::{NoGate, Told};
+use crate::told::{NoGate, Own, Told};
 use board_core::{End, Place};
 use dk_model::{Code, Listed, NoMemory, Verdict};
 use std::alloc::Global;
@@ -27,9 +27,9 @@ const REPORT: &str = "ok 1 a\nrefused 2 line 9 E21\n";
 fn put_all<R: Wait>(
     rt: &R,
     alloc: Global,
-    board: &Board<Told>,
-    mut reader: ReaderPass<Told>,
-) -> SealedPass<Told>
+    board: &Board<Own>,
+    mut reader: ReaderPass<Own>,
+) -> SealedPass<Own>
     requires own { reader.seat.table_id ≡ board.now }
     requires few { length reader.seat.me.0.known ≡ 0 }
     ensures own { result.seat.table_id ≡ board.now }
@@ -49,8 +49,8 @@ fn put_all<R: Wait>(
 fn put_one<R: Wait>(
     rt: &R,
     alloc: Global,
-    board: &Board<Told>,
-    reader: &mut ReaderPass<Told>,
+    board: &Board<Own>,
+    reader: &mut ReaderPass<Own>,
     job: Verdict,
 ) -> bool
     requires own { reader.old.seat.table_id ≡ board.now }
@@ -60,7 +60,7 @@ fn put_one<R: Wait>(
     ensures known { length reader.new.seat.me.0.known
         ≤ length reader.old.seat.me.0.known + 1 }
 {
-    let Ok(job) = Arc::new(alloc, job) else {
+    let Ok(job) = Arc::new(alloc, Own(job)) else {
         return false;
     };
     board.put(rt, reader, job, false).is_ok()
@@ -80,9 +80,9 @@ fn titles_of(alloc: Global) -> Result<Titles, NoMemory> {
 /// The last pass, back in the list once it has worked.
 fn last_works<R: Wait + Abort>(
     rt: &R,
-    board: &Board<Told>,
-    passes: &mut Vec<WorkerPass<Told>>,
-    back: &mut Listed<WorkerPass<Told>>,
+    board: &Board<Own>,
+    passes: &mut Vec<WorkerPass<Own>>,
+    back: &mut Listed<WorkerPass<Own>>,
 )
     requires all { All (λ p. (p.seat.table_id ≡ board.now) × IsIdle p.seat.me.0) passes.old.items }
     requires own { All (λ p. p.seat.table_id ≡ board.now) back.old }
@@ -100,7 +100,7 @@ fn last_works<R: Wait + Abort>(
 
 /// Whether four passes without threads, each in turn, leave the report.
 fn reports_without_threads<R: Wait + Abort>(rt: &R, alloc: Global) -> Result<bool, Fail> {
-    let (board, reader, passes) = Board::<Told>::new(alloc, 4)?;
+    let (board, reader, passes) = Board::<Own>::new(alloc, 4)?;
     let sealed = put_all(rt, alloc, &board, reader);
     let mut passes = passes.into_vec();
     let mut back = Listed::new(alloc);
@@ -117,14 +117,14 @@ fn reports_without_threads<R: Wait + Abort>(rt: &R, alloc: Global) -> Result<boo
 struct Puts<'a, R: Wait> {
     rt: &'a R,
     alloc: Global,
-    board: &'a Board<Told>,
-    reader: ReaderPass<Told>,
+    board: &'a Board<Own>,
+    reader: ReaderPass<Own>,
 }
 
 impl<'a, R: Wait> Reading for Puts<'a, R> {
     ghost use Rattle.std.specs.Prelude.{◌≡◌, length};
 
-    type Given = SealedPass<Told>;
+    type Given = SealedPass<Own>;
 
     ghost can_read = { λ t. (t.reader.seat.table_id ≡ t.board.now)
         × (length t.reader.seat.me.0.known ≡ 0) };
@@ -132,7 +132,7 @@ impl<'a, R: Wait> Reading for Puts<'a, R> {
     ghost gives = { λ t sealed. (sealed.seat.table_id ≡ t.board.now)
         × (sealed.seat.me.0.made ≡ t.reader.seat.me.0.made) };
 
-    fn read(self) -> SealedPass<Told> {
+    fn read(self) -> SealedPass<Own> {
         let Puts {
             rt,
             alloc,
@@ -147,11 +147,11 @@ impl<'a, R: Wait> Reading for Puts<'a, R> {
 fn read_with_crew<R: Threads + Wait + Sync>(
     rt: &R,
     alloc: Global,
-    board: &Board<Told>,
+    board: &Board<Own>,
     checker: &Told,
-    reader: ReaderPass<Told>,
-    passes: Listed<WorkerPass<Told>>,
-) -> (SealedPass<Told>, Listed<WorkerPass<Told>>)
+    reader: ReaderPass<Own>,
+    passes: Listed<WorkerPass<Own>>,
+) -> (SealedPass<Own>, Listed<WorkerPass<Own>>)
     requires own { reader.seat.table_id ≡ board.now }
     requires empty { length reader.seat.me.0.known ≡ 0 }
     requires own_workers { All (λ p. p.seat.table_id ≡ board.now) passes }
@@ -176,7 +176,7 @@ fn read_with_crew<R: Threads + Wait + Sync>(
 /// Whether two threads leave the report, where the check of each job waits until it sees that of the other.
 fn reports_with_threads<R: Threads + Wait + Sync>(rt: &R, alloc: Global) -> Result<bool, Fail> {
     let checker = Told::new(true);
-    let (board, reader, passes) = Board::<Told>::new(alloc, 2)?;
+    let (board, reader, passes) = Board::<Own>::new(alloc, 2)?;
     let (sealed, passes) = read_with_crew(rt, alloc, &board, &checker, reader, passes);
     let book = board.close(sealed, passes);
     let reported = is_reported(alloc, &book, &titles_of(alloc)?, false, REPORT)?;

@@ -3,7 +3,7 @@ ghost use Rattle.std.specs.Prelude.{◌≡◌, ◌+◌, All, length};
 ghost use Rattle.std.specs.List.{Any};
 ghost use Rattle.task_board.specs.Passes.{IsIdle, IsOver};
 
-use crate::told::Told;
+use crate::told::Own;
 use dk_model::Listed;
 use std::process::Abort;
 use task_board::{Board, WorkerPass};
@@ -11,9 +11,9 @@ use task_board::{Board, WorkerPass};
 /// The last of the passes.
 pub fn last_pass<R: Abort>(
     rt: &R,
-    board: &Board<Told>,
-    passes: &mut Vec<WorkerPass<Told>>,
-) -> WorkerPass<Told>
+    board: &Board<Own>,
+    passes: &mut Vec<WorkerPass<Own>>,
+) -> WorkerPass<Own>
     requires { All (λ p. (p.seat.table_id ≡ board.now) × IsIdle p.seat.me.0) passes.old.items }
     ensures rest { All (λ p. (p.seat.table_id ≡ board.now) × IsIdle p.seat.me.0) passes.new.items }
     ensures last { (result.seat.table_id ≡ board.now) × IsIdle result.seat.me.0 }
@@ -27,9 +27,9 @@ pub fn last_pass<R: Abort>(
 /// Puts a pass into the list.
 pub fn pass_back<R: Abort>(
     rt: &R,
-    board: &Board<Told>,
-    passes: &mut Listed<WorkerPass<Told>>,
-    pass: WorkerPass<Told>,
+    board: &Board<Own>,
+    passes: &mut Listed<WorkerPass<Own>>,
+    pass: WorkerPass<Own>,
 )
     requires pass { (pass.seat.table_id ≡ board.now) × IsIdle pass.seat.me.0 }
     requires own { All (λ p. p.seat.table_id ≡ board.now) passes.old }

@@ -324,9 +324,9 @@ fn answer_all<R: Abort>(rt: &R, book: &mut Book<Verdict>)
 }
 
 // Whether the report of a finished book is this text. The budget of each job is 7.
-pub fn is_reported(
+pub fn is_reported<J>(
     alloc: Global,
-    book: &Book<Verdict>,
+    book: &Book<J>,
     titles: &Titles,
     quiet: bool,
     text: &str,

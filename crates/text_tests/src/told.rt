@@ -1,5 +1,5 @@
-//! A checker whose jobs are their own verdicts, a gate that keeps nothing, and histories that are written out.
-use board_core::{Checker, End, Event, Gate};
+//! Jobs that are their own verdicts, their checker, a gate that keeps nothing, and histories that are written out.
+use board_core::{Checkable, Checker, End, Event, Gate};
 use dk_model::Verdict;
 use std::sync::atomic::{AtomicU64, Ordering};
 use std::thread;
@@ -7,7 +7,19 @@ use std::thread;
 /// How often a check that waits for another looks for it before it gives up.
 const LOOKS: u32 = 10_000_000;
 
-/// A checker whose jobs are their own verdicts. Where jobs meet, the check of an accepted job and the
+/// A job that is its own verdict.
+#[derive(Drop)]
+pub struct Own(pub Verdict);
+
+impl Checkable for Own {
+    ghost use Rattle.std.specs.Prelude.{true};
+
+    ghost due = { λ job. job.0 };
+
+    ghost early = { λ _. true };
+}
+
+/// A checker that tells a job's own verdict. Where jobs meet, the check of an accepted job and the
 /// check of another wait for each other.
 #[derive(Drop)]
 pub struct Told {
@@ -41,20 +53,14 @@ impl Told {
 }
 
 impl Checker for Told {
-    ghost use Rattle.std.specs.Prelude.{true};
-
-    type Job = Verdict;
+    type Job = Own;
 
     type Kit = ();
 
-    ghost due = { λ job. job };
-
-    ghost early = { λ _. true };
-
     fn kit(&self) {}
 
-    fn check(&self, _kit: &mut (), job: &Verdict) -> Verdict {
-        let verdict = *job;
+    fn check(&self, _kit: &mut (), job: &Own) -> Verdict {
+        let verdict = job.0;
         if self.meet {
             if verdict == Verdict::Accepted {
                 self.wait_for_the_other(&self.accepted, &self.others);

@@ -9,16 +9,7 @@ use dk_io::{Failed, Shelf, Sink, put, put_all};
 use dk_model::Limits;
 use std::alloc::Global;
 use std::io::ErrorKind;
-use verdict_book::{outcome_of, write_report};
-
-// The statuses of docs/report.md that no outcome of a file has.
-const USAGE: u8 = 2;
-
-const UNOPENED: u8 = 3;
-
-pub const NO_MEMORY: u8 = 4;
-
-const SINK_FAILED: u8 = 5;
+use verdict_book::{outcome_of, status, write_report};
 
 /// Does what the words ask, and answers the status (docs/report.md). The only thing that can be asked is the check of a
 /// file; the number of workers is taken and changes nothing.
@@ -32,12 +23,12 @@ pub fn answer_call<H: Shelf, K: Sink>(
 {
     let words = match words {
         Ok(words) => words.as_slice(),
-        Err(ErrorKind::OutOfMemory) => return NO_MEMORY,
-        Err(_) => return USAGE,
+        Err(ErrorKind::OutOfMemory) => return status::MEMORY,
+        Err(_) => return status::USAGE,
     };
     match read_request(alloc, words) {
         Ok(Some(Request::Check(request))) => check_file(alloc, shelf, sink, &request),
-        Ok(_) => told(put(sink, usage_text()), USAGE),
+        Ok(_) => told(put(sink, usage_text()), status::USAGE),
         Err(_) => put_memory(sink),
     }
 }
@@ -46,13 +37,13 @@ pub fn answer_call<H: Shelf, K: Sink>(
 fn told(written: Result<(), Failed>, status: u8) -> u8 {
     match written {
         Ok(()) => status,
-        Err(Failed) => SINK_FAILED,
+        Err(Failed) => status::SINK_FAILED,
     }
 }
 
 // Memory ended before the first command.
 fn put_memory<K: Sink>(sink: &mut K) -> u8 {
-    told(put(sink, b"memory 0 line 0\n"), NO_MEMORY)
+    told(put(sink, b"memory 0 line 0\n"), status::MEMORY)
 }
 
 fn check_file<H: Shelf, K: Sink>(
@@ -69,7 +60,7 @@ fn check_file<H: Shelf, K: Sink>(
             request.file.as_bytes(),
             b"\n".as_slice(),
         ];
-        return told(put_all(sink, &line), UNOPENED);
+        return told(put_all(sink, &line), status::UNREAD);
     };
     match try_book(alloc, Limits::standard(), request.budget, shelf) {
         Ok(tried) => put_report(sink, &tried, request),

@@ -10,7 +10,7 @@ mod name;
 mod trial;
 mod tried;
 
-use crate::call::{NO_MEMORY, answer_call};
+use crate::call::answer_call;
 use dk_io::{OsShelf, OsSink};
 use std::env::Env;
 use std::fs::Files;
@@ -19,6 +19,7 @@ use std::process::ExitCode;
 use std::sync::Wait;
 use std::thread::{self, Builder, Threads};
 use std::{env, io};
+use verdict_book::status;
 
 // As large as the stacks of dk_check: copying, comparing and dropping a term nest as deep as the term.
 const STACK: usize = 1 << 28;
@@ -30,7 +31,7 @@ fn main(rt: HostRuntime) -> ExitCode {
             .spawn_scoped(scope, || status_of_call(&rt))
         {
             Ok(handle) => handle.join(&rt),
-            Err(_) => NO_MEMORY,
+            Err(_) => status::MEMORY,
         }
     });
     exit_with(status)
@@ -57,7 +58,7 @@ fn words_of_call<R: Env + AllocGlobal>(rt: &R) -> Result<Vec<String>, ErrorKind>
 fn status_of_call<R: Env + Files + Print + AllocGlobal>(rt: &R) -> u8 {
     let words = words_of_call(rt);
     let Ok(mut shelf) = OsShelf::new(rt, rt.alloc()) else {
-        return NO_MEMORY;
+        return status::MEMORY;
     };
     let mut sink = OsSink::new(io::writer(rt));
     answer_call(rt.alloc(), &words, &mut shelf, &mut sink)

@@ -267,7 +267,8 @@ fn put_behind<'x, K: Sink>(
 ) -> Result<(), Failed>
     requires { StopsAtFault outcome.now }
     ensures put { Gathers (K.taken sink.old) buffer.old (K.taken sink.new) buffer.new
-        (pieces_text head.now ++ last_line outcome.now style.now.budget style.now.folder.now) result }
+        (pieces_text head.now
+        ++ last_line outcome.now style.now.budget style.now.folder.now) result }
     ensures cause { HasCause (K.faults sink.old) (K.faults sink.new) result }
 {
     match put_pieces(buffer, sink, head) {
