@@ -1,10 +1,9 @@
-pub mod Arguments
-pub mod Refining
+pub mod Lists
+pub mod Steps
 pub mod Choosing
-pub mod Trying
+pub mod Guards
 pub mod Matched
-pub mod Turning
 pub mod Comparing
 pub mod Parts
-pub mod Listing
+pub mod Refining
 pub mod Reducing

@@ -1,11 +1,10 @@
 -- The normal form, part by part.
-use Rattle.std.proofs.Common.{◌≡◌, ◌-◌, ◌<◌, ℕ, zero, suc, Some, None, refl, ap, ◌∙◌, arith}
+use Rattle.std.proofs.Common.{◌≡◌, ℕ, Some, None, ap, ◌∙◌}
 use Rattle.dk_model.specs.Trees.{Tree, apply, bare, annotated, product}
 use Rattle.dk_model.specs.Signatures.{PlainSignature}
 use Rattle.dk_model.specs.Units.{Units, bind}
 use Rattle.dk_model.specs.Parts.{each_normal}
-use Rattle.dk_model.specs.Evaluation.{whnf_of, normal_of}
-use Rattle.dk_model.proofs.Turns.{normal_is}
+use Rattle.dk_model.specs.Evaluation.{normal_of}
 
 -- two parts, one after the other
 module _ (F G : ℕ → Units Tree) (f : Tree → Tree → Tree) (n : ℕ) where
@@ -22,19 +21,6 @@ module _ (F G : ℕ → Units Tree) (f : Tree → Tree → Tree) (n : ℕ) where
   both_go t u m j e q = ap (λ x. bind x (λ t n1. bind (G n1) (λ u n2. Some (f t u, n2)))) e ∙ ap (λ x. bind x (λ u n2. Some (f t u, n2))) q
 
 module _ (S : PlainSignature) where
-  by_weak : (n : ℕ) (t : Tree) → 0 < n → normal_of S n t ≡ bind (whnf_of S (n - 1) t) (each_normal (normal_of S))
-  by_weak zero t h = absurd (omega arith)
-  by_weak (suc n) t h = normal_is S n t ∙ ap (λ m. bind (whnf_of S m t) (each_normal (normal_of S))) (omega arith)
-
-  pub normal_out : (t : Tree) → normal_of S 0 t ≡ None
-  normal_out t = refl
-
-  pub normal_ends : (n : ℕ) (t : Tree) → 0 < n → whnf_of S (n - 1) t ≡ None → normal_of S n t ≡ None
-  normal_ends n t h e = by_weak n t h ∙ ap (λ x. bind x (each_normal (normal_of S))) e
-
-  pub normal_goes : (n m : ℕ) (t v : Tree) → 0 < n → whnf_of S (n - 1) t ≡ Some (v, m) → normal_of S n t ≡ each_normal (normal_of S) v m
-  normal_goes n m t v h e = by_weak n t h ∙ ap (λ x. bind x (each_normal (normal_of S))) e
-
   abbrev parts : Tree → ℕ → Units Tree
   parts t n = each_normal (normal_of S) t n
 

@@ -1,4 +1,2 @@
-pub mod Nodes
-pub mod Matrix
+pub mod Views
 pub mod Answers
-pub mod Clauses

@@ -1,14 +1,9 @@
 //! Evaluation on boxed trees, by substitution: turns of the weak head form, and comparison. Begin at `Trees`.
 #![tactic(auto)]
 
-mod capture;
-mod compare;
+mod captures;
 mod evaluation;
-mod instance;
 mod matrix;
-mod nodes;
-mod normal;
-mod row;
 mod rules;
 mod select;
 mod spines;

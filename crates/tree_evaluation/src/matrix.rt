@@ -1,24 +1,25 @@
 //! The matrix of a selection: a row for each rule, a column for each part of the arguments (docs/evaluation.md).
-ghost use Rattle.std.specs.Prelude.{◌&&◌, eqb, ◌≡◌, ◌+◌, ◌<◌, ◌++◌, [], ◌∷◌, IfOk, IfSome, length, map, take, drop, replicate};
+ghost use Rattle.std.specs.Prelude.{◌≡◌, ◌&&◌, eqb, ◌+◌, ◌<◌, ◌≤◌, ◌++◌, ◌∷◌, IfOk, IfSome, OnOk, length, map, take, drop, replicate};
 ghost use Rattle.std.specs.Option.{option_map};
 ghost use Rattle.dk_model.specs.Trees.{tree, symbol as symbol_tree, variable as variable_tree};
-ghost use Rattle.dk_model.specs.Signatures.{plain_rule};
 ghost use Rattle.dk_model.specs.Spines.{head, arguments};
-ghost use Rattle.dk_model.specs.Matrix.{blank, is_rigid, rigid_at, cell_at, is_bare, heads_same, first_cells, opened_columns, refined_cells, refined_rows, width, rows_for};
-ghost use Rattle.tree_evaluation.specs.Matrix.{pattern_cell, plain_cell, plain_cells, column, row as row_of, part_count, cells_if, refined_row};
+ghost use Rattle.dk_model.specs.Matrix.{blank, is_rigid, rigid_at, cell_at, first_cells, opened_columns, refined_cells, refined_rows, heads_same, width, rows_for};
+ghost use Rattle.tree_evaluation.specs.Views.{pattern_cell, plain_cell, plain_cells, column, at_depth, row as row_of, rule as rule_of, refined_row, cells_if};
 
-use crate::spines::{is_symbol, is_variable};
-use dk_model::{NoMemory, Pat, Rule, Term};
+use crate::rules::SymbolRule;
+use crate::spines::{arguments, body_of, is_applied};
+use dk_model::{NoMemory, Pat, Term};
+use shared_term::Stored;
 use std::alloc::Global;
 use std::collections::LinkedList;
 
 /// What a row asks of a column.
 #[derive(Clone, Copy)]
-pub enum Cell<'r> {
+pub enum Cell<'v> {
     /// Nothing.
     Blank,
     /// That the column's term matches the pattern.
-    Pattern(&'r Pat),
+    Pattern(&'v Pat<Stored>),
 }
 
 /// A part of the arguments.
@@ -31,18 +32,18 @@ pub struct Column {
 
 /// A rule with what it still asks of each column.
 #[derive(Drop)]
-pub struct Row<'r> {
-    pub cells: Vec<Cell<'r>>,
-    pub rule: &'r Rule,
+pub struct Row<'v> {
+    pub cells: Vec<Cell<'v>>,
+    pub rule: SymbolRule<'v>,
 }
 
 /// How many columns the rules of at most `count` patterns need.
-pub fn width(count: usize, rules: &[Rule]) -> usize
-    ensures { result ≡ width count (map plain_rule rules.now) }
+pub fn width(count: usize, rules: &[SymbolRule]) -> usize
+    ensures { result ≡ width count (map rule_of rules.now) }
 {
     let mut width = 0;
     for rule in rules {
-        let patterns = rule.pats.len();
+        let patterns = rule.pattern_count();
         if patterns <= count && width < patterns {
             width = patterns;
         }
@@ -51,56 +52,68 @@ pub fn width(count: usize, rules: &[Rule]) -> usize
 }
 
 /// A row for each rule of at most `count` patterns.
-pub fn rows_for<'r>(
+pub fn rows_for<'v>(
     alloc: Global,
     count: usize,
     width: usize,
-    rules: &'r [Rule],
-) -> Result<LinkedList<Row<'r>>, NoMemory>
-    ensures { IfOk result (λ rows. map row_of rows ≡ rows_for count width (map plain_rule
-        rules.now)) }
+    rules: &[SymbolRule<'v>],
+) -> Result<Vec<Row<'v>>, NoMemory>
+    ensures { IfOk result (λ rows. map row_of rows.items
+        ≡ rows_for count width (map rule_of rules.now)) }
 {
-    let mut rows = LinkedList::new(alloc);
+    let mut rows = Vec::new(alloc);
     for rule in rules {
-        if rule.pats.len() <= count {
-            rows.push_back(row_for(alloc, width, rule)?)?;
+        if rule.pattern_count() <= count {
+            rows.push(row_for(alloc, width, *rule)?)?;
         }
     }
     Ok(rows)
 }
 
 /// A rule's patterns, and nothing for the columns that are left of the `width`.
-#[tactic(auto, using(crate::proofs::Refining::first_are))]
-fn row_for<'r>(alloc: Global, width: usize, rule: &'r Rule) -> Result<Row<'r>, NoMemory>
-    ensures cells { IfOk result (λ r. (row_of r).cells ≡ first_cells width (plain_rule rule.now)) }
-    ensures rule { IfOk result (λ r. r.rule.now ≡ rule.now) }
+fn row_for<'v>(alloc: Global, width: usize, rule: SymbolRule<'v>) -> Result<Row<'v>, NoMemory>
+    ensures cells { IfOk result (λ r. (row_of r).cells ≡ first_cells width (rule_of rule.entry)) }
+    ensures rule { IfOk result (λ r. r.rule ≡ rule.entry) }
 {
-    let mut cells = Vec::new(alloc);
-    push_patterns(&mut cells, rule.pats.as_slice())?;
-    push_blanks(&mut cells, width.saturating_sub(rule.pats.len()))?;
+    let mut cells = cells_of(alloc, rule.patterns())?;
+    let mut behind = blanks(alloc, width.saturating_sub(rule.pattern_count()))?;
+    cells.append(&mut behind)?;
     Ok(Row { cells, rule })
 }
 
 /// A cell for each pattern.
-fn push_patterns<'r>(cells: &mut Vec<Cell<'r>>, patterns: &'r [Pat]) -> Result<(), NoMemory>
-    ensures { IfOk result (λ _. plain_cells cells.new.items
-        ≡ plain_cells cells.old.items ++ map pattern_cell patterns.now) }
+fn cells_of<'v>(alloc: Global, patterns: &'v [Pat<Stored>]) -> Result<Vec<Cell<'v>>, NoMemory>
+    ensures { IfOk result (λ cells. plain_cells cells.items ≡ map pattern_cell patterns.now) }
 {
+    let mut cells = Vec::new(alloc);
     for pattern in patterns {
         cells.push(Cell::Pattern(pattern))?;
     }
-    Ok(())
+    Ok(cells)
 }
 
 /// Cells that ask for nothing.
-fn push_blanks(cells: &mut Vec<Cell>, count: usize) -> Result<(), NoMemory>
-    ensures { IfOk result (λ _. plain_cells cells.new.items
-        ≡ plain_cells cells.old.items ++ replicate count blank) }
+fn blanks<'v>(alloc: Global, count: usize) -> Result<Vec<Cell<'v>>, NoMemory>
+    ensures { IfOk result (λ cells. plain_cells cells.items ≡ replicate count blank) }
 {
+    let mut cells = Vec::new(alloc);
     for _i in 0..count {
         cells.push(Cell::Blank)?;
     }
-    Ok(())
+    Ok(cells)
+}
+
+/// Cells behind one.
+fn behind_cell<'v>(
+    alloc: Global,
+    cell: Cell<'v>,
+    behind: Vec<Cell<'v>>,
+) -> Result<Vec<Cell<'v>>, NoMemory>
+    ensures { IfOk result (λ cells. cells.items ≡ cell.entry ∷ behind.entry.items) }
+{
+    let mut cells = Vec::from_slice(alloc, &[cell])?;
+    cells.extend_from_slice(behind.as_slice())?;
+    Ok(cells)
 }
 
 fn is_rigid(cell: Cell) -> bool
@@ -136,24 +149,17 @@ pub fn rigid_at(cells: &[Cell]) -> Option<usize>
     }
 }
 
-/// A column at this depth for each argument of a term.
-#[tactic(auto, using(crate::proofs::Arguments::column_pushed))]
-pub fn argument_columns(
-    alloc: Global,
-    depth: u64,
-    term: &Term,
-) -> Result<LinkedList<Column>, NoMemory>
-    ensures { IfOk result (λ cs. map column cs ≡ map (λ a. record { depth = depth; term = a })
-        (arguments (tree term.now))) }
+/// A column at this depth for each term.
+pub fn columns_of(alloc: Global, depth: u64, terms: &[Term]) -> Result<LinkedList<Column>, NoMemory>
+    ensures { IfOk result (λ cs. map column cs ≡ map (at_depth depth) (map tree terms.now)) }
 {
-    let Term::App(f, a) = term else {
-        return Ok(LinkedList::new(alloc));
-    };
-    let mut columns = argument_columns(alloc, depth, f)?;
-    columns.push_back(Column {
-        depth,
-        term: a.copy(alloc)?,
-    })?;
+    let mut columns = LinkedList::new(alloc);
+    for term in terms {
+        columns.push_back(Column {
+            depth,
+            term: term.copy(alloc)?,
+        })?;
+    }
     Ok(columns)
 }
 
@@ -166,29 +172,48 @@ pub fn opened_columns(
     ensures { IfOk result (λ cs. map column cs ≡ opened_columns depth (tree value.now)) }
 {
     match value {
-        Term::Abs(None, body) => body_column(alloc, depth, body),
-        other => argument_columns(alloc, depth, other),
+        Term::Abs(None, body) => {
+            let Some(depth) = depth.checked_add(1) else {
+                return Err(NoMemory);
+            };
+            let term = body.copy(alloc)?;
+            let mut columns = LinkedList::new(alloc);
+            columns.push_front(Column { depth, term })?;
+            Ok(columns)
+        }
+        _ => columns_of(alloc, depth, arguments(alloc, value)?.as_slice()),
     }
 }
 
-/// A column for the body of an abstraction at this depth.
-fn body_column(alloc: Global, depth: u64, body: &Term) -> Result<LinkedList<Column>, NoMemory>
-    ensures { IfOk result (λ cs. map column cs ≡ record { depth = depth + 1; term = tree body.now }
-        ∷ []) }
+/// Cuts the columns before a place, and gives those from there on.
+pub fn cut(columns: &mut LinkedList<Column>, at: usize) -> Result<LinkedList<Column>, NoMemory>
+    requires { at ≤ length columns.old }
+    ensures before { OnOk result (columns.new ≡ take at columns.old) }
+    ensures behind { IfOk result (λ behind. behind ≡ drop at columns.old) }
 {
-    let Some(depth) = depth.checked_add(1) else {
-        return Err(NoMemory);
-    };
-    let mut columns = LinkedList::new(alloc);
-    columns.push_front(Column {
-        depth,
-        term: body.copy(alloc)?,
-    })?;
-    Ok(columns)
+    Ok(columns.split_off(at)?)
+}
+
+/// Columns in one list: those before a value, the value, its parts and those behind it.
+pub fn joined(
+    before: LinkedList<Column>,
+    value: Column,
+    parts: LinkedList<Column>,
+    behind: LinkedList<Column>,
+) -> Result<LinkedList<Column>, NoMemory>
+    ensures { IfOk result (λ all. all ≡ before ++ value ∷ parts ++ behind) }
+{
+    let mut all = before;
+    let mut parts = parts;
+    let mut behind = behind;
+    all.push_back(value)?;
+    all.append(&mut parts)?;
+    all.append(&mut behind)?;
+    Ok(all)
 }
 
 /// The cell at a place, or nothing.
-fn cell_at<'r>(cells: &[Cell<'r>], at: usize) -> Cell<'r>
+fn cell_at<'v>(cells: &[Cell<'v>], at: usize) -> Cell<'v>
     ensures { plain_cell result ≡ cell_at (plain_cells cells.now) at }
 {
     match cells {
@@ -201,114 +226,76 @@ fn cell_at<'r>(cells: &[Cell<'r>], at: usize) -> Cell<'r>
     }
 }
 
-/// The cells before a place.
-fn before<'c, 'r>(cells: &'c [Cell<'r>], at: usize) -> &'c [Cell<'r>]
-    ensures { result.now ≡ take at cells.now }
-{
-    if at < cells.len() {
-        &cells[..at]
-    } else {
-        cells
-    }
-}
-
-/// The cells after a place.
-fn after<'c, 'r>(cells: &'c [Cell<'r>], at: usize) -> &'c [Cell<'r>]
-    ensures { result.now ≡ drop (at + 1) cells.now }
-{
-    if at < cells.len() {
-        &cells[at + 1..]
-    } else {
-        &cells[cells.len()..]
-    }
-}
-
-fn is_bare(term: &Term) -> bool
-    ensures { result ≡ is_bare (tree term.now) }
-{
-    match term {
-        Term::Abs(None, _) => true,
-        _ => false,
-    }
-}
-
 /// Nothing for a value, and a cell for the pattern of each of its parts; or nothing at all where it isn't taken.
-fn opened_if<'r>(
+fn opened_if<'v>(
     alloc: Global,
     taken: bool,
-    patterns: &'r [Pat],
-) -> Result<Option<Vec<Cell<'r>>>, NoMemory>
+    patterns: &'v [Pat<Stored>],
+) -> Result<Option<Vec<Cell<'v>>>, NoMemory>
     ensures { IfOk result (λ cells. option_map (λ v. plain_cells v.items) cells
         ≡ cells_if (map pattern_cell patterns.now) taken) }
 {
     if !taken {
         return Ok(None);
     }
-    let mut cells = Vec::new(alloc);
-    cells.push(Cell::Blank)?;
-    push_patterns(&mut cells, patterns)?;
-    Ok(Some(cells))
+    let parts = cells_of(alloc, patterns)?;
+    Ok(Some(behind_cell(alloc, Cell::Blank, parts)?))
 }
 
-/// This cell, and nothing for each of `count` parts.
-fn kept_cells<'r>(alloc: Global, cell: Cell<'r>, count: usize) -> Result<Vec<Cell<'r>>, NoMemory>
-    ensures { IfOk result (λ cells. plain_cells cells.items
-        ≡ plain_cell cell.entry ∷ replicate count blank) }
-{
-    let mut cells = Vec::new(alloc);
-    cells.push(cell)?;
-    push_blanks(&mut cells, count)?;
-    Ok(cells)
-}
-
-/// Whether a value of `count` parts has this symbol at its head, and as many arguments as there are patterns.
-fn takes_symbol(value: &Term, count: usize, symbol: u32, patterns: &[Pat]) -> bool
+/// Whether a value has this symbol at its head, and as many arguments as there are patterns.
+fn takes_symbol(value: &Term, symbol: u32, patterns: &[Pat<Stored>]) -> bool
     ensures { result ≡ (heads_same (head (tree value.now)) (symbol_tree symbol)
-        && eqb count (length patterns.now)) }
+        && eqb (length (arguments (tree value.now))) (length patterns.now)) }
 {
-    is_symbol(value, symbol) && count == patterns.len()
+    is_applied(value, &Term::Sym(symbol), patterns.len())
 }
 
 /// The same of a variable.
-fn takes_variable(value: &Term, count: usize, variable: u32, patterns: &[Pat]) -> bool
+fn takes_variable(value: &Term, variable: u32, patterns: &[Pat<Stored>]) -> bool
     ensures { result ≡ (heads_same (head (tree value.now)) (variable_tree variable)
-        && eqb count (length patterns.now)) }
+        && eqb (length (arguments (tree value.now))) (length patterns.now)) }
 {
-    is_variable(value, variable) && count == patterns.len()
+    is_applied(value, &Term::Var(u64::from(variable)), patterns.len())
+}
+
+/// This cell, and nothing for each of `count` parts.
+fn kept_cells<'v>(alloc: Global, cell: Cell<'v>, count: usize) -> Result<Vec<Cell<'v>>, NoMemory>
+    ensures { IfOk result (λ cells. plain_cells cells.items
+        ≡ plain_cell cell.entry ∷ replicate count blank) }
+{
+    let parts = blanks(alloc, count)?;
+    let cells = behind_cell(alloc, cell, parts)?;
+    Ok(cells)
 }
 
 /// The cells that a row has for a value and its `count` parts by its pattern for it, or nothing where the row is dropped.
-fn pattern_refined<'r>(
+fn pattern_refined<'v>(
     alloc: Global,
     value: &Term,
     count: usize,
-    pattern: &'r Pat,
-) -> Result<Option<Vec<Cell<'r>>>, NoMemory>
-    requires { count ≡ part_count (tree value.now) }
+    pattern: &'v Pat<Stored>,
+) -> Result<Option<Vec<Cell<'v>>>, NoMemory>
     ensures { IfOk result (λ cells. option_map (λ v. plain_cells v.items) cells
         ≡ refined_cells (tree value.now) count (pattern_cell pattern.now)) }
 {
     match pattern {
         Pat::Sym(k, patterns) => {
             let patterns = patterns.as_slice();
-            let taken = takes_symbol(value, count, *k, patterns);
+            let taken = takes_symbol(value, *k, patterns);
             Ok(opened_if(alloc, taken, patterns)?)
         }
         Pat::Var(k, patterns) => {
             let patterns = patterns.as_slice();
-            let taken = takes_variable(value, count, *k, patterns);
+            let taken = takes_variable(value, *k, patterns);
             Ok(opened_if(alloc, taken, patterns)?)
         }
-        Pat::Abs(body) => {
-            let body: &'r Pat = body;
-            if !is_bare(value) {
-                return Ok(None);
+        Pat::Abs(body) => match body_of(value) {
+            Some(_) => {
+                let parts = Vec::from_slice(alloc, &[Cell::Pattern(body)])?;
+                Ok(Some(behind_cell(alloc, Cell::Blank, parts)?))
             }
-            let mut cells = Vec::new(alloc);
-            cells.push(Cell::Blank)?;
-            cells.push(Cell::Pattern(body))?;
-            Ok(Some(cells))
-        }
+            None => Ok(None),
+        },
         Pat::Rvar(..) => Ok(Some(kept_cells(alloc, Cell::Pattern(pattern), count)?)),
         Pat::Any => Ok(Some(kept_cells(alloc, Cell::Pattern(pattern), count)?)),
         Pat::Guard(_) => Ok(Some(kept_cells(alloc, Cell::Pattern(pattern), count)?)),
@@ -316,13 +303,12 @@ fn pattern_refined<'r>(
 }
 
 /// The same by its cell for the value.
-fn refined_cells<'r>(
+fn refined_cells<'v>(
     alloc: Global,
     value: &Term,
     count: usize,
-    cell: Cell<'r>,
-) -> Result<Option<Vec<Cell<'r>>>, NoMemory>
-    requires { count ≡ part_count (tree value.now) }
+    cell: Cell<'v>,
+) -> Result<Option<Vec<Cell<'v>>>, NoMemory>
     ensures { IfOk result (λ cells. option_map (λ v. plain_cells v.items) cells
         ≡ refined_cells (tree value.now) count (plain_cell cell.entry)) }
 {
@@ -332,25 +318,44 @@ fn refined_cells<'r>(
     }
 }
 
+/// The cells with others in the place of the one at a place.
+fn spliced<'v>(
+    alloc: Global,
+    cells: &[Cell<'v>],
+    at: usize,
+    parts: &[Cell<'v>],
+) -> Result<Vec<Cell<'v>>, NoMemory>
+    ensures { IfOk result (λ all. all.items
+        ≡ take at cells.now ++ parts.now ++ drop (at + 1) cells.now) }
+{
+    if at >= cells.len() {
+        let mut all = Vec::from_slice(alloc, cells)?;
+        all.extend_from_slice(parts)?;
+        return Ok(all);
+    }
+    let mut all = Vec::from_slice(alloc, &cells[..at])?;
+    all.extend_from_slice(parts)?;
+    all.extend_from_slice(&cells[at + 1..])?;
+    Ok(all)
+}
+
 /// A row where the column at `at` has the value, of `count` parts, or nothing where the value rules the row out.
-fn refined_row<'r>(
+#[tactic(auto, using(crate::proofs::Lists::spliced))]
+fn refined_row<'v>(
     alloc: Global,
     value: &Term,
     count: usize,
     at: usize,
-    row: Row<'r>,
-) -> Result<Option<Row<'r>>, NoMemory>
-    requires { count ≡ part_count (tree value.now) }
+    row: &Row<'v>,
+) -> Result<Option<Row<'v>>, NoMemory>
     ensures { IfOk result (λ refined. option_map row_of refined
-        ≡ refined_row (tree value.now) count at (row_of row.entry)) }
+        ≡ refined_row (tree value.now) count at (row_of row.now)) }
 {
-    let old = row.cells.as_slice();
-    let Some(mut parts) = refined_cells(alloc, value, count, cell_at(old, at))? else {
+    let cells = row.cells.as_slice();
+    let Some(parts) = refined_cells(alloc, value, count, cell_at(cells, at))? else {
         return Ok(None);
     };
-    let mut cells = Vec::from_slice(alloc, before(old, at))?;
-    cells.append(&mut parts)?;
-    cells.extend_from_slice(after(old, at))?;
+    let cells = spliced(alloc, cells, at, parts.as_slice())?;
     Ok(Some(Row {
         cells,
         rule: row.rule,
@@ -358,23 +363,20 @@ fn refined_row<'r>(
 }
 
 /// The rows that are kept where the column at `at` has the value, of `count` parts.
-#[tactic(auto, using(crate::proofs::Refining::kept_on, crate::proofs::Refining::passed_on))]
-pub fn refined_rows<'r>(
+pub fn refined_rows<'v>(
     alloc: Global,
     value: &Term,
     count: usize,
     at: usize,
-    rows: LinkedList<Row<'r>>,
-) -> Result<LinkedList<Row<'r>>, NoMemory>
-    requires { count ≡ part_count (tree value.now) }
-    ensures { IfOk result (λ kept. map row_of kept
-        ≡ refined_rows (tree value.now) count at (map row_of rows.entry)) }
+    rows: &[Row<'v>],
+) -> Result<Vec<Row<'v>>, NoMemory>
+    ensures { IfOk result (λ kept. map row_of kept.items
+        ≡ refined_rows (tree value.now) count at (map row_of rows.now)) }
 {
-    let mut rows = rows;
-    let mut kept = LinkedList::new(alloc);
-    while let Some(row) = rows.pop_front() {
+    let mut kept = Vec::new(alloc);
+    for row in rows {
         if let Some(row) = refined_row(alloc, value, count, at, row)? {
-            kept.push_back(row)?;
+            kept.push(row)?;
         }
     }
     Ok(kept)

@@ -1,81 +1,86 @@
-//! The rules of a symbol over boxed terms: its body, then its rules in file order.
-ghost use Rattle.std.specs.Prelude.{◌≡◌, ◌+◌, ◌<◌, IfOk, map, take, length};
-ghost use Rattle.dk_model.specs.Trees.{tree};
-ghost use Rattle.dk_model.specs.Signatures.{plain_rule};
+//! The rules of a symbol, as the version keeps them.
+ghost use Rattle.std.specs.Prelude.{◌≡◌, ◌<◌, IfOk, Some, map, length, slice_get};
 ghost use Rattle.dk_model.specs.SymbolRules.{rules_of};
 ghost use Rattle.shared_term.specs.Storage.{stored_term};
-ghost use Rattle.signature_log.specs.Versions.{entries_of, row_rule};
+ghost use Rattle.signature_log.specs.Versions.{entries_of};
 ghost use Rattle.signature_log.specs.Rows.{row_rules};
+ghost use Rattle.tree_evaluation.specs.Views.{stored_pattern, rule};
 
-use dk_model::{Carry, Listed, NoMemory, Rule, Term, carry_rule};
+use dk_model::{NoMemory, Pat};
 use shared_term::Stored;
 use signature_log::{Row, Rows, Version};
 use std::alloc::Global;
 
-/// Terms of an entry as boxed terms.
-struct Boxes;
+/// A rule of a symbol: its body, as a rule of no patterns, or a declared one.
+#[derive(Clone, Copy)]
+pub struct SymbolRule<'v> {
+    pub symbol: u32,
+    pub row: Row<'v>,
+}
 
-impl Carry for Boxes {
-    type Source = Stored;
+impl<'v> SymbolRule<'v> {
+    /// How many rule variables it has.
+    pub fn variable_count(self) -> u32
+        ensures { result ≡ (rule self.entry).vars }
+    {
+        match self.row {
+            Row::Body(_) => 0,
+            Row::Rule(rule) => rule.vars,
+        }
+    }
 
-    type Target = Term;
+    pub fn pattern_count(self) -> usize
+        ensures { result ≡ length (rule self.entry).pats }
+    {
+        match self.row {
+            Row::Body(_) => 0,
+            Row::Rule(rule) => rule.pats.len(),
+        }
+    }
 
-    ghost read_tree = { stored_term };
+    pub fn patterns(self) -> &'v [Pat<Stored>]
+        ensures { map stored_pattern result.now ≡ (rule self.entry).pats }
+    {
+        match self.row {
+            Row::Body(_) => &[],
+            Row::Rule(rule) => rule.pats.as_slice(),
+        }
+    }
 
-    ghost made_tree = { tree };
-
-    fn carry(alloc: Global, term: &Stored) -> Result<Term, NoMemory> {
-        term.to_term(alloc)
+    pub fn right(self) -> &'v Stored
+        ensures { stored_term result.now ≡ (rule self.entry).right }
+    {
+        match self.row {
+            Row::Body(body) => body,
+            Row::Rule(rule) => &rule.right,
+        }
     }
 }
 
-/// A rule of a symbol over boxed terms.
-fn boxed_rule(alloc: Global, symbol: u32, row: Row<'_>) -> Result<Rule, NoMemory>
-    ensures { IfOk result (λ rule. plain_rule rule ≡ row_rule symbol row.entry) }
+/// The rule at a place.
+fn rule_at<'v>(rows: &Rows<'v>, symbol: u32, at: u32) -> SymbolRule<'v>
+    requires { at < length (row_rules symbol rows.now) }
+    ensures { slice_get (row_rules symbol rows.now) at ≡ Some (rule result) }
 {
-    match row {
-        Row::Body(body) => Ok(Rule {
-            head: symbol,
-            vars: 0,
-            pats: Listed::new(alloc),
-            notes: Listed::new(alloc),
-            right: body.to_term(alloc)?,
-        }),
-        Row::Rule(rule) => carry_rule::<Boxes>(alloc, rule),
-    }
-}
-
-/// The next rule.
-#[tactic(auto, using(crate::proofs::Listing::rule_listed))]
-fn push_rule(
-    alloc: Global,
-    rules: &mut Vec<Rule>,
-    rows: &Rows,
-    symbol: u32,
-    at: u32,
-) -> Result<(), NoMemory>
-    requires within { at < length (row_rules symbol rows.now) }
-    requires before { map plain_rule rules.old.items ≡ take at (row_rules symbol rows.now) }
-    ensures { IfOk result (λ _. map plain_rule rules.new.items
-        ≡ take (at + 1) (row_rules symbol rows.now)) }
-{
-    let rule = match rows.at(at) {
-        Some(row) => boxed_rule(alloc, symbol, row)?,
+    match rows.at(at) {
+        Some(row) => SymbolRule { symbol, row },
         None => unreachable!(),
-    };
-    rules.push(rule)?;
-    Ok(())
+    }
 }
 
-/// The rules of a symbol: its body, then its rules in file order. Without rules it takes no memory.
-pub fn rules_of(alloc: Global, version: &Version, symbol: u32) -> Result<Vec<Rule>, NoMemory>
-    ensures { IfOk result (λ rules. map plain_rule rules.items
-        ≡ rules_of (entries_of version.now) symbol) }
+/// The rules of a symbol: its body, then its rules in file order.
+#[tactic(auto, using(crate::proofs::Lists::rule_listed))]
+pub fn rules_of<'v>(
+    alloc: Global,
+    version: &'v Version,
+    symbol: u32,
+) -> Result<Vec<SymbolRule<'v>>, NoMemory>
+    ensures { IfOk result (λ rules. map rule rules.items ≡ rules_of (entries_of version.now) symbol) }
 {
     let rows = version.rules_of(symbol);
     let mut rules = Vec::new(alloc);
     for at in 0..rows.len() {
-        push_rule(alloc, &mut rules, &rows, symbol, at)?;
+        rules.push(rule_at(&rows, symbol, at))?;
     }
     Ok(rules)
 }

@@ -1,6 +1,6 @@
 //! A term as a head with arguments, and one contraction of it.
-ghost use Rattle.std.specs.Prelude.{◌≡◌, IfOk, MatchOption, None, Some, map, drop};
-ghost use Rattle.dk_model.specs.Trees.{tree, symbol, variable};
+ghost use Rattle.std.specs.Prelude.{◌≡◌, ◌&&◌, eqb, length, IfOk, MatchOption, None, Some, map, take, drop};
+ghost use Rattle.dk_model.specs.Trees.{tree};
 ghost use Rattle.dk_model.specs.Signatures.{maybe_tree};
 ghost use Rattle.dk_model.specs.Spines.{head, arguments, applied, head_symbol, body_of, contraction};
 ghost use Rattle.dk_model.specs.Matrix.{heads_same};
@@ -19,30 +19,30 @@ pub fn head_symbol(term: &Term) -> Option<u32>
     }
 }
 
-/// Whether the head is this symbol.
-pub fn is_symbol(term: &Term, number: u32) -> bool
-    ensures { result ≡ heads_same (head (tree term.now)) (symbol number) }
+/// Whether both are one symbol or one variable.
+fn heads_same(term: &Term, other: &Term) -> bool
+    ensures { result ≡ heads_same (tree term.now) (tree other.now) }
 {
-    match term {
-        Term::App(f, _) => is_symbol(f, number),
-        Term::Sym(k) => *k == number,
+    match (term, other) {
+        (Term::Sym(a), Term::Sym(b)) => *a == *b,
+        (Term::Var(a), Term::Var(b)) => *a == *b,
         _ => false,
     }
 }
 
-/// Whether the head is this variable.
-pub fn is_variable(term: &Term, number: u32) -> bool
-    ensures { result ≡ heads_same (head (tree term.now)) (variable number) }
+/// Whether the term is this symbol or variable applied to so many arguments.
+pub fn is_applied(term: &Term, wanted: &Term, count: usize) -> bool
+    ensures { result ≡ (heads_same (head (tree term.now)) (tree wanted.now)
+        && eqb (length (arguments (tree term.now))) count) }
 {
     match term {
-        Term::App(f, _) => is_variable(f, number),
-        Term::Var(k) => *k == u64::from(number),
-        _ => false,
+        Term::App(f, _) => count > 0 && is_applied(f, wanted, count - 1),
+        _ => count == 0 && heads_same(term, wanted),
     }
 }
 
 /// The arguments from left to right, copied.
-#[tactic(auto, using(crate::proofs::Arguments::argument_pushed))]
+#[tactic(auto, using(crate::proofs::Lists::argument_pushed))]
 pub fn arguments(alloc: Global, term: &Term) -> Result<Vec<Term>, NoMemory>
     ensures { IfOk result (λ all. map tree all.items ≡ arguments (tree term.now)) }
 {
@@ -83,7 +83,7 @@ pub fn contraction(alloc: Global, term: &Term) -> Result<Option<Term>, NoMemory>
 }
 
 /// The body of an abstraction without an annotation.
-fn body_of(term: &Term) -> Option<&Term>
+pub fn body_of(term: &Term) -> Option<&Term>
     ensures { MatchOption result (body_of (tree term.now) ≡ None)
         (λ b. body_of (tree term.now) ≡ Some (tree b.now)) }
 {
@@ -101,5 +101,16 @@ pub fn behind(arguments: &[Term], count: usize) -> &[Term]
         &arguments[count..]
     } else {
         &arguments[arguments.len()..]
+    }
+}
+
+/// The first `count` arguments.
+pub fn front(arguments: &[Term], count: usize) -> &[Term]
+    ensures { result.now ≡ take count arguments.now }
+{
+    if count < arguments.len() {
+        &arguments[..count]
+    } else {
+        arguments
     }
 }

@@ -1,6 +1,6 @@
 use Rattle.std.proofs.Common.{◌≡◌, ◌∙◌, length, arith}
 use Rattle.signature_log.specs.Rows.{row_rules}
-use Rattle.tree_evaluation.proofs.Listing.{all_listed}
+use Rattle.tree_evaluation.proofs.Lists.{all_listed}
 use Rattle.tree_evaluation.proofs.rules.rules_of.Goals as goal
 
 pub returns : goal.returns

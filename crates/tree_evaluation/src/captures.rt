@@ -1,18 +1,13 @@
-//! Captures: a part of an argument as a rule variable captures it, and a term under the captures.
-ghost use Rattle.std.specs.Prelude.{◌≡◌, ◌+◌, IfOk, MatchOption, Some, None};
+//! Changes of a term: a part as a rule variable captures it, a term under captures, and several terms put in at once.
+ghost use Rattle.std.specs.Prelude.{◌≡◌, ◌+◌, IfOk, MatchOption, Some, None, map};
 ghost use Rattle.dk_model.specs.Trees.{tree};
+ghost use Rattle.dk_model.specs.Signatures.{maybe_tree};
 ghost use Rattle.dk_model.specs.Captures.{is_in, index_of, mentions_others, renamed, abstracted, captured, capture_at, filled};
 ghost use Rattle.dk_model.specs.Bindings.{mentions_rule_variable, is_closed_at, may_bind};
-ghost use Rattle.tree_evaluation.specs.Matrix.{captures_of};
+ghost use Rattle.shared_term.specs.Changes.{from_last, substitute_all};
 
 use dk_model::{NoMemory, Term, make_annotated, make_app, make_bare, make_product};
 use std::alloc::Global;
-
-pub(crate) fn next(number: u64) -> Result<u64, NoMemory>
-    ensures { IfOk result (λ n. n ≡ number + 1) }
-{
-    sum(number, 1)
-}
 
 fn sum(a: u64, b: u64) -> Result<u64, NoMemory>
     ensures { IfOk result (λ n. n ≡ a + b) }
@@ -57,22 +52,19 @@ pub fn mentions_others(
     ensures { IfOk result (λ b. b ≡ mentions_others under depth listed.now (tree term.now)) }
 {
     match term {
-        Term::Star => Ok(false),
-        Term::Kind => Ok(false),
-        Term::Sym(_) => Ok(false),
+        Term::Star | Term::Kind | Term::Sym(_) | Term::Rvar(_) => Ok(false),
         Term::Var(k) => Ok(*k >= under && *k - under < depth && !is_in(*k - under, listed)),
-        Term::Rvar(_) => Ok(false),
         Term::App(f, a) => Ok(
             mentions_others(under, depth, listed, f)? || mentions_others(under, depth, listed, a)?,
         ),
-        Term::Abs(None, b) => mentions_others(next(under)?, depth, listed, b),
+        Term::Abs(None, b) => mentions_others(sum(under, 1)?, depth, listed, b),
         Term::Abs(Some(n), b) => Ok(
             mentions_others(under, depth, listed, n)?
-                || mentions_others(next(under)?, depth, listed, b)?,
+                || mentions_others(sum(under, 1)?, depth, listed, b)?,
         ),
         Term::Prod(a, b) => Ok(
             mentions_others(under, depth, listed, a)?
-                || mentions_others(next(under)?, depth, listed, b)?,
+                || mentions_others(sum(under, 1)?, depth, listed, b)?,
         ),
     }
 }
@@ -88,9 +80,7 @@ pub fn renamed(
     ensures { IfOk result (λ t. tree t ≡ renamed under depth listed.now (tree term.now)) }
 {
     match term {
-        Term::Star => Ok(Term::Star),
-        Term::Kind => Ok(Term::Kind),
-        Term::Sym(k) => Ok(Term::Sym(*k)),
+        Term::Star | Term::Kind | Term::Sym(_) | Term::Rvar(_) => term.copy(alloc),
         Term::Var(k) => {
             if *k < under {
                 Ok(Term::Var(*k))
@@ -100,22 +90,21 @@ pub fn renamed(
                 Ok(Term::Var(sum(*k - depth, listed.len() as u64)?))
             }
         }
-        Term::Rvar(k) => Ok(Term::Rvar(*k)),
         Term::App(f, a) => make_app(
             alloc,
             renamed(alloc, under, depth, listed, f)?,
             renamed(alloc, under, depth, listed, a)?,
         ),
-        Term::Abs(None, b) => make_bare(alloc, renamed(alloc, next(under)?, depth, listed, b)?),
+        Term::Abs(None, b) => make_bare(alloc, renamed(alloc, sum(under, 1)?, depth, listed, b)?),
         Term::Abs(Some(n), b) => make_annotated(
             alloc,
             renamed(alloc, under, depth, listed, n)?,
-            renamed(alloc, next(under)?, depth, listed, b)?,
+            renamed(alloc, sum(under, 1)?, depth, listed, b)?,
         ),
         Term::Prod(a, b) => make_product(
             alloc,
             renamed(alloc, under, depth, listed, a)?,
-            renamed(alloc, next(under)?, depth, listed, b)?,
+            renamed(alloc, sum(under, 1)?, depth, listed, b)?,
         ),
     }
 }
@@ -138,13 +127,12 @@ pub fn captured(alloc: Global, depth: u64, listed: &[u32], part: &Term) -> Resul
 
 /// The capture of a rule variable.
 pub fn capture_at(captures: &[Option<Term>], variable: u32) -> Option<&Term>
-    ensures { MatchOption result (capture_at (captures_of captures.now) variable ≡ None)
-        (λ t. capture_at (captures_of captures.now) variable ≡ Some (tree t.now)) }
+    ensures { MatchOption result (capture_at (map maybe_tree captures.now) variable ≡ None)
+        (λ t. capture_at (map maybe_tree captures.now) variable ≡ Some (tree t.now)) }
 {
     match captures.get(variable as usize) {
-        None => None,
-        Some(None) => None,
         Some(Some(t)) => Some(t),
+        _ => None,
     }
 }
 
@@ -155,13 +143,10 @@ pub fn filled(
     under: u64,
     term: &Term,
 ) -> Result<Term, NoMemory>
-    ensures { IfOk result (λ t. tree t ≡ filled (captures_of captures.now) under (tree term.now)) }
+    ensures { IfOk result (λ t. tree t ≡ filled (map maybe_tree captures.now) under (tree term.now)) }
 {
     match term {
-        Term::Star => Ok(Term::Star),
-        Term::Kind => Ok(Term::Kind),
-        Term::Sym(k) => Ok(Term::Sym(*k)),
-        Term::Var(k) => Ok(Term::Var(*k)),
+        Term::Star | Term::Kind | Term::Sym(_) | Term::Var(_) => term.copy(alloc),
         Term::Rvar(k) => match capture_at(captures, *k) {
             None => Ok(Term::Rvar(*k)),
             Some(t) => t.shift(alloc, 0, under),
@@ -171,16 +156,66 @@ pub fn filled(
             filled(alloc, captures, under, f)?,
             filled(alloc, captures, under, a)?,
         ),
-        Term::Abs(None, b) => make_bare(alloc, filled(alloc, captures, next(under)?, b)?),
+        Term::Abs(None, b) => make_bare(alloc, filled(alloc, captures, sum(under, 1)?, b)?),
         Term::Abs(Some(n), b) => make_annotated(
             alloc,
             filled(alloc, captures, under, n)?,
-            filled(alloc, captures, next(under)?, b)?,
+            filled(alloc, captures, sum(under, 1)?, b)?,
         ),
         Term::Prod(a, b) => make_product(
             alloc,
             filled(alloc, captures, under, a)?,
-            filled(alloc, captures, next(under)?, b)?,
+            filled(alloc, captures, sum(under, 1)?, b)?,
+        ),
+    }
+}
+
+/// The term that stands so many before the last one.
+fn from_last(terms: &[Term], back: u64) -> Option<&Term>
+    ensures { MatchOption result (from_last (map tree terms.now) back ≡ None)
+        (λ t. from_last (map tree terms.now) back ≡ Some (tree t.now)) }
+{
+    match terms {
+        [] => None,
+        [first, rest @ ..] => if back == rest.len() as u64 {
+            Some(first)
+        } else {
+            from_last(rest, back)
+        },
+    }
+}
+
+/// The term, under `depth` binders of its own, with these in the place of its innermost variables, the last one in that of
+/// variable 0.
+pub fn all_put(alloc: Global, depth: u64, terms: &[Term], term: &Term) -> Result<Term, NoMemory>
+    ensures { IfOk result (λ t. tree t ≡ substitute_all depth (map tree terms.now) (tree term.now)) }
+{
+    match term {
+        Term::Star | Term::Kind | Term::Sym(_) | Term::Rvar(_) => term.copy(alloc),
+        Term::Var(k) => {
+            if *k < depth {
+                return Ok(Term::Var(*k));
+            }
+            match from_last(terms, *k - depth) {
+                None => Ok(Term::Var(k.saturating_sub(terms.len() as u64))),
+                Some(t) => t.shift(alloc, 0, depth),
+            }
+        }
+        Term::App(f, a) => make_app(
+            alloc,
+            all_put(alloc, depth, terms, f)?,
+            all_put(alloc, depth, terms, a)?,
+        ),
+        Term::Abs(None, b) => make_bare(alloc, all_put(alloc, sum(depth, 1)?, terms, b)?),
+        Term::Abs(Some(n), b) => make_annotated(
+            alloc,
+            all_put(alloc, depth, terms, n)?,
+            all_put(alloc, sum(depth, 1)?, terms, b)?,
+        ),
+        Term::Prod(a, b) => make_product(
+            alloc,
+            all_put(alloc, depth, terms, a)?,
+            all_put(alloc, sum(depth, 1)?, terms, b)?,
         ),
     }
 }
@@ -190,16 +225,12 @@ fn mentions_rule_variable(number: u32, term: &Term) -> bool
     ensures { result ≡ mentions_rule_variable number (tree term.now) }
 {
     match term {
-        Term::Star => false,
-        Term::Kind => false,
-        Term::Sym(_) => false,
-        Term::Var(_) => false,
+        Term::Star | Term::Kind | Term::Sym(_) | Term::Var(_) => false,
         Term::Rvar(k) => *k == number,
-        Term::App(f, a) => mentions_rule_variable(number, f) || mentions_rule_variable(number, a),
         Term::Abs(None, b) => mentions_rule_variable(number, b),
-        Term::Abs(Some(n), b) => mentions_rule_variable(number, n)
-            || mentions_rule_variable(number, b),
-        Term::Prod(a, b) => mentions_rule_variable(number, a) || mentions_rule_variable(number, b),
+        Term::App(a, b) | Term::Abs(Some(a), b) | Term::Prod(a, b) => {
+            mentions_rule_variable(number, a) || mentions_rule_variable(number, b)
+        }
     }
 }
 
@@ -208,15 +239,13 @@ fn is_closed(under: u64, term: &Term) -> Result<bool, NoMemory>
     ensures { IfOk result (λ b. b ≡ is_closed_at under (tree term.now)) }
 {
     match term {
-        Term::Star => Ok(true),
-        Term::Kind => Ok(true),
-        Term::Sym(_) => Ok(true),
+        Term::Star | Term::Kind | Term::Sym(_) | Term::Rvar(_) => Ok(true),
         Term::Var(k) => Ok(*k < under),
-        Term::Rvar(_) => Ok(true),
         Term::App(f, a) => Ok(is_closed(under, f)? && is_closed(under, a)?),
-        Term::Abs(None, b) => is_closed(next(under)?, b),
-        Term::Abs(Some(n), b) => Ok(is_closed(under, n)? && is_closed(next(under)?, b)?),
-        Term::Prod(a, b) => Ok(is_closed(under, a)? && is_closed(next(under)?, b)?),
+        Term::Abs(None, b) => is_closed(sum(under, 1)?, b),
+        Term::Abs(Some(a), b) | Term::Prod(a, b) => {
+            Ok(is_closed(under, a)? && is_closed(sum(under, 1)?, b)?)
+        }
     }
 }
 

@@ -1,6 +1,0 @@
-use Rattle.std.proofs.Common.{◌≡◌, ◌++◌, map, take}
-use Rattle.tree_evaluation.specs.Matrix.{pattern_cell, plain_cells}
-use Rattle.tree_evaluation.proofs.matrix.push_patterns.Given as goal
-
-abbrev pub invariant-loop-pattern : goal.invariant-loop-pattern
-invariant-loop-pattern l = plain_cells l.cells.items ≡ plain_cells l.fn.cells.items ++ map pattern_cell (take l.pattern-index l.patterns)

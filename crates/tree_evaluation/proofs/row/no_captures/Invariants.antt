@@ -1,7 +1,0 @@
-use Rattle.std.proofs.Common.{◌≡◌, None}
-use Rattle.std.specs.Prelude.{replicate}
-use Rattle.tree_evaluation.specs.Matrix.{captures_of}
-use Rattle.tree_evaluation.proofs.row.no_captures.Given as goal
-
-abbrev pub invariant-loop-i : goal.invariant-loop-i
-invariant-loop-i l = captures_of l.captures.items ≡ replicate l._i None

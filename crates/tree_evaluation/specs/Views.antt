@@ -1,0 +1,94 @@
+-- For proofs: what the code holds, as the plain data of dk_model.
+use Rattle.std.specs.Prelude.{ℕ, ◌+◌, ◌++◌, Option, Some, None, Bool, List, ◌∷◌, map, take, drop, if◌then◌else◌}
+use Rattle.std.specs.Option.{option_map}
+use Rattle.std.specs.declared.vec.Vec.{Vec}
+use Rattle.std.specs.declared.alloc.Global.{Global}
+use Rattle.dk_model.specs.Trees.{Tree, tree}
+use Rattle.dk_model.specs.Signatures.{Pattern, pattern_by, maybe_tree, PlainRule}
+use Rattle.dk_model.specs.Matrix.{blank, cell, cell_at, refined_cells}
+use Rattle.dk_model.specs.Matrix.{Cell as PlainCell, Column as PlainColumn, Row as PlainRow}
+use Rattle.dk_model.specs.Captures.{Captures}
+use Rattle.dk_model.specs.Selection.{PartTrial as PlainPartTrial, CellTrial as PlainCellTrial, RowTrial as PlainRowTrial, Selected as PlainSelected}
+use Rattle.dk_model.specs.declared.term.Term.{Term}
+use Rattle.dk_model.specs.declared.signature.Pat.{Pat}
+use Rattle.shared_term.specs.Storage.{stored_term}
+use Rattle.shared_term.specs.declared.stored.Stored.{Stored}
+use Rattle.signature_log.specs.Versions.{row_rule}
+use Rattle.tree_evaluation.specs.declared.matrix.Cell.{Cell}
+use Rattle.tree_evaluation.specs.declared.matrix.Cell.TheVariants.{Blank, Pattern as Asks}
+use Rattle.tree_evaluation.specs.declared.matrix.Column.{Column}
+use Rattle.tree_evaluation.specs.declared.matrix.Row.{Row}
+use Rattle.tree_evaluation.specs.declared.rules.SymbolRule.{SymbolRule}
+use Rattle.tree_evaluation.specs.declared.select.Selected.{Selected}
+use Rattle.tree_evaluation.specs.declared.select.PartTrial.{PartTrial}
+use Rattle.tree_evaluation.specs.declared.select.CellTrial.{CellTrial}
+use Rattle.tree_evaluation.specs.declared.select.RowTrial.{RowTrial}
+use Rattle.tree_evaluation.specs.declared.trees.Trees.{Trees}
+
+-- every term is one of the reducer's
+abbrev pub owned : Trees → Term → Type 0
+owned r t = Unit {0}
+
+-- and stands for itself
+abbrev pub denoted : Trees → Term → Tree
+denoted r t = tree t
+
+-- the matrix
+
+abbrev pub stored_pattern : Pat Stored → Pattern
+stored_pattern = pattern_by stored_term
+
+abbrev pub rule : SymbolRule → PlainRule
+rule r = row_rule r.symbol r.row
+
+abbrev pub pattern_cell : Pat Stored → PlainCell
+pattern_cell p = cell (stored_pattern p)
+
+abbrev pub plain_cell : Cell → PlainCell
+plain_cell Blank = blank
+plain_cell (Asks p) = pattern_cell p.now
+
+abbrev pub plain_cells : List Cell → List PlainCell
+plain_cells cs = map plain_cell cs
+
+abbrev pub column : Column → PlainColumn
+column c = record { depth = c.depth; term = tree c.term }
+
+-- a column at this depth
+abbrev pub at_depth : ℕ → Tree → PlainColumn
+at_depth depth t = record { depth = depth; term = t }
+
+abbrev pub row : Row → PlainRow
+row r = record { cells = map plain_cell r.cells.items; rule = rule r.rule }
+
+-- the cells for a value that is taken, where it is
+abbrev pub cells_if : List PlainCell → Bool → Option (List PlainCell)
+cells_if cs taken = if taken then Some (blank ∷ cs) else None
+
+-- a row where column `i` has this value, of `count` parts; None where it is dropped
+abbrev pub refined_row : Tree → ℕ → ℕ → PlainRow → Option PlainRow
+refined_row value count i r =
+    option_map (λ cells. record { cells = take i r.cells ++ cells ++ drop (i + 1) r.cells; rule = r.rule }) (refined_cells value count (cell_at r.cells i))
+
+-- captures and trials
+
+abbrev pub captures_of : Vec (Option Term) Global → Captures
+captures_of cs = map maybe_tree cs.items
+
+abbrev pub capturing : Option (Vec (Option Term) Global) → Option Captures
+capturing o = option_map captures_of o
+
+abbrev pub part_trial : PartTrial → PlainPartTrial
+part_trial t = record { term = tree t.term; fits = t.fits }
+
+abbrev pub cell_trial : CellTrial → PlainCellTrial
+cell_trial t = record { captures = capturing t.captures; column = column t.column }
+
+abbrev pub row_trial : RowTrial → PlainRowTrial
+row_trial t = record { captures = capturing t.captures; columns = map column t.columns }
+
+abbrev pub plain_selected : Selected → PlainSelected
+plain_selected t = record { captures = captures_of t.captures; rule = rule t.rule }
+
+abbrev pub selected : Option Selected → Option PlainSelected
+selected o = option_map plain_selected o
