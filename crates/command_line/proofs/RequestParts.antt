@@ -5,35 +5,35 @@ use Rattle.clap.specs.Kinds.{IsAmong, Kinds}
 use Rattle.clap.specs.Words.{Row, Text, fault_of, is_simple, subcommand_of}
 use Rattle.clap.specs.declared.error.kind.ErrorKind.{ErrorKind}
 use Rattle.command_line.specs.Words.{program}
-use Rattle.command_line.specs.Requests.{CheckRequest, MakeRequest, budget_in, check_in, count_in, file_in, make_in, quiet_in, request_in, request_of, workers_in}
+use Rattle.command_line.specs.Requests.{CheckRequest, MakeRequest, PruneRequest, budget_in, check_in, count_in, file_in, make_in, name_in, prune_in, quiet_in, request_in, request_of, workers_in}
 
--- a request by its first part, the number of workers and the budget
-module _ {F Q : Type 0} (made : F → ℕ → ℕ → Q) where
-  abbrev with_workers : Option ℕ → F → ℕ → Option Q
+-- a request by its first part, a second, as the number of workers, and the budget
+module _ {F W Q : Type 0} (made : F → W → ℕ → Q) where
+  abbrev with_workers : Option ℕ → F → W → Option Q
   with_workers b f w = option_map (made f w) b
 
-  abbrev with_first : Option ℕ → Option ℕ → F → Option Q
+  abbrev with_first : Option W → Option ℕ → F → Option Q
   with_first w b f = option_and_then (with_workers b f) w
 
-  abbrev all_parts : Option F → Option ℕ → Option ℕ → Option Q
+  abbrev all_parts : Option F → Option W → Option ℕ → Option Q
   all_parts f w b = option_and_then (with_first w b) f
 
-  no_workers : (f : Option F) (w b : Option ℕ) → w ≡ None → all_parts f w b ≡ None
+  no_workers : (f : Option F) (w : Option W) (b : Option ℕ) → w ≡ None → all_parts f w b ≡ None
   no_workers f w b e = ap (λ w. all_parts f w b) e ∙ go f
     where
       go : (o : Option F) → all_parts o None b ≡ None
       go None = refl
       go (Some f) = refl
 
-  no_budget : (f : Option F) (w b : Option ℕ) → b ≡ None → all_parts f w b ≡ None
+  no_budget : (f : Option F) (w : Option W) (b : Option ℕ) → b ≡ None → all_parts f w b ≡ None
   no_budget f w b e = ap (λ b. all_parts f w b) e ∙ go f w
     where
-      go : (o : Option F) (p : Option ℕ) → all_parts o p None ≡ None
+      go : (o : Option F) (p : Option W) → all_parts o p None ≡ None
       go None p = refl
       go (Some f) None = refl
       go (Some f) (Some w) = refl
 
-  all_given : (fs : Option F) (ws bs : Option ℕ) (f : F) (w b : ℕ) → fs ≡ Some f → ws ≡ Some w → bs ≡ Some b → all_parts fs ws bs ≡ Some (made f w b)
+  all_given : (fs : Option F) (ws : Option W) (bs : Option ℕ) (f : F) (w : W) (b : ℕ) → fs ≡ Some f → ws ≡ Some w → bs ≡ Some b → all_parts fs ws bs ≡ Some (made f w b)
   all_given fs ws bs f w b first workers budget =
       ap (λ o. all_parts o ws bs) first
       ∙ ap (λ o. all_parts (Some f) o bs) workers
@@ -74,6 +74,24 @@ make_no_budget rows e = no_budget making (count_in rows) (workers_in rows) (budg
 pub make_all : (rows : List Row) (n w b : ℕ) → count_in rows ≡ Some n → workers_in rows ≡ Some w → budget_in rows ≡ Some b
     → make_in rows ≡ Some (record { count = n; workers = w; budget = b })
 make_all rows n w b count workers budget = all_given making (count_in rows) (workers_in rows) (budget_in rows) n w b count workers budget
+
+-- ---- what `prune` asks
+
+abbrev pruning : Text → Text → ℕ → PruneRequest
+pruning n f b = record { name = n; file = f; budget = b }
+
+pub prune_no_name : (rows : List Row) → name_in rows ≡ None → prune_in rows ≡ None
+prune_no_name rows e = ap (λ o. all_parts pruning o (file_in rows) (budget_in rows)) e
+
+pub prune_no_file : (rows : List Row) → file_in rows ≡ None → prune_in rows ≡ None
+prune_no_file rows e = no_workers pruning (name_in rows) (file_in rows) (budget_in rows) e
+
+pub prune_no_budget : (rows : List Row) → budget_in rows ≡ None → prune_in rows ≡ None
+prune_no_budget rows e = no_budget pruning (name_in rows) (file_in rows) (budget_in rows) e
+
+pub prune_all : (rows : List Row) (n f : Text) (b : ℕ) → name_in rows ≡ Some n → file_in rows ≡ Some f → budget_in rows ≡ Some b
+    → prune_in rows ≡ Some (record { name = n; file = f; budget = b })
+prune_all rows n f b name file budget = all_given pruning (name_in rows) (file_in rows) (budget_in rows) n f b name file budget
 
 -- ---- the words
 

@@ -8,5 +8,8 @@ check_usage = codes "usage: dk_check check [--workers N] [--budget B] [--quiet] 
 abbrev pub make_usage : List ℕ
 make_usage = codes "usage: dk_check make [--workers N] [--budget B] N" ++ 10 ∷ []
 
+abbrev pub prune_usage : List ℕ
+prune_usage = codes "usage: dk_check prune [--budget B] NAME FILE" ++ 10 ∷ []
+
 unfoldable pub usage_text : List ℕ
-usage_text = check_usage ++ make_usage
+usage_text = check_usage ++ (make_usage ++ prune_usage)

@@ -4,9 +4,10 @@ use Rattle.clap.specs.Words.{Text, fault_of}
 use Rattle.command_line.specs.Words.{program}
 use Rattle.command_line.specs.declared.request.CheckRequest as given_check
 use Rattle.command_line.specs.declared.request.MakeRequest as given_make
+use Rattle.command_line.specs.declared.request.PruneRequest as given_prune
 use Rattle.command_line.specs.declared.request.Request as given
 use Rattle.command_line.specs.declared.request.Request.TheVariants as given_request
-use Rattle.command_line.specs.Requests.{CheckRequest, MakeRequest, Request, to_check, to_make}
+use Rattle.command_line.specs.Requests.{CheckRequest, MakeRequest, PruneRequest, Request, to_check, to_make, to_prune}
 
 -- the request that the program holds
 abbrev pub plain_check : given_check.CheckRequest → CheckRequest
@@ -15,9 +16,13 @@ plain_check r = record { file = r.file.now; workers = r.workers; budget = r.budg
 abbrev pub plain_make : given_make.MakeRequest → MakeRequest
 plain_make r = record { count = r.count; workers = r.workers; budget = r.budget }
 
+abbrev pub plain_prune : given_prune.PruneRequest → PruneRequest
+plain_prune r = record { name = r.name.now; file = r.file.now; budget = r.budget }
+
 abbrev pub plain_request : given.Request → Request
 plain_request (given_request.Check r) = to_check (plain_check r)
 plain_request (given_request.Make r) = to_make (plain_make r)
+plain_request (given_request.Prune r) = to_prune (plain_prune r)
 
 -- the numbers of a request, each in its bounds
 abbrev pub IsWorkerCount : ℕ → Type 0
@@ -32,6 +37,7 @@ IsTheoremCount n = (1 ≤ n) × (n ≤ 100000)
 abbrev pub IsInBounds : Request → Type 0
 IsInBounds (to_check r) = IsWorkerCount r.workers × IsBudget r.budget
 IsInBounds (to_make r) = IsTheoremCount r.count × IsWorkerCount r.workers × IsBudget r.budget
+IsInBounds (to_prune r) = IsBudget r.budget
 
 -- clap finds no fault in the words, the first of which is the program's name
 abbrev pub IsTaken : List Text → Type 0

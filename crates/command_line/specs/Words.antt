@@ -59,6 +59,14 @@ count = record (new_rule (codes "count")) {
 abbrev pub make : App
 make = with_rule (with_rule (with_rule (new_app (codes "make")) workers) budget) count
 
+-- NAME
+abbrev pub name : Rule
+name = record (new_rule (codes "name")) { required = true }
+
+-- `prune [--budget B] NAME FILE`
+abbrev pub prune : App
+prune = with_rule (with_rule (with_rule (new_app (codes "prune")) budget) name) file
+
 -- the program, which needs a subcommand; `help` isn't one
 abbrev pub needing : App → App
 needing a = record a {
@@ -66,4 +74,4 @@ needing a = record a {
 }
 
 unfoldable pub program : App
-program = with_subcommand (with_subcommand (needing (new_app (codes "dk_check"))) check.top) make.top
+program = with_subcommand (with_subcommand (with_subcommand (needing (new_app (codes "dk_check"))) check.top) make.top) prune.top

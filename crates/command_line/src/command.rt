@@ -2,7 +2,7 @@
 ghost use Rattle.std.specs.Prelude.{◌≡◌, IfOk, map, false};
 ghost use Rattle.std.specs.String.{string_bytes};
 ghost use Rattle.clap.specs.Words.{FailsBy, HasMatchesOf, app_of, fault_of, rule_of, with_subcommand};
-ghost use Rattle.command_line.specs.Words.{budget, check, count, make, program, workers};
+ghost use Rattle.command_line.specs.Words.{budget, check, count, make, program, prune, workers};
 
 use clap::builder::ValueParser;
 use clap::{Arg, ArgAction, ArgMatches, Command, Error};
@@ -78,6 +78,20 @@ fn with_make<'a>(alloc: Global, top: Command<'a>) -> Result<Command<'a>, AllocEr
     top.subcommand(make)
 }
 
+// The command with `prune` as a subcommand.
+fn with_prune<'a>(alloc: Global, top: Command<'a>) -> Result<Command<'a>, AllocError>
+    ensures { IfOk result (λ c. app_of c ≡ with_subcommand (app_of top.entry) prune.top) }
+{
+    let budget = budget_argument(alloc);
+    let name = Arg::new(alloc, "name").required(true);
+    let file = Arg::new(alloc, "file").required(true);
+    let prune = Command::new(alloc, "prune")
+        .arg(budget)?
+        .arg(name)?
+        .arg(file)?;
+    top.subcommand(prune)
+}
+
 fn program<'a>(alloc: Global) -> Result<Command<'a>, AllocError>
     ensures { IfOk result (λ c. app_of c ≡ program) }
 {
@@ -85,7 +99,8 @@ fn program<'a>(alloc: Global) -> Result<Command<'a>, AllocError>
         .subcommand_required(true)
         .disable_help_subcommand(true);
     let checking = with_check(alloc, alone)?;
-    with_make(alloc, checking)
+    let making = with_make(alloc, checking)?;
+    with_prune(alloc, making)
 }
 
 // What clap finds in the words.

@@ -2,8 +2,8 @@
 ghost use Rattle.std.specs.Prelude.{◌≡◌, ◌↔◌, IfOk, IfSome, IsSome, map, option_and_then, option_map};
 ghost use Rattle.std.specs.String.{string_bytes};
 ghost use Rattle.clap.specs.Words.{found_of, rows_of, subcommand_rows_of};
-ghost use Rattle.command_line.specs.Requests.{budget_in, check_in, count_in, make_in, quiet_in, request_in, request_of, workers_in};
-ghost use Rattle.command_line.specs.Views.{IsBudget, IsInBounds, IsTaken, IsTheoremCount, IsWorkerCount, plain_check, plain_make, plain_request};
+ghost use Rattle.command_line.specs.Requests.{budget_in, check_in, count_in, make_in, prune_in, quiet_in, request_in, request_of, workers_in};
+ghost use Rattle.command_line.specs.Views.{IsBudget, IsInBounds, IsTaken, IsTheoremCount, IsWorkerCount, plain_check, plain_make, plain_prune, plain_request};
 
 use crate::command::{LARGEST_BUDGET, MOST_THEOREMS, MOST_WORKERS, found_in};
 use clap::ArgMatches;
@@ -16,6 +16,7 @@ use std::alloc::Global;
 pub enum Request<'a> {
     Check(CheckRequest<'a>),
     Make(MakeRequest),
+    Prune(PruneRequest<'a>),
 }
 
 /// Check a file.
@@ -38,6 +39,17 @@ pub struct MakeRequest {
     pub count: u32,
     /// How many workers check commands.
     pub workers: u32,
+    /// The units that the check of each command may take.
+    pub budget: u64,
+}
+
+/// Write the commands of a file on which a name rests.
+#[derive(Clone, Copy, Debug)]
+pub struct PruneRequest<'a> {
+    /// The name, as the file spells it.
+    pub name: &'a str,
+    /// The name of the file, as the words give it.
+    pub file: &'a str,
     /// The units that the check of each command may take.
     pub budget: u64,
 }
@@ -88,6 +100,11 @@ fn request_in<'a>(name: &str, found: &ArgMatches<'a>) -> Option<Request<'a>>
             Some(request) => Some(Request::Check(request)),
             None => None,
         }
+    } else if name == "prune" {
+        match prune_in(found) {
+            Some(request) => Some(Request::Prune(request)),
+            None => None,
+        }
     } else {
         None
     }
@@ -124,6 +141,16 @@ fn make_in(make: &ArgMatches<'_>) -> Option<MakeRequest>
         workers,
         budget,
     })
+}
+
+fn prune_in<'a>(prune: &ArgMatches<'a>) -> Option<PruneRequest<'a>>
+    ensures value { option_map plain_prune result ≡ prune_in (rows_of (found_of prune.now)) }
+    ensures budget { IfSome result (λ q. IsBudget q.budget) }
+{
+    let name = prune.get_str("name")?;
+    let file = prune.get_str("file")?;
+    let budget = budget_in(prune)?;
+    Some(PruneRequest { name, file, budget })
 }
 
 fn count_in(make: &ArgMatches<'_>) -> Option<u32>

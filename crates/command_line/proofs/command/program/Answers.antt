@@ -4,7 +4,7 @@ use Rattle.clap.specs.Words.{App, app_of, new_app, with_subcommand}
 use Rattle.clap.specs.Simple.{app_of_fields}
 use Rattle.clap.specs.declared.builder.command.Command.{Command}
 use Rattle.clap.specs.declared.builder.command.Command.TheOpen.{Command-F}
-use Rattle.command_line.specs.Words.{check, make, needing, program}
+use Rattle.command_line.specs.Words.{check, make, needing, program, prune}
 use Rattle.command_line.proofs.command.program.Goals as goal
 
 pub returns : goal.returns
@@ -12,4 +12,5 @@ unfolding program
 returns c =
     let alone_is : app_of c.disable_help_subcommand-alone.result ≡ needing (new_app (codes "dk_check")) = ap app_of_fields c.disable_help_subcommand-alone.ensures ∙ (ap (λ (f : Command-F Command). app_of_fields (record f { disable_help_subcommand = true })) c.subcommand_required.ensures ∙ ap needing c.new.ensures.app) in
     let checking_is : app_of c.in_ok-checking.checking ≡ with_subcommand (needing (new_app (codes "dk_check"))) check.top = c.in_ok-checking.ensures ∙ ap (λ (a : App). with_subcommand a check.top) alone_is in
-    IfOk-weaker c.with_make.result _ _ (λ r h. h ∙ ap (λ (a : App). with_subcommand a make.top) checking_is) c.with_make.ensures
+    let making_is : app_of c.in_ok-making.making ≡ with_subcommand (with_subcommand (needing (new_app (codes "dk_check"))) check.top) make.top = c.in_ok-making.ensures ∙ ap (λ (a : App). with_subcommand a make.top) checking_is in
+    IfOk-weaker c.with_prune.result _ _ (λ r h. h ∙ ap (λ (a : App). with_subcommand a prune.top) making_is) c.with_prune.ensures

@@ -1,0 +1,14 @@
+use Rattle.std.proofs.Common.{rules, ◌≡◌, ◌∙◌, ap, ap₂}
+use Rattle.std.proofs.lemmas.Result.{IfOk-weaker}
+use Rattle.clap.specs.Words.{App, app_of, rule_of, with_rule, with_subcommand}
+use Rattle.command_line.specs.Words.{file, name, prune}
+use Rattle.command_line.proofs.command.with_prune.Goals as goal
+
+pub returns : goal.returns
+returns c =
+    let name_is : rule_of c.required-name.result ≡ name = search rules in
+    let file_is : rule_of c.required-file.result ≡ file = search rules in
+    let prune_is : app_of c.in_ok-prune.prune ≡ prune = c.in_ok-prune.ensures.shape (search rules)
+    ∙ ap₂ with_rule (c.in_ok-arg-2.ensures.shape (search rules)
+    ∙ ap₂ with_rule (c.in_ok-arg.ensures.shape (search rules) ∙ ap₂ with_rule c.new-3.ensures.app c.budget_argument-budget.ensures.rule) name_is) file_is in
+    IfOk-weaker c.subcommand.result _ _ (λ r h. h.shape (search rules) ∙ ap (λ (a : App). with_subcommand (app_of c.args.top) a.top) prune_is) c.subcommand.ensures
