@@ -1,10 +1,10 @@
--- The clauses of `run` about `check` and `make`, each from the one clause.
+-- The clauses of `run` about each command, from the one clause.
 use Rattle.std.proofs.Common.{◌≡◌, ◌≢◌, ◌⊎◌, inl, inr, ℕ, List, refl, sym, ap, subst, ◌∙◌, arith}
 use Rattle.std.specs.Prelude.{Option, None, Some}
 use Rattle.dk_io.specs.Bytes.{Books, added}
 use Rattle.dk_io.specs.Causes.{Rose}
 use Rattle.dk_model.specs.declared.limits.Limits.{Limits}
-use Rattle.command_line.specs.Requests.{CheckRequest, MakeRequest, Request, to_check, to_make}
+use Rattle.command_line.specs.Requests.{CheckRequest, MakeRequest, PruneRequest, Request, to_check, to_make, to_prune}
 use Rattle.verdict_book.specs.Report.{FileReport, status_of}
 use Rattle.verdict_book.specs.declared.outcome.Outcome.{Outcome}
 use Rattle.verdict_book.specs.declared.outcome.Outcome.TheVariants.{Unopened, Unread}
@@ -17,19 +17,13 @@ use Rattle.dk_check_run.specs.Books.{IsOfBooks, asked_setting, report_for, repor
 use Rattle.dk_check_run.specs.Run.{AsksFor, HasShelfFault, IsBookDue, IsDecided, OpensNothing, ReportsFile, ReportsTheory, SinkState, memory_at_once, of_a_module, of_a_read, of_the_file, summary, text_of, text_with}
 use Rattle.dk_check_run.specs.Check as check
 use Rattle.dk_check_run.specs.Make as make
+use Rattle.dk_check_run.specs.Prune as prune
+use Rattle.dk_check_run.specs.Prune.{AsksToPrune, HasFileFault, PrunesFile, by_opening, by_read}
 use Rattle.dk_check_run.specs.Rows.{Cause, Shows, memory, of_no_command, of_no_words, of_command}
 use Rattle.dk_check_run.specs.Table.{Runs, RunsCommand, rows_of}
+use Rattle.prune_file.specs.Laws.{AcceptedIsReported, PrunedStandsAlone}
 use Rattle.dk_check_run.proofs.General.{is_status, none_some, some_same, stands}
-
--- the outcome of what was read isn't 3
-decided_not3 : {status : ℕ} {A : Type 0} → IsDecided status → status ≡ 3 → A
-decided_not3 (inl e) three = absurd (omega (arith, e, three))
-decided_not3 (inr (inl e)) three = absurd (omega (arith, e, three))
-decided_not3 (inr (inr e)) three = absurd (omega (arith, e, three))
-
-stopped_not3 : {status : ℕ} {A : Type 0} → (status ≡ 1) ⊎ (status ≡ 6) → status ≡ 3 → A
-stopped_not3 (inl e) three = absurd (omega (arith, e, three))
-stopped_not3 (inr e) three = absurd (omega (arith, e, three))
+use Rattle.dk_check_run.proofs.PruneStatuses.{decided_not3, prune_failed, prune_own, stopped_not3}
 
 -- ---- `check`
 
@@ -109,6 +103,7 @@ make_not3 limits q old new cause status text make.of_no_memory shows three = abs
 at_once : (limits : Limits) (c : Request) (s : ShelfState) → rows_of limits c s s memory 4 memory_at_once
 at_once limits (to_check q) s = check.of_no_memory
 at_once limits (to_make q) s = (refl, make.of_no_memory)
+at_once limits (to_prune q) s = prune.of_no_memory
 
 module _ (limits : Limits) (request : Option Request) (old new : ShelfState) (before after : SinkState) (result : ℕ) where
   abbrev pub Answered : Type 0
@@ -144,10 +139,17 @@ module _ (limits : Limits) (request : Option Request) (old new : ShelfState) (be
       let e = stands r.writes three (λ f. absurd (omega (arith, f))) in
       check_failed limits q old new before after r.cause r.status r.text r.row r.shows e (r.writes.whole (λ five. absurd (omega (arith, three, five))))
 
-  pub shelf_failed : Answered → result ≡ 3 → (q : CheckRequest) × (request ≡ Some (to_check q)) × HasShelfFault q old new before.taken after.taken
+  prune_fault : (q : PruneRequest) → RunsCommand limits (to_prune q) old new before after result → result ≡ 3 → HasFileFault q old new before.taken after.taken
+  prune_fault q r three =
+      let e = stands r.writes three (λ f. absurd (omega (arith, f))) in
+      prune_failed limits q old new before after r.cause r.status r.text r.row r.shows e (r.writes.whole (λ five. absurd (omega (arith, three, five))))
+
+  pub shelf_failed : Answered → result ≡ 3 → ((q : CheckRequest) × (request ≡ Some (to_check q)) × HasShelfFault q old new before.taken after.taken)
+      ⊎ ((q : PruneRequest) × (request ≡ Some (to_prune q)) × HasFileFault q old new before.taken after.taken)
   shelf_failed (of_no_command none same w) three = let e = stands w three (λ f. absurd (omega (arith, f))) in absurd (omega (arith, e))
   shelf_failed (of_no_words same w) three = let e = stands w three (λ f. absurd (omega (arith, f))) in absurd (omega (arith, e))
-  shelf_failed (of_command (to_check q) is r) three = (q, is, fault q r three)
+  shelf_failed (of_command (to_check q) is r) three = inl (q, is, fault q r three)
+  shelf_failed (of_command (to_prune q) is r) three = inr (q, is, prune_fault q r three)
   shelf_failed (of_command (to_make q) is r) three =
       absurd (make_not3 limits q old new r.cause r.status r.text r.row.1 r.shows (stands r.writes three (λ f. absurd (omega (arith, f)))))
 
@@ -182,3 +184,29 @@ module _ (limits : Limits) (request : Option Request) (old new : ShelfState) (be
   untouched (of_no_words same w) nothing = same
   untouched (of_command (to_check q) is r) nothing = let none : OpensNothing (Some (to_check q)) = subst OpensNothing is nothing in absurd none
   untouched (of_command (to_make q) is r) nothing = r.row.0
+  untouched (of_command (to_prune q) is r) nothing = let none : OpensNothing (Some (to_prune q)) = subst OpensNothing is nothing in absurd none
+
+  -- ---- `prune`
+
+  module _ (stands_alone : PrunedStandsAlone) (reported : AcceptedIsReported) where
+    pruned_at : Answered → (q : PruneRequest) (books : Books) → AsksToPrune request old.books q books → result ≢ 3 → result ≢ 4 → result ≢ 5 → PrunesFile limits q books before.taken after.taken result
+    pruned_at a q books asks not3 not4 not5 =
+        let r = asked a (to_prune q) asks.asked in
+        let s = is_status r.writes not5 in
+        subst (PrunesFile limits q books before.taken after.taken) (sym s)
+        (prune_own limits q old new before after stands_alone reported books asks.told_are r.cause r.status r.text r.row r.shows (λ e. not3 (s ∙ e)) (λ e. not4 (s ∙ e)) (r.writes.whole not5))
+
+    pub prune_decided : Answered → (q : PruneRequest) (books : Books) → AsksToPrune request old.books q books → IsDecided result → PrunesFile limits q books before.taken after.taken result
+    prune_decided a q books asks (inl e) = pruned_at a q books asks (λ f. absurd (omega (arith, e, f))) (λ f. absurd (omega (arith, e, f))) (λ f. absurd (omega (arith, e, f)))
+    prune_decided a q books asks (inr (inl e)) = pruned_at a q books asks (λ f. absurd (omega (arith, e, f))) (λ f. absurd (omega (arith, e, f))) (λ f. absurd (omega (arith, e, f)))
+    prune_decided a q books asks (inr (inr e)) = pruned_at a q books asks (λ f. absurd (omega (arith, e, f))) (λ f. absurd (omega (arith, e, f))) (λ f. absurd (omega (arith, e, f)))
+
+    pub prunes : Answered → (q : PruneRequest) (books : Books) → AsksToPrune request old.books q books → ¬ (Rose (old.missed q.file) (new.missed q.file)) → ¬ (Rose old.faults new.faults)
+        → ¬ (Rose before.faults after.faults) → result ≢ 4 → PrunesFile limits q books before.taken after.taken result
+    prunes a q books asks not_missed not_failed not_cut not4 =
+        pruned_at a q books asks (λ three. by (prune_fault q (asked a (to_prune q) asks.asked) three)) not4
+        (λ five. let r = asked a (to_prune q) asks.asked in not_cut (r.writes.failed five))
+      where
+        by : HasFileFault q old new before.taken after.taken → ⊥
+        by (by_opening leaves rose text) = not_missed rose
+        by (by_read number place rose text) = not_failed rose

@@ -4,8 +4,11 @@ pub mod Commands
 pub mod Derived
 pub mod Folders
 pub mod General
+pub mod Giving
 pub mod MakeRows
 pub mod Promises
+pub mod PruneRows
+pub mod PruneStatuses
 pub mod Settings
 pub mod Statuses
 pub mod Summaries

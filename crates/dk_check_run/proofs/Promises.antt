@@ -2,8 +2,9 @@
 use Rattle.std.proofs.Common.{◌≡◌, ℕ, inl, sym, subst, ◌∙◌}
 use Rattle.std.specs.Prelude.{Option}
 use Rattle.dk_model.specs.declared.limits.Limits.{Limits}
-use Rattle.command_line.specs.Requests.{Request, to_make}
+use Rattle.command_line.specs.Requests.{Request, to_make, to_prune}
 use Rattle.book_reader.specs.Shelves.{ShelfState}
+use Rattle.prune_file.specs.Laws.{AcceptedIsReported, PrunedStandsAlone}
 use Rattle.dk_check_run.specs.Books.{asked_setting, made_setting}
 use Rattle.dk_check_run.specs.Run.{SinkState}
 use Rattle.dk_check_run.specs.Clauses.{Promises}
@@ -12,9 +13,9 @@ use Rattle.dk_check_run.proofs.Derived.{books_derived}
 use Rattle.dk_check_run.proofs.General as general
 use Rattle.dk_check_run.proofs.Commands as law
 
-pub promises : (limits : Limits) (request : Option Request) (old new : ShelfState) (before after : SinkState) (result : ℕ) → Runs limits request old new before after result
+pub promises : PrunedStandsAlone → AcceptedIsReported → (limits : Limits) (request : Option Request) (old new : ShelfState) (before after : SinkState) (result : ℕ) → Runs limits request old new before after result
     → Promises limits request old new before after result
-promises limits request old new before after result a = record {
+promises stands_alone reported limits request old new before after result a = record {
   checks = law.headline limits request old new before after result a;
   derived = λ q books asks zero.
       let report = law.decided limits request old new before after result a q books asks (inl zero) in
@@ -26,6 +27,9 @@ promises limits request old new before after result a = record {
   make_derived = λ q asked zero.
       let report = law.made limits request old new before after result a q asked zero in
       books_derived (made_setting limits q) q.budget (sym report.status ∙ zero);
+  prunes = law.prunes limits request old new before after result stands_alone reported a;
+  prune_decided = law.prune_decided limits request old new before after result stands_alone reported a;
+  prune_due = λ q asks. law.asked limits request old new before after result a (to_prune q) asks;
   usage = general.usage (rows_of limits) request old new before after result a;
   usage_only = general.usage_only (rows_of limits) request old new before after result a;
   untouched = law.untouched limits request old new before after result a;

@@ -2,7 +2,9 @@ pub mod Books
 pub mod Check
 pub mod Clauses
 pub mod Derivations
+pub mod Held
 pub mod Make
+pub mod Prune
 pub mod Roots
 pub mod Rows
 pub mod Run

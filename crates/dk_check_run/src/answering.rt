@@ -17,6 +17,7 @@ ghost use Rattle.dk_check_run.specs.Run.{Writes, made_line, memory_at_once, sink
 ghost use Rattle.dk_check_run.specs.Summaries.{is_at_once, text_by};
 ghost use Rattle.dk_check_run.specs.Table.{Runs, RunsCommand};
 
+use crate::pruning::prune_book;
 use board_core::Gate;
 use book_reader::{Root, own_module};
 use command_line::{CheckRequest, MakeRequest, Request, read_request, usage_text};
@@ -40,7 +41,7 @@ fn put_usage<K: Sink>(sink: &mut K) -> u8
 }
 
 // Writes these pieces, and the last line of a report behind them.
-fn put_last<'x, K: Sink>(
+pub fn put_last<'x, K: Sink>(
     sink: &mut K,
     head: &[Piece<'_>],
     outcome: &'x Outcome<'x>,
@@ -57,14 +58,14 @@ fn put_last<'x, K: Sink>(
 }
 
 // That memory ended before the first command was begun.
-fn put_memory<K: Sink>(sink: &mut K) -> u8
+pub fn put_memory<K: Sink>(sink: &mut K) -> u8
     ensures { Writes (sink_of K.Sink sink.old) (sink_of K.Sink sink.new) memory_at_once 4 result }
 {
     let outcome = Outcome::Stopped(0, PlaceRef::nowhere(), Verdict::Memory);
     put_last(sink, &[], &outcome, 0)
 }
 
-fn put_unopened<K: Sink>(sink: &mut K, file: &str) -> u8
+pub fn put_unopened<K: Sink>(sink: &mut K, file: &str) -> u8
     ensures { Writes (sink_of K.Sink sink.old) (sink_of K.Sink sink.new)
         (unopened file.now) 3 result }
 {
@@ -116,7 +117,12 @@ fn standard_modules() -> ModuleLimits
 }
 
 // What is read where the file has this name.
-fn root_of(alloc: Global, limits: Limits, most: ModuleLimits, file: &str) -> Result<Root, NoMemory>
+pub fn root_of(
+    alloc: Global,
+    limits: Limits,
+    most: ModuleLimits,
+    file: &str,
+) -> Result<Root, NoMemory>
     ensures { IfOk result (IsRootOf limits most file.now) }
 {
     let own = own_module(alloc, file.as_bytes())?;
@@ -262,5 +268,6 @@ pub fn run_with<R: Threads + Wait + Sync, H: Shelf, K: Sink, G: Gate + Sync>(
     match request {
         Request::Check(request) => check_file(rt, alloc, limits, shelf, sink, gate, &request),
         Request::Make(request) => check_theory(rt, alloc, limits, sink, gate, &request),
+        Request::Prune(request) => prune_book(rt, alloc, limits, shelf, sink, gate, &request),
     }
 }

@@ -3,6 +3,8 @@
 
 mod answering;
 mod gate;
+mod held;
+mod pruning;
 mod top;
 
 pub use answering::run_with;
@@ -22,6 +24,8 @@ mod front_tests;
 mod module_rows;
 #[cfg(test)]
 mod module_tests;
+#[cfg(test)]
+mod prune_tests;
 #[cfg(test)]
 mod query_rows;
 #[cfg(test)]

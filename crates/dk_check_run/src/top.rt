@@ -12,12 +12,13 @@ use crate::answering::run_with;
 use board_core::Gate;
 use dk_io::{Shelf, Sink};
 use dk_model::Limits;
+use prune_file::{accepted_is_reported, pruned_stands_alone};
 use std::alloc::Global;
 use std::sync::Wait;
 use std::thread::Threads;
 
-/// Checks the file that the words name, or the theory that they have made, and writes its report to the sink; answers the
-/// status (docs/report.md).
+/// Checks the file that the words name, or the theory that they have made, and writes its report to the sink, or what the
+/// file is pruned to; answers the status (docs/report.md).
 ///
 /// `words[0]` is the program's name and isn't looked at. The shelf has no book put aside (`dk_io::Shelf`), and where a read or
 /// an opening fails the books that are open stay on it. The clauses hold for every number of workers and whatever the order
@@ -44,5 +45,7 @@ pub fn run<R: Threads + Wait + Sync, H: Shelf, K: Sink, G: Gate + Sync>(
         (shelf_of H.Shelf shelf.old) (shelf_of H.Shelf shelf.new)
         (sink_of K.Sink sink.old) (sink_of K.Sink sink.new) result }
 {
+    pruned_stands_alone();
+    accepted_is_reported();
     run_with(rt, alloc, Limits::standard(), words, shelf, sink, gate)
 }

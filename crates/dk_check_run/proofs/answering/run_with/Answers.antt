@@ -1,6 +1,6 @@
 use Rattle.std.proofs.Common.{sym}
-use Rattle.command_line.specs.Requests.{to_check, to_make}
-use Rattle.command_line.specs.Views.{plain_check, plain_make}
+use Rattle.command_line.specs.Requests.{to_check, to_make, to_prune}
+use Rattle.command_line.specs.Views.{plain_check, plain_make, plain_prune}
 use Rattle.dk_check_run.specs.Rows.{of_command}
 use Rattle.book_reader.specs.Shelves.{shelf_of}
 use Rattle.dk_check_run.proofs.answering.run_with.Goals as goal
@@ -11,3 +11,6 @@ returns-in-Check g c = of_command (to_check (plain_check c.in-Check.request)) (s
 pub returns-in-Make : goal.returns-in-Make
 returns-in-Make g c =
     of_command (to_make (plain_make c.in-Make.request)) (sym (rw (c.in-Ok-Some.field-0-is, c.in-Make.is) at c.in-Ok-Some.ensures.ok)) (c.check_theory.ensures (shelf_of g.H.Shelf c.args.shelf.now))
+
+pub returns-in-Prune : goal.returns-in-Prune
+returns-in-Prune g c = of_command (to_prune (plain_prune c.in-Prune.request)) (sym (rw (c.in-Ok-Some.field-0-is, c.in-Prune.is) at c.in-Ok-Some.ensures.ok)) c.prune_book.ensures
