@@ -39,13 +39,19 @@ or_right : (a b : Bool) → b ≡ true → (a || b) ≡ true
 or_right true b e = refl
 or_right false b e = e
 
+-- and it finds what stands there
+pub contains_in : (k : ℕ) (xs : List ℕ) → Contains xs k → is_in k xs ≡ true
+contains_in k [] (p, l, e) = absurd (omega (arith, l))
+contains_in k (x ∷ xs) (zero, l, e) = or_left (eqb k x) (is_in k xs) (eq-eqb k x (sym e))
+contains_in k (x ∷ xs) (suc p, l, e) = or_right (eqb k x) (is_in k xs) (contains_in k xs (p, omega (arith, l), e))
+
 head_from : (n x : ℕ) (xs : List ℕ) → AreFrom n (x ∷ xs) → n ≤ x
 head_from n x xs h = h x (or_left (eqb x x) (is_in x xs) (eq-eqb x x refl))
 
 tail_from : (n x : ℕ) (xs : List ℕ) → AreFrom n (x ∷ xs) → AreFrom n xs
 tail_from n x xs h k e = h k (or_right (eqb k x) (is_in k xs) e)
 
-above_head : (x : ℕ) (xs : List ℕ) → IsAscending (x ∷ xs) → AreFrom (suc x) xs
+pub above_head : (x : ℕ) (xs : List ℕ) → IsAscending (x ∷ xs) → AreFrom (suc x) xs
 above_head x xs a k e = let l : x < k = a.0 k (in_contains k xs e) in omega arith
 
 -- ---- the index of a place among ascending ones
@@ -58,11 +64,11 @@ index (x ∷ xs) k = if eqb k x then 0 else suc (index xs k)
 abbrev pub Agrees : (ℕ → Bool) → ℕ → List ℕ → Type 0
 Agrees keep n xs = (k : ℕ) → n ≤ k → keep k ≡ is_in k xs
 
-not_head : (k x : ℕ) (xs : List ℕ) → ¬ (k ≡ x) → is_in k (x ∷ xs) ≡ is_in k xs
+pub not_head : (k x : ℕ) (xs : List ℕ) → ¬ (k ≡ x) → is_in k (x ∷ xs) ≡ is_in k xs
 not_head k x xs h = ap (λ b. b || is_in k xs) (ne_eqb k x h)
 
 -- the number itself stands first, if at all
-is_head : (n : ℕ) (xs : List ℕ) → IsAscending xs → AreFrom n xs → is_in n xs ≡ true → (ys : List ℕ) × (xs ≡ n ∷ ys)
+pub is_head : (n : ℕ) (xs : List ℕ) → IsAscending xs → AreFrom n xs → is_in n xs ≡ true → (ys : List ℕ) × (xs ≡ n ∷ ys)
 is_head n [] a f e = absurd cc
 is_head n (x ∷ xs) a f e = by (or_by (eqb n x) (is_in n xs) e)
   where
@@ -70,7 +76,7 @@ is_head n (x ∷ xs) a f e = by (or_by (eqb n x) (is_in n xs) e)
     by (inl p) = (xs, ap (λ z. z ∷ xs) (sym (eqb-true n x p)))
     by (inr p) = absurd (let l : suc x ≤ n = above_head x xs a n p in let m : n ≤ x = head_from n x xs f in omega arith)
 
-from_next : (n : ℕ) (xs : List ℕ) → AreFrom n xs → is_in n xs ≡ false → AreFrom (suc n) xs
+pub from_next : (n : ℕ) (xs : List ℕ) → AreFrom n xs → is_in n xs ≡ false → AreFrom (suc n) xs
 from_next n xs f e k h = by (eqb k n) refl
   where
     by : (b : Bool) → eqb k n ≡ b → suc n ≤ k

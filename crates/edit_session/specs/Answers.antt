@@ -10,11 +10,12 @@ use Rattle.dk_model.specs.Verdicts.{verdict_of, inferred_type, found_of}
 use Rattle.dk_model.specs.declared.limits.Limits.{Limits}
 use Rattle.dk_model.specs.declared.code.Verdict.{Verdict}
 use Rattle.dk_parser.specs.Written.{WrittenForm}
-use Rattle.prune_theory.specs.Folds.{Declared, Stated}
+use Rattle.prune_theory.specs.Folds.{Declared}
 use Rattle.prune_theory.specs.Laws.{IsBehind}
 use Rattle.prune_theory.specs.Mentions.{IsAscending}
 use Rattle.prune_theory.specs.Renamed.{found_with_symbols, with_symbols}
 use Rattle.prune_theory.specs.Renumbering.{picked}
+pub use Rattle.edit_session.specs.Texts.{at_top}
 use Rattle.edit_session.specs.Texts.{form_of}
 
 -- the verdict on a command; the type of a definition without one; what a query found that only asks
@@ -52,10 +53,6 @@ pub record PlainKept : Type 0 where
   pub texts : List (List ℕ)
   pub places : List ℕ
   pub answer : Answer
-
--- a command of a session, in the module without a name
-abbrev pub at_top : WrittenForm → Stated
-at_top form = record { place = None; form = form }
 
 -- behind these texts, whose commands are all accepted and make this theory, this text is this command, and rests on these places
 pub record IsCommandBehind (limits : Limits) (budget : ℕ) (before : List (List ℕ)) (text : List ℕ) (places : List ℕ) (T : Declared) (c : PlainCommand) : Type 0 where

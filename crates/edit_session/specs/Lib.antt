@@ -2,5 +2,15 @@ pub mod Texts
 pub mod Answers
 pub mod Sessions
 pub mod Laws
+pub mod Reading
 pub mod Held
+pub mod Forms
 pub mod Renumbering
+pub mod Resting
+pub mod Grounds
+pub mod Answering
+pub mod Shaping
+pub mod Shown
+pub mod Folding
+pub mod Turning
+pub mod Reporting

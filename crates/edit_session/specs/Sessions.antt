@@ -9,10 +9,8 @@ use Rattle.dk_model.specs.declared.limits.Limits.{Limits}
 use Rattle.dk_parser.specs.Written.{WrittenForm}
 use Rattle.scope_terms.specs.Scopes.{same_spelling, scope_of, scoped}
 use Rattle.prune_theory.specs.Folds.{AreAccepted, Declared, nothing_declared}
-use Rattle.prune_theory.specs.Laws.{TestsRests}
-use Rattle.prune_theory.specs.Renumbering.{picked}
-use Rattle.edit_session.specs.Answers.{at_top}
-use Rattle.edit_session.specs.Texts.{forms_of}
+use Rattle.prune_theory.specs.Resting.{Rests, picked}
+use Rattle.edit_session.specs.Texts.{at_top, forms_of}
 
 -- a text, and the list of texts for which an answer on its command is kept, if one is
 pub record PlainSlot : Type 0 where
@@ -57,7 +55,8 @@ pub record Reaches (limits : Limits) (budget : ℕ) (texts : List (List ℕ)) (k
   pub scopes : scope_of theory.names None form ≡ scoped command
   pub shaped : is_shaped theory.signature command ≡ true
   pub keep : ℕ → Bool
-  pub rests : TestsRests (commands ++ command ∷ []) k keep
+  pub keeps : (i : ℕ) → keep i ≡ true → Rests (commands ++ command ∷ []) k i
+  pub keeps_all : (i : ℕ) → Rests (commands ++ command ∷ []) k i → keep i ≡ true
   pub list_is : list ≡ picked keep 0 (take (k + 1) texts)
 
 -- for each text its list, where the report gets to it

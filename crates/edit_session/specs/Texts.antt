@@ -10,6 +10,7 @@ use Rattle.dk_parser.specs.FileReading.{Tail, read}
 use Rattle.dk_parser.specs.FileReading as tail
 use Rattle.dk_parser.specs.Modules.{is_directive}
 use Rattle.dk_parser.specs.Written.{WrittenCommand, WrittenForm}
+use Rattle.prune_theory.specs.Folds.{Stated}
 use Rattle.theory_walk.specs.BookReadings.{book_reading}
 use Rattle.theory_walk.specs.Libraries.{Library, opened, unopened}
 use Rattle.theory_walk.specs.declared.needs.ModuleLimits.{ModuleLimits}
@@ -52,6 +53,10 @@ maybe_form (Some form) = form ∷ []
 abbrev pub forms_of : Limits → List (List ℕ) → List WrittenForm
 forms_of limits texts = flat_map (λ text. maybe_form (form_of limits text)) texts
 
+-- a command of a session, in the module without a name
+abbrev pub at_top : WrittenForm → Stated
+at_top form = record { place = None; form = form }
+
 -- a file of its own, with these bytes
 abbrev pub library_of : Limits → List ℕ → Library
 library_of limits bytes None = opened (book_reading limits bytes whole)
@@ -64,6 +69,9 @@ alone = record { files = 1; modules = 0 }
 abbrev pub report_of_bytes : Limits → ℕ → List ℕ → FileReport
 report_of_bytes limits budget bytes = fold_of (checking limits budget None) alone None (library_of limits bytes) no_theory
 
--- the report of the texts, each with a newline behind it
+-- the texts, each with a newline behind it
+abbrev pub bytes_of : List (List ℕ) → List ℕ
+bytes_of texts = flat_map (λ text. text ++ 10 ∷ []) texts
+
 abbrev pub report_of_texts : Limits → ℕ → List (List ℕ) → FileReport
-report_of_texts limits budget texts = report_of_bytes limits budget (flat_map (λ text. text ++ 10 ∷ []) texts)
+report_of_texts limits budget texts = report_of_bytes limits budget (bytes_of texts)

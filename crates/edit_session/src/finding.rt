@@ -74,7 +74,7 @@ fn verdict_alone(verdict: Verdict) -> Result<Findings, NoMemory>
 }
 
 /// Checks a command over the version of those before it.
-#[tactic(auto, using(crate::proofs::Answering::query_found_is, crate::proofs::Answering::type_found_is, crate::proofs::Answering::refused_alone, crate::proofs::Answering::checked_alone))]
+#[tactic(auto, using(crate::proofs::Answered::query_found_is, crate::proofs::Answered::type_found_is, crate::proofs::Answered::refused_alone, crate::proofs::Answered::checked_alone))]
 pub fn find<J: Judge>(
     judge: &mut J,
     version: &Version,

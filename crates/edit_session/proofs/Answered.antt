@@ -3,7 +3,6 @@ use Rattle.std.proofs.Common.{◌≡◌, ℕ, Bool, true, false, Option, Some, N
 use Rattle.dk_model.specs.Answering.{IsVerdictOrMemory, is_answered, is_untyped}
 use Rattle.dk_model.specs.PlainCommands.{PlainCommand, PlainFound, declare, query, rule_command}
 use Rattle.dk_model.specs.PlainEntries.{PlainSignature}
-use Rattle.dk_model.specs.PlainTerms.{Tree}
 use Rattle.dk_model.specs.Typing.{Judged, answer, refused, ended, next}
 use Rattle.dk_model.specs.Verdicts.{answer_of, body_type, found_of, inferred_type, query_found, verdict, verdict_of}
 use Rattle.dk_model.specs.declared.code.Verdict.{Verdict}
@@ -23,7 +22,7 @@ answered_none S (declare s A b) budget is = cc
 answered_none S (rule_command rs) budget is = refl
 answered_none S (query demand a) budget is = refl
 
-typed_none : (S : PlainSignature) (c : PlainCommand) (budget : ℕ) → is_untyped c ≡ false → None ≡ inferred_type S c budget
+pub typed_none : (S : PlainSignature) (c : PlainCommand) (budget : ℕ) → is_untyped c ≡ false → None ≡ inferred_type S c budget
 typed_none S (declare s None (Some b)) budget is = cc
 typed_none S (declare s None None) budget is = refl
 typed_none S (declare s (Some A) b) budget is = refl
