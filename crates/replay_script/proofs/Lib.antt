@@ -1,0 +1,9 @@
+pub mod Edits
+pub mod Ends
+pub mod Fronts
+pub mod Lengths
+pub mod Pieces
+pub mod Reading
+pub mod Sending
+pub mod Taking
+pub mod Written

@@ -1,0 +1,4 @@
+pub mod Cutting
+pub mod Numbers
+mod Rows
+pub mod Words
