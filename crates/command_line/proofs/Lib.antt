@@ -4,5 +4,6 @@ pub mod GoodRows
 pub mod MakeRows
 pub mod PruneRows
 pub mod ReadValues
+pub mod ReplayRows
 pub mod RequestParts
 pub mod TakenWords

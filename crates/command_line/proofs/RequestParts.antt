@@ -5,7 +5,7 @@ use Rattle.clap.specs.Kinds.{IsAmong, Kinds}
 use Rattle.clap.specs.Words.{Row, Text, fault_of, is_simple, subcommand_of}
 use Rattle.clap.specs.declared.error.kind.ErrorKind.{ErrorKind}
 use Rattle.command_line.specs.Words.{program}
-use Rattle.command_line.specs.Requests.{CheckRequest, MakeRequest, PruneRequest, budget_in, check_in, count_in, file_in, make_in, name_in, prune_in, quiet_in, request_in, request_of, workers_in}
+use Rattle.command_line.specs.Requests.{CheckRequest, MakeRequest, PruneRequest, ReplayRequest, budget_in, check_in, count_in, file_in, make_in, name_in, prune_in, quiet_in, replay_in, request_in, request_of, script_in, workers_in}
 
 -- a request by its first part, a second, as the number of workers, and the budget
 module _ {F W Q : Type 0} (made : F → W → ℕ → Q) where
@@ -92,6 +92,27 @@ prune_no_budget rows e = no_budget pruning (name_in rows) (file_in rows) (budget
 pub prune_all : (rows : List Row) (n f : Text) (b : ℕ) → name_in rows ≡ Some n → file_in rows ≡ Some f → budget_in rows ≡ Some b
     → prune_in rows ≡ Some (record { name = n; file = f; budget = b })
 prune_all rows n f b name file budget = all_given pruning (name_in rows) (file_in rows) (budget_in rows) n f b name file budget
+
+-- ---- what `replay` asks
+
+abbrev replaying : Text → ℕ → ReplayRequest
+replaying s b = record { script = s; budget = b }
+
+abbrev both_parts : Option Text → Option ℕ → Option ReplayRequest
+both_parts s b = option_and_then (λ (s : Text). option_map (λ (b : ℕ). replaying s b) b) s
+
+pub replay_no_script : (rows : List Row) → script_in rows ≡ None → replay_in rows ≡ None
+replay_no_script rows e = ap (λ o. both_parts o (budget_in rows)) e
+
+pub replay_no_budget : (rows : List Row) → budget_in rows ≡ None → replay_in rows ≡ None
+replay_no_budget rows e = ap (λ b. both_parts (script_in rows) b) e ∙ go (script_in rows)
+  where
+    go : (o : Option Text) → both_parts o None ≡ None
+    go None = refl
+    go (Some s) = refl
+
+pub replay_all : (rows : List Row) (s : Text) (b : ℕ) → script_in rows ≡ Some s → budget_in rows ≡ Some b → replay_in rows ≡ Some (record { script = s; budget = b })
+replay_all rows s b script budget = ap (λ o. both_parts o (budget_in rows)) script ∙ ap (λ o. both_parts (Some s) o) budget
 
 -- ---- the words
 

@@ -8,10 +8,11 @@ use Rattle.clap.specs.Simple.{App, Shape, built, entered, filled, help_rule, nam
 use Rattle.clap.specs.Walk.{Text, nothing_held, settled, walk, walk_from}
 use Rattle.clap.specs.declared.error.kind.ErrorKind.TheVariants.{MissingSubcommand}
 use Rattle.command_line.specs.Words.{program}
-use Rattle.command_line.specs.Requests.{CheckRequest, MakeRequest, PruneRequest, check_in, make_in, prune_in, request_in, to_check, to_make, to_prune}
+use Rattle.command_line.specs.Requests.{CheckRequest, MakeRequest, PruneRequest, ReplayRequest, check_in, make_in, prune_in, replay_in, request_in, to_check, to_make, to_prune, to_replay}
 use Rattle.command_line.proofs.CheckRows.{built_check, check_asks}
 use Rattle.command_line.proofs.MakeRows.{built_make, make_asks}
 use Rattle.command_line.proofs.PruneRows.{built_prune, prune_asks}
+use Rattle.command_line.proofs.ReplayRows.{built_replay, replay_asks}
 use Rattle.command_line.proofs.FaultlessWalk.{no_first, no_second, some_kind}
 
 -- the program as clap builds it
@@ -25,7 +26,7 @@ built_top = record (new_shape (codes "dk_check")) {
 }
 
 abbrev built_program : App
-built_program = record { top = built_top; subs = built_check ∷ built_make ∷ built_prune ∷ [] }
+built_program = record { top = built_top; subs = built_check ∷ built_make ∷ built_prune ∷ built_replay ∷ [] }
 
 program_is : built program ≡ built_program
 unfolding program
@@ -61,26 +62,34 @@ asks_prune : (o : Option PruneRequest) → is_some o ≡ true → is_some (optio
 asks_prune None e = e
 asks_prune (Some q) e = refl
 
+asks_replay : (o : Option ReplayRequest) → is_some o ≡ true → is_some (option_map to_replay o) ≡ true
+asks_replay None e = e
+asks_replay (Some q) e = refl
+
 -- the subcommand that was met, where it is one of these
-abbrev met : Bool → Bool → Bool → Option Shape
-met b m q = cond b (Some built_check) (cond m (Some built_make) (cond q (Some built_prune) None))
+abbrev met : Bool → Bool → Bool → Bool → Option Shape
+met b m q r = cond b (Some built_check) (cond m (Some built_make) (cond q (Some built_prune) (cond r (Some built_replay) None)))
 
 -- what the subcommand at which the walk stopped asks
 entered_asks : (words : List Text) (stop : Option (Text × List Text)) → level words (is_some (entered built_program stop)) (entered_fault built_program stop) ≡ []
     → is_some (option_and_then request_in (entered built_program stop)) ≡ true
 entered_asks words None e = absurd (needs_one words [] e)
-entered_asks words (Some p) e = go (bytes_eq (codes "check") p.0 || false) (bytes_eq (codes "make") p.0 || false) (bytes_eq (codes "prune") p.0 || false) e
+entered_asks words (Some p) e =
+    go (bytes_eq (codes "check") p.0 || false) (bytes_eq (codes "make") p.0 || false) (bytes_eq (codes "prune") p.0 || false) (bytes_eq (codes "replay") p.0 || false) e
   where
-    go : (b m q : Bool) → level words (is_some (option_map (λ s. rows_at s p.1) (met b m q))) (option_map_or (λ s. level_fault s [] nothing_held p.1 false []) (met b m q) []) ≡ []
-        → is_some (option_and_then request_in (option_map (λ s. rows_at s p.1) (met b m q))) ≡ true
-    go false false false e = absurd (needs_one words [] e)
-    go false false true e =
+    go : (b m q r : Bool) → level words (is_some (option_map (λ s. rows_at s p.1) (met b m q r))) (option_map_or (λ s. level_fault s [] nothing_held p.1 false []) (met b m q r) []) ≡ []
+        → is_some (option_and_then request_in (option_map (λ s. rows_at s p.1) (met b m q r))) ≡ true
+    go false false false false e = absurd (needs_one words [] e)
+    go false false false true e =
+        let after = no_second (walk_fault built_top (names_of built_program) (walk_from nothing_held) words) _ e in
+        asks_replay (replay_in (rows_at built_replay p.1).1) (replay_asks p.1 (no_first (level_fault built_replay [] nothing_held p.1 false []) _ after))
+    go false false true r e =
         let after = no_second (walk_fault built_top (names_of built_program) (walk_from nothing_held) words) _ e in
         asks_prune (prune_in (rows_at built_prune p.1).1) (prune_asks p.1 (no_first (level_fault built_prune [] nothing_held p.1 false []) _ after))
-    go false true q e =
+    go false true q r e =
         let after = no_second (walk_fault built_top (names_of built_program) (walk_from nothing_held) words) _ e in
         asks_make (make_in (rows_at built_make p.1).1) (make_asks p.1 (no_first (level_fault built_make [] nothing_held p.1 false []) _ after))
-    go true m q e =
+    go true m q r e =
         let after = no_second (walk_fault built_top (names_of built_program) (walk_from nothing_held) words) _ e in
         asks_check (check_in (rows_at built_check p.1).1) (check_asks p.1 (no_first (level_fault built_check [] nothing_held p.1 false []) _ after))
 

@@ -29,10 +29,16 @@ pub record PruneRequest : Type 0 where
   pub file : List ℕ
   pub budget : ℕ
 
+-- take the edits and reports of the script of this name, each command checked with this budget
+pub record ReplayRequest : Type 0 where
+  pub script : List ℕ
+  pub budget : ℕ
+
 pub data Request : Type 0 where
   to_check : CheckRequest → Request
   to_make : MakeRequest → Request
   to_prune : PruneRequest → Request
+  to_replay : ReplayRequest → Request
 
 -- the number that a text writes in decimal digits, where it is one of these
 abbrev pub number_of : ValueParser → Text → Option ℕ
@@ -42,12 +48,15 @@ number_of numbers text =
 abbrev pub is_true : Text → Bool
 is_true text = bytes_eq text (codes "true")
 
--- what clap found for FILE, NAME, N, `--workers`, `--budget` and `--quiet`, their defaults included
+-- what clap found for FILE, NAME, SCRIPT, N, `--workers`, `--budget` and `--quiet`, their defaults included
 abbrev pub file_in : List Row → Option Text
 file_in rows = first_of (codes "file") rows
 
 abbrev pub name_in : List Row → Option Text
 name_in rows = first_of (codes "name") rows
+
+abbrev pub script_in : List Row → Option Text
+script_in rows = first_of (codes "script") rows
 
 abbrev pub count_in : List Row → Option ℕ
 count_in rows = option_and_then (number_of theorem_counts) (one_of (codes "count") rows)
@@ -61,7 +70,7 @@ budget_in rows = option_and_then (number_of budgets) (one_of (codes "budget") ro
 abbrev pub quiet_in : List Row → Bool
 quiet_in rows = option_map_or is_true (one_of (codes "quiet") rows) false
 
--- those of `check` together, those of `make`, and those of `prune`
+-- those of `check` together, those of `make`, those of `prune`, and those of `replay`
 abbrev pub check_in : List Row → Option CheckRequest
 check_in rows = option_and_then (λ file. option_and_then (λ workers. option_map (λ budget.
     record { file = file; workers = workers; budget = budget; quiet = quiet_in rows })
@@ -77,12 +86,16 @@ prune_in rows = option_and_then (λ name. option_and_then (λ file. option_map (
     record { name = name; file = file; budget = budget })
     (budget_in rows)) (file_in rows)) (name_in rows)
 
+abbrev pub replay_in : List Row → Option ReplayRequest
+replay_in rows = option_and_then (λ script. option_map (λ budget. record { script = script; budget = budget }) (budget_in rows)) (script_in rows)
+
 -- what the subcommand of this name asks, with what was found for it
 abbrev pub request_in : Text × List Row → Option Request
 request_in found =
     if bytes_eq found.0 (codes "make") then option_map to_make (make_in found.1)
     else if bytes_eq found.0 (codes "check") then option_map to_check (check_in found.1)
     else if bytes_eq found.0 (codes "prune") then option_map to_prune (prune_in found.1)
+    else if bytes_eq found.0 (codes "replay") then option_map to_replay (replay_in found.1)
     else None
 
 -- the request, where no fault stands against it

@@ -11,5 +11,8 @@ make_usage = codes "usage: dk_check make [--workers N] [--budget B] N" ++ 10 ∷
 abbrev pub prune_usage : List ℕ
 prune_usage = codes "usage: dk_check prune [--budget B] NAME FILE" ++ 10 ∷ []
 
+abbrev pub replay_usage : List ℕ
+replay_usage = codes "usage: dk_check replay [--budget B] SCRIPT" ++ 10 ∷ []
+
 unfoldable pub usage_text : List ℕ
-usage_text = check_usage ++ (make_usage ++ prune_usage)
+usage_text = check_usage ++ (make_usage ++ (prune_usage ++ replay_usage))

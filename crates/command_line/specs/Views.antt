@@ -5,9 +5,10 @@ use Rattle.command_line.specs.Words.{program}
 use Rattle.command_line.specs.declared.request.CheckRequest as given_check
 use Rattle.command_line.specs.declared.request.MakeRequest as given_make
 use Rattle.command_line.specs.declared.request.PruneRequest as given_prune
+use Rattle.command_line.specs.declared.request.ReplayRequest as given_replay
 use Rattle.command_line.specs.declared.request.Request as given
 use Rattle.command_line.specs.declared.request.Request.TheVariants as given_request
-use Rattle.command_line.specs.Requests.{CheckRequest, MakeRequest, PruneRequest, Request, to_check, to_make, to_prune}
+use Rattle.command_line.specs.Requests.{CheckRequest, MakeRequest, PruneRequest, ReplayRequest, Request, to_check, to_make, to_prune, to_replay}
 
 -- the request that the program holds
 abbrev pub plain_check : given_check.CheckRequest → CheckRequest
@@ -19,10 +20,14 @@ plain_make r = record { count = r.count; workers = r.workers; budget = r.budget 
 abbrev pub plain_prune : given_prune.PruneRequest → PruneRequest
 plain_prune r = record { name = r.name.now; file = r.file.now; budget = r.budget }
 
+abbrev pub plain_replay : given_replay.ReplayRequest → ReplayRequest
+plain_replay r = record { script = r.script.now; budget = r.budget }
+
 abbrev pub plain_request : given.Request → Request
 plain_request (given_request.Check r) = to_check (plain_check r)
 plain_request (given_request.Make r) = to_make (plain_make r)
 plain_request (given_request.Prune r) = to_prune (plain_prune r)
+plain_request (given_request.Replay r) = to_replay (plain_replay r)
 
 -- the numbers of a request, each in its bounds
 abbrev pub IsWorkerCount : ℕ → Type 0
@@ -38,6 +43,7 @@ abbrev pub IsInBounds : Request → Type 0
 IsInBounds (to_check r) = IsWorkerCount r.workers × IsBudget r.budget
 IsInBounds (to_make r) = IsTheoremCount r.count × IsWorkerCount r.workers × IsBudget r.budget
 IsInBounds (to_prune r) = IsBudget r.budget
+IsInBounds (to_replay r) = IsBudget r.budget
 
 -- clap finds no fault in the words, the first of which is the program's name
 abbrev pub IsTaken : List Text → Type 0

@@ -67,6 +67,14 @@ name = record (new_rule (codes "name")) { required = true }
 abbrev pub prune : App
 prune = with_rule (with_rule (with_rule (new_app (codes "prune")) budget) name) file
 
+-- SCRIPT
+abbrev pub script : Rule
+script = record (new_rule (codes "script")) { required = true }
+
+-- `replay [--budget B] SCRIPT`
+abbrev pub replay : App
+replay = with_rule (with_rule (new_app (codes "replay")) budget) script
+
 -- the program, which needs a subcommand; `help` isn't one
 abbrev pub needing : App → App
 needing a = record a {
@@ -74,4 +82,5 @@ needing a = record a {
 }
 
 unfoldable pub program : App
-program = with_subcommand (with_subcommand (with_subcommand (needing (new_app (codes "dk_check"))) check.top) make.top) prune.top
+program =
+    with_subcommand (with_subcommand (with_subcommand (with_subcommand (needing (new_app (codes "dk_check"))) check.top) make.top) prune.top) replay.top

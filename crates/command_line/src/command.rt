@@ -2,7 +2,7 @@
 ghost use Rattle.std.specs.Prelude.{◌≡◌, IfOk, map, false};
 ghost use Rattle.std.specs.String.{string_bytes};
 ghost use Rattle.clap.specs.Words.{FailsBy, HasMatchesOf, app_of, fault_of, rule_of, with_subcommand};
-ghost use Rattle.command_line.specs.Words.{budget, check, count, make, program, prune, workers};
+ghost use Rattle.command_line.specs.Words.{budget, check, count, make, program, prune, replay, workers};
 
 use clap::builder::ValueParser;
 use clap::{Arg, ArgAction, ArgMatches, Command, Error};
@@ -92,6 +92,16 @@ fn with_prune<'a>(alloc: Global, top: Command<'a>) -> Result<Command<'a>, AllocE
     top.subcommand(prune)
 }
 
+// The command with `replay` as a subcommand.
+fn with_replay<'a>(alloc: Global, top: Command<'a>) -> Result<Command<'a>, AllocError>
+    ensures { IfOk result (λ c. app_of c ≡ with_subcommand (app_of top.entry) replay.top) }
+{
+    let budget = budget_argument(alloc);
+    let script = Arg::new(alloc, "script").required(true);
+    let replay = Command::new(alloc, "replay").arg(budget)?.arg(script)?;
+    top.subcommand(replay)
+}
+
 fn program<'a>(alloc: Global) -> Result<Command<'a>, AllocError>
     ensures { IfOk result (λ c. app_of c ≡ program) }
 {
@@ -100,7 +110,8 @@ fn program<'a>(alloc: Global) -> Result<Command<'a>, AllocError>
         .disable_help_subcommand(true);
     let checking = with_check(alloc, alone)?;
     let making = with_make(alloc, checking)?;
-    with_prune(alloc, making)
+    let pruning = with_prune(alloc, making)?;
+    with_replay(alloc, pruning)
 }
 
 // What clap finds in the words.

@@ -8,5 +8,5 @@ mod command;
 mod request;
 mod usage;
 
-pub use request::{CheckRequest, MakeRequest, PruneRequest, Request, read_request};
+pub use request::{CheckRequest, MakeRequest, PruneRequest, ReplayRequest, Request, read_request};
 pub use usage::usage_text;

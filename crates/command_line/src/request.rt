@@ -2,8 +2,8 @@
 ghost use Rattle.std.specs.Prelude.{◌≡◌, ◌↔◌, IfOk, IfSome, IsSome, map, option_and_then, option_map};
 ghost use Rattle.std.specs.String.{string_bytes};
 ghost use Rattle.clap.specs.Words.{found_of, rows_of, subcommand_rows_of};
-ghost use Rattle.command_line.specs.Requests.{budget_in, check_in, count_in, make_in, prune_in, quiet_in, request_in, request_of, workers_in};
-ghost use Rattle.command_line.specs.Views.{IsBudget, IsInBounds, IsTaken, IsTheoremCount, IsWorkerCount, plain_check, plain_make, plain_prune, plain_request};
+ghost use Rattle.command_line.specs.Requests.{budget_in, check_in, count_in, make_in, prune_in, quiet_in, replay_in, request_in, request_of, workers_in};
+ghost use Rattle.command_line.specs.Views.{IsBudget, IsInBounds, IsTaken, IsTheoremCount, IsWorkerCount, plain_check, plain_make, plain_prune, plain_replay, plain_request};
 
 use crate::command::{LARGEST_BUDGET, MOST_THEOREMS, MOST_WORKERS, found_in};
 use clap::ArgMatches;
@@ -17,6 +17,7 @@ pub enum Request<'a> {
     Check(CheckRequest<'a>),
     Make(MakeRequest),
     Prune(PruneRequest<'a>),
+    Replay(ReplayRequest<'a>),
 }
 
 /// Check a file.
@@ -50,6 +51,15 @@ pub struct PruneRequest<'a> {
     pub name: &'a str,
     /// The name of the file, as the words give it.
     pub file: &'a str,
+    /// The units that the check of each command may take.
+    pub budget: u64,
+}
+
+/// Take the edits of a session, and write its reports.
+#[derive(Clone, Copy, Debug)]
+pub struct ReplayRequest<'a> {
+    /// The name of the script, as the words give it.
+    pub script: &'a str,
     /// The units that the check of each command may take.
     pub budget: u64,
 }
@@ -105,6 +115,11 @@ fn request_in<'a>(name: &str, found: &ArgMatches<'a>) -> Option<Request<'a>>
             Some(request) => Some(Request::Prune(request)),
             None => None,
         }
+    } else if name == "replay" {
+        match replay_in(found) {
+            Some(request) => Some(Request::Replay(request)),
+            None => None,
+        }
     } else {
         None
     }
@@ -151,6 +166,15 @@ fn prune_in<'a>(prune: &ArgMatches<'a>) -> Option<PruneRequest<'a>>
     let file = prune.get_str("file")?;
     let budget = budget_in(prune)?;
     Some(PruneRequest { name, file, budget })
+}
+
+fn replay_in<'a>(replay: &ArgMatches<'a>) -> Option<ReplayRequest<'a>>
+    ensures value { option_map plain_replay result ≡ replay_in (rows_of (found_of replay.now)) }
+    ensures budget { IfSome result (λ q. IsBudget q.budget) }
+{
+    let script = replay.get_str("script")?;
+    let budget = budget_in(replay)?;
+    Some(ReplayRequest { script, budget })
 }
 
 fn count_in(make: &ArgMatches<'_>) -> Option<u32>

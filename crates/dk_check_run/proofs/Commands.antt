@@ -4,7 +4,7 @@ use Rattle.std.specs.Prelude.{Option, None, Some}
 use Rattle.dk_io.specs.Bytes.{Books, added}
 use Rattle.dk_io.specs.Causes.{Rose}
 use Rattle.dk_model.specs.declared.limits.Limits.{Limits}
-use Rattle.command_line.specs.Requests.{CheckRequest, MakeRequest, PruneRequest, Request, to_check, to_make, to_prune}
+use Rattle.command_line.specs.Requests.{CheckRequest, MakeRequest, PruneRequest, ReplayRequest, Request, to_check, to_make, to_prune, to_replay}
 use Rattle.verdict_book.specs.Report.{FileReport, status_of}
 use Rattle.verdict_book.specs.declared.outcome.Outcome.{Outcome}
 use Rattle.verdict_book.specs.declared.outcome.Outcome.TheVariants.{Unopened, Unread}
@@ -19,11 +19,14 @@ use Rattle.dk_check_run.specs.Check as check
 use Rattle.dk_check_run.specs.Make as make
 use Rattle.dk_check_run.specs.Prune as prune
 use Rattle.dk_check_run.specs.Prune.{AsksToPrune, HasFileFault, PrunesFile, by_opening, by_read}
+use Rattle.dk_check_run.specs.Replay as replay
+use Rattle.dk_check_run.specs.Replay.{AsksToReplay, HasScriptFault, ReplaysScript, by_opening as script_unopened, by_read as script_unread}
 use Rattle.dk_check_run.specs.Rows.{Cause, Shows, memory, of_no_command, of_no_words, of_command}
 use Rattle.dk_check_run.specs.Table.{Runs, RunsCommand, rows_of}
 use Rattle.prune_file.specs.Laws.{AcceptedIsReported, PrunedStandsAlone}
 use Rattle.dk_check_run.proofs.General.{is_status, none_some, some_same, stands}
 use Rattle.dk_check_run.proofs.PruneStatuses.{decided_not3, prune_failed, prune_own, stopped_not3}
+use Rattle.dk_check_run.proofs.ReplayStatuses.{replay_failed, replay_own}
 
 -- ---- `check`
 
@@ -104,6 +107,7 @@ at_once : (limits : Limits) (c : Request) (s : ShelfState) → rows_of limits c 
 at_once limits (to_check q) s = check.of_no_memory
 at_once limits (to_make q) s = (refl, make.of_no_memory)
 at_once limits (to_prune q) s = prune.of_no_memory
+at_once limits (to_replay q) s = replay.of_no_memory
 
 module _ (limits : Limits) (request : Option Request) (old new : ShelfState) (before after : SinkState) (result : ℕ) where
   abbrev pub Answered : Type 0
@@ -144,12 +148,19 @@ module _ (limits : Limits) (request : Option Request) (old new : ShelfState) (be
       let e = stands r.writes three (λ f. absurd (omega (arith, f))) in
       prune_failed limits q old new before after r.cause r.status r.text r.row r.shows e (r.writes.whole (λ five. absurd (omega (arith, three, five))))
 
+  replay_fault : (q : ReplayRequest) → RunsCommand limits (to_replay q) old new before after result → result ≡ 3 → HasScriptFault limits q old new before.taken after.taken
+  replay_fault q r three =
+      let e = stands r.writes three (λ f. absurd (omega (arith, f))) in
+      replay_failed limits q old new before after r.cause r.status r.text r.row r.shows e (r.writes.whole (λ five. absurd (omega (arith, three, five))))
+
   pub shelf_failed : Answered → result ≡ 3 → ((q : CheckRequest) × (request ≡ Some (to_check q)) × HasShelfFault q old new before.taken after.taken)
-      ⊎ ((q : PruneRequest) × (request ≡ Some (to_prune q)) × HasFileFault q old new before.taken after.taken)
+      ⊎ (((q : PruneRequest) × (request ≡ Some (to_prune q)) × HasFileFault q old new before.taken after.taken)
+      ⊎ ((q : ReplayRequest) × (request ≡ Some (to_replay q)) × HasScriptFault limits q old new before.taken after.taken))
   shelf_failed (of_no_command none same w) three = let e = stands w three (λ f. absurd (omega (arith, f))) in absurd (omega (arith, e))
   shelf_failed (of_no_words same w) three = let e = stands w three (λ f. absurd (omega (arith, f))) in absurd (omega (arith, e))
   shelf_failed (of_command (to_check q) is r) three = inl (q, is, fault q r three)
-  shelf_failed (of_command (to_prune q) is r) three = inr (q, is, prune_fault q r three)
+  shelf_failed (of_command (to_prune q) is r) three = inr (inl (q, is, prune_fault q r three))
+  shelf_failed (of_command (to_replay q) is r) three = inr (inr (q, is, replay_fault q r three))
   shelf_failed (of_command (to_make q) is r) three =
       absurd (make_not3 limits q old new r.cause r.status r.text r.row.1 r.shows (stands r.writes three (λ f. absurd (omega (arith, f)))))
 
@@ -185,6 +196,29 @@ module _ (limits : Limits) (request : Option Request) (old new : ShelfState) (be
   untouched (of_command (to_check q) is r) nothing = let none : OpensNothing (Some (to_check q)) = subst OpensNothing is nothing in absurd none
   untouched (of_command (to_make q) is r) nothing = r.row.0
   untouched (of_command (to_prune q) is r) nothing = let none : OpensNothing (Some (to_prune q)) = subst OpensNothing is nothing in absurd none
+  untouched (of_command (to_replay q) is r) nothing = let none : OpensNothing (Some (to_replay q)) = subst OpensNothing is nothing in absurd none
+
+  -- ---- `replay`
+
+  replayed_at : Answered → (q : ReplayRequest) (books : Books) → AsksToReplay request old.books q books → result ≢ 3 → result ≢ 4 → result ≢ 5 → ReplaysScript limits q books before.taken after.taken result
+  replayed_at a q books asks not3 not4 not5 =
+      let r = asked a (to_replay q) asks.asked in
+      let s = is_status r.writes not5 in
+      subst (ReplaysScript limits q books before.taken after.taken) (sym s)
+      (replay_own limits q old new before after books asks.told_are r.cause r.status r.text r.row r.shows (λ e. not3 (s ∙ e)) (λ e. not4 (s ∙ e)) (r.writes.whole not5))
+
+  pub replay_whole : Answered → (q : ReplayRequest) (books : Books) → AsksToReplay request old.books q books → result ≡ 0 → ReplaysScript limits q books before.taken after.taken result
+  replay_whole a q books asks e = replayed_at a q books asks (λ f. absurd (omega (arith, e, f))) (λ f. absurd (omega (arith, e, f))) (λ f. absurd (omega (arith, e, f)))
+
+  pub replays : Answered → (q : ReplayRequest) (books : Books) → AsksToReplay request old.books q books → ¬ (Rose (old.missed q.script) (new.missed q.script)) → ¬ (Rose old.faults new.faults)
+      → ¬ (Rose before.faults after.faults) → result ≢ 4 → ReplaysScript limits q books before.taken after.taken result
+  replays a q books asks not_missed not_failed not_cut not4 =
+      replayed_at a q books asks (λ three. by (replay_fault q (asked a (to_replay q) asks.asked) three)) not4
+      (λ five. let r = asked a (to_replay q) asks.asked in not_cut (r.writes.failed five))
+    where
+      by : HasScriptFault limits q old new before.taken after.taken → ⊥
+      by (script_unopened leaves rose text) = not_missed rose
+      by (script_unread given written rose writes text) = not_failed rose
 
   -- ---- `prune`
 

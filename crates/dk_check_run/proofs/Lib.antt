@@ -9,6 +9,8 @@ pub mod MakeRows
 pub mod Promises
 pub mod PruneRows
 pub mod PruneStatuses
+pub mod ReplayRows
+pub mod ReplayStatuses
 pub mod Settings
 pub mod Statuses
 pub mod Summaries

@@ -2,7 +2,7 @@
 use Rattle.std.proofs.Common.{◌≡◌, ℕ, inl, sym, subst, ◌∙◌}
 use Rattle.std.specs.Prelude.{Option}
 use Rattle.dk_model.specs.declared.limits.Limits.{Limits}
-use Rattle.command_line.specs.Requests.{Request, to_make, to_prune}
+use Rattle.command_line.specs.Requests.{Request, to_make, to_prune, to_replay}
 use Rattle.book_reader.specs.Shelves.{ShelfState}
 use Rattle.prune_file.specs.Laws.{AcceptedIsReported, PrunedStandsAlone}
 use Rattle.dk_check_run.specs.Books.{asked_setting, made_setting}
@@ -30,6 +30,9 @@ promises stands_alone reported limits request old new before after result a = re
   prunes = law.prunes limits request old new before after result stands_alone reported a;
   prune_decided = law.prune_decided limits request old new before after result stands_alone reported a;
   prune_due = λ q asks. law.asked limits request old new before after result a (to_prune q) asks;
+  replays = law.replays limits request old new before after result a;
+  replay_whole = law.replay_whole limits request old new before after result a;
+  replay_due = λ q asks. law.asked limits request old new before after result a (to_replay q) asks;
   usage = general.usage (rows_of limits) request old new before after result a;
   usage_only = general.usage_only (rows_of limits) request old new before after result a;
   untouched = law.untouched limits request old new before after result a;

@@ -3,12 +3,13 @@ use Rattle.std.specs.Prelude.{◌≡◌, ◌≢◌, ◌⊎◌, ◌<◌, ℕ, Opt
 use Rattle.dk_io.specs.Bytes.{Books}
 use Rattle.dk_io.specs.Causes.{Rose}
 use Rattle.dk_model.specs.declared.limits.Limits.{Limits}
-use Rattle.command_line.specs.Requests.{CheckRequest, MakeRequest, PruneRequest, Request, to_check, to_make, to_prune}
+use Rattle.command_line.specs.Requests.{CheckRequest, MakeRequest, PruneRequest, ReplayRequest, Request, to_check, to_make, to_prune, to_replay}
 use Rattle.command_line.specs.Usage.{usage_text}
 use Rattle.theory_walk.specs.BookNames.{book_named}
 use Rattle.theory_walk.specs.Libraries.{Key}
 use Rattle.book_reader.specs.Shelves.{HasHeld, ShelfState}
 use Rattle.dk_check_run.specs.Prune.{AsksToPrune, HasFileFault, PrunesFile}
+use Rattle.dk_check_run.specs.Replay.{AsksToReplay, HasScriptFault, ReplaysScript}
 use Rattle.dk_check_run.specs.Derivations.{IsMadeDerived, IsTheoryDerived}
 use Rattle.dk_check_run.specs.Run.{AsksFor, HasShelfFault, IsBookDue, IsDecided, OpensNothing, ReportsFile, ReportsTheory, SinkState, Writes, memory_at_once}
 use Rattle.dk_check_run.specs.Table.{RunsCommand}
@@ -27,11 +28,16 @@ pub record Promises (limits : Limits) (request : Option Request) (old new : Shel
       → ¬ (Rose before.faults after.faults) → result ≢ 4 → PrunesFile limits q books before.taken after.taken result
   pub prune_decided : (q : PruneRequest) (books : Books) → AsksToPrune request old.books q books → IsDecided result → PrunesFile limits q books before.taken after.taken result
   pub prune_due : (q : PruneRequest) → request ≡ Some (to_prune q) → RunsCommand limits (to_prune q) old new before after result
+  pub replays : (q : ReplayRequest) (books : Books) → AsksToReplay request old.books q books → ¬ (Rose (old.missed q.script) (new.missed q.script)) → ¬ (Rose old.faults new.faults)
+      → ¬ (Rose before.faults after.faults) → result ≢ 4 → ReplaysScript limits q books before.taken after.taken result
+  pub replay_whole : (q : ReplayRequest) (books : Books) → AsksToReplay request old.books q books → result ≡ 0 → ReplaysScript limits q books before.taken after.taken result
+  pub replay_due : (q : ReplayRequest) → request ≡ Some (to_replay q) → RunsCommand limits (to_replay q) old new before after result
   pub usage : request ≡ None → Writes before after usage_text 2 result ⊎ Writes before after memory_at_once 4 result
   pub usage_only : result ≡ 2 → request ≡ None
   pub untouched : OpensNothing request → new ≡ old
   pub shelf_failed : result ≡ 3 → ((q : CheckRequest) × (request ≡ Some (to_check q)) × HasShelfFault q old new before.taken after.taken)
-      ⊎ ((q : PruneRequest) × (request ≡ Some (to_prune q)) × HasFileFault q old new before.taken after.taken)
+      ⊎ (((q : PruneRequest) × (request ≡ Some (to_prune q)) × HasFileFault q old new before.taken after.taken)
+      ⊎ ((q : ReplayRequest) × (request ≡ Some (to_replay q)) × HasScriptFault limits q old new before.taken after.taken))
   pub sink_failed : result ≡ 5 → Rose before.faults after.faults
   pub sink_held : result ≢ 5 → after.faults ≡ before.faults
   pub statuses : result < 7

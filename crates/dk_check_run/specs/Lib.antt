@@ -5,6 +5,7 @@ pub mod Derivations
 pub mod Held
 pub mod Make
 pub mod Prune
+pub mod Replay
 pub mod Roots
 pub mod Rows
 pub mod Run

@@ -5,7 +5,7 @@ use Rattle.dk_io.specs.Causes.{Rose}
 use Rattle.dk_io.specs.declared.sink.Sink.{Ghosts as Sink}
 use Rattle.dk_model.specs.declared.limits.Limits.{Limits}
 use Rattle.dk_model.specs.declared.code.Verdict.TheVariants as verdict
-use Rattle.command_line.specs.Requests.{CheckRequest, MakeRequest, Request, to_check, to_make, to_prune}
+use Rattle.command_line.specs.Requests.{CheckRequest, MakeRequest, Request, to_check, to_make, to_prune, to_replay}
 use Rattle.board_core.specs.declared.event.Place.{Place}
 use Rattle.verdict_book.specs.Report.{FileReport, PlainShown, concat, last_line, nowhere, report_of, status_of}
 use Rattle.verdict_book.specs.declared.outcome.Outcome.{Outcome}
@@ -90,6 +90,7 @@ OpensNothing None = Unit {0}
 OpensNothing (Some (to_check q)) = ⊥
 OpensNothing (Some (to_make q)) = Unit {0}
 OpensNothing (Some (to_prune q)) = ⊥
+OpensNothing (Some (to_replay q)) = ⊥
 
 -- the books lie as they did: the open one, and those put aside
 pub record LeavesBooks (old new : ShelfState) : Type 0 where

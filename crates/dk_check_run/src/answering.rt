@@ -18,6 +18,7 @@ ghost use Rattle.dk_check_run.specs.Summaries.{is_at_once, text_by};
 ghost use Rattle.dk_check_run.specs.Table.{Runs, RunsCommand};
 
 use crate::pruning::prune_book;
+use crate::replaying::replay_book;
 use board_core::Gate;
 use book_reader::{Root, own_module};
 use command_line::{CheckRequest, MakeRequest, Request, read_request, usage_text};
@@ -269,5 +270,6 @@ pub fn run_with<R: Threads + Wait + Sync, H: Shelf, K: Sink, G: Gate + Sync>(
         Request::Check(request) => check_file(rt, alloc, limits, shelf, sink, gate, &request),
         Request::Make(request) => check_theory(rt, alloc, limits, sink, gate, &request),
         Request::Prune(request) => prune_book(rt, alloc, limits, shelf, sink, gate, &request),
+        Request::Replay(request) => replay_book(alloc, limits, shelf, sink, &request),
     }
 }

@@ -5,6 +5,7 @@ mod answering;
 mod gate;
 mod held;
 mod pruning;
+mod replaying;
 mod top;
 
 pub use answering::run_with;
@@ -28,6 +29,8 @@ mod module_tests;
 mod prune_tests;
 #[cfg(test)]
 mod query_rows;
+#[cfg(test)]
+mod replay_tests;
 #[cfg(test)]
 mod rule_rows;
 #[cfg(test)]

@@ -18,7 +18,8 @@ use std::sync::Wait;
 use std::thread::Threads;
 
 /// Checks the file that the words name, or the theory that they have made, and writes its report to the sink, or what the
-/// file is pruned to; answers the status (docs/report.md).
+/// file is pruned to; or takes the edits of a script, and writes the reports that it asks for. Answers the status
+/// (docs/report.md).
 ///
 /// `words[0]` is the program's name and isn't looked at. The shelf has no book put aside (`dk_io::Shelf`), and where a read or
 /// an opening fails the books that are open stay on it. The clauses hold for every number of workers and whatever the order

@@ -1,6 +1,6 @@
 use Rattle.std.proofs.Common.{sym}
-use Rattle.command_line.specs.Requests.{to_check, to_make, to_prune}
-use Rattle.command_line.specs.Views.{plain_check, plain_make, plain_prune}
+use Rattle.command_line.specs.Requests.{to_check, to_make, to_prune, to_replay}
+use Rattle.command_line.specs.Views.{plain_check, plain_make, plain_prune, plain_replay}
 use Rattle.dk_check_run.specs.Rows.{of_command}
 use Rattle.book_reader.specs.Shelves.{shelf_of}
 use Rattle.dk_check_run.proofs.answering.run_with.Goals as goal
@@ -14,3 +14,6 @@ returns-in-Make g c =
 
 pub returns-in-Prune : goal.returns-in-Prune
 returns-in-Prune g c = of_command (to_prune (plain_prune c.in-Prune.request)) (sym (rw (c.in-Ok-Some.field-0-is, c.in-Prune.is) at c.in-Ok-Some.ensures.ok)) c.prune_book.ensures
+
+pub returns-in-Replay : goal.returns-in-Replay
+returns-in-Replay g c = of_command (to_replay (plain_replay c.in-Replay.request)) (sym (rw (c.in-Ok-Some.field-0-is, c.in-Replay.is) at c.in-Ok-Some.ensures.ok)) c.replay_book.ensures
