@@ -5,10 +5,11 @@ use Rattle.dk_model.specs.Erasure.{erased}
 use Rattle.dk_model.specs.Signatures.{PlainSignature}
 use Rattle.dk_model.specs.Scoping.{PlainAsked, typed, alike, type_of, value_of, PlainFound, no, query}
 use Rattle.dk_model.specs.Evaluation.{normal_of}
-use Rattle.dk_model.specs.Typing.{Judged, answer, refused, ended, after, next, as_same, inferred}
+use Rattle.dk_model.specs.Typing.{Judged, answer, refused, ended, after, next, as_convertible, inferred}
 use Rattle.dk_model.specs.Verdicts.{answer_of, command_checked, compared, evaluated, found_by, found_of, query_found, verdict, verdict_of}
 use Rattle.dk_model.specs.Answering.{IsVerdictOrMemory}
 use Rattle.dk_model.specs.declared.code.Code.{Code}
+use Rattle.dk_model.specs.declared.code.Code.TheVariants.{E21}
 use Rattle.dk_model.specs.declared.code.Verdict.{Verdict}
 use Rattle.dk_model.specs.declared.code.Verdict.TheVariants.{Accepted}
 use Rattle.dk_model.specs.declared.stop.TypeFault.{TypeFault}
@@ -25,13 +26,13 @@ module _ (S : PlainSignature) where
   pub compared_first_fails : (f : TypeFault) (spare : ℕ) (t u : Tree) (n : ℕ) → Fails f spare (inferred S [] [] t n) → Fails f spare (compared S t u n)
   compared_first_fails f spare t u n h = fails_next f spare (inferred S [] [] t n) _ h
 
-  compared_other : (t u T : Tree) (n m : ℕ) → inferred S [] [] t n ≡ answer T m → compared S t u n ≡ next (inferred S [] [] u m) (λ U i. as_same S (erased t) (erased u) i)
+  compared_other : (t u T : Tree) (n m : ℕ) → inferred S [] [] t n ≡ answer T m → compared S t u n ≡ next (inferred S [] [] u m) (λ U i. as_convertible S E21 (erased t) (erased u) i)
   compared_other t u T n m e = goes (inferred S [] [] t n) T m _ e
 
   pub compared_other_fails : (f : TypeFault) (spare : ℕ) (t u T : Tree) (n m : ℕ) → inferred S [] [] t n ≡ answer T m → Fails f spare (inferred S [] [] u m) → Fails f spare (compared S t u n)
   compared_other_fails f spare t u T n m e h = fails_is f spare _ _ (compared_other t u T n m e) (fails_next f spare (inferred S [] [] u m) _ h)
 
-  pub compared_same : (t u T U : Tree) (n m i : ℕ) → inferred S [] [] t n ≡ answer T m → inferred S [] [] u m ≡ answer U i → compared S t u n ≡ as_same S (erased t) (erased u) i
+  pub compared_same : (t u T U : Tree) (n m i : ℕ) → inferred S [] [] t n ≡ answer T m → inferred S [] [] u m ≡ answer U i → compared S t u n ≡ as_convertible S E21 (erased t) (erased u) i
   compared_same t u T U n m i e h = compared_other t u T n m e ∙ goes (inferred S [] [] u m) U i _ h
 
   -- a normal form

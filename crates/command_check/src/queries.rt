@@ -18,8 +18,8 @@ use crate::declaration::{check_typed, infer_kept};
 use crate::found::FoundOf;
 use crate::kept::Boxed;
 use crate::verdict::fault_verdict;
-use dk_model::{Asked, NoMemory, Scoped, Term, TypeFault, Verdict};
-use infer_check::{Walk, as_same, infer};
+use dk_model::{Asked, Code, NoMemory, Scoped, Term, TypeFault, Verdict};
+use infer_check::{Compared, Walk, as_convertible, infer};
 use shared_term::Found;
 use signature_log::{Reducer, Version};
 
@@ -63,7 +63,12 @@ fn compare<R: Reducer>(
 {
     let t = typed_term(r, version, t, left)?;
     let u = typed_term(r, version, u, left)?;
-    as_same(r, version, &t, &u, left)
+    let compared = Compared {
+        code: Code::E21,
+        found: &t,
+        expected: &u,
+    };
+    as_convertible(r, version, compared, left)
 }
 
 /// The normal form of a term that has a type.

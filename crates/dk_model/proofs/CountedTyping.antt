@@ -8,7 +8,6 @@ use Rattle.dk_model.specs.Signatures.{PlainSignature}
 use Rattle.dk_model.specs.Scoping.{PlainAsked, typed, alike, type_of, value_of, PlainFound, no, PlainCommand, query}
 use Rattle.dk_model.specs.Units.{Units}
 use Rattle.dk_model.specs.TypingOver.{Evaluator, answer, refused, ended, after, next, agreed, as_product, inferred, checked}
-use Rattle.dk_model.specs.RuleTypingOver.{convertible}
 use Rattle.dk_model.specs.CommandTypingOver.{or_no, found_by, command_checked}
 use Rattle.dk_model.specs.Typing.{Judged, by_units}
 use Rattle.dk_model.specs.Verdicts.{verdict, verdict_of}
@@ -122,13 +121,9 @@ counts_after {A} {B} {F} {f} h c = record {
   falls = λ n. after_falls n (F n) f (h.falls n) c;
 }
 
-agreed_counts : (b : Bool) → Counts (agreed b)
-agreed_counts true = counts_answer tt
-agreed_counts false = counts_refused _
-
-convertible_counts : (b : Bool) → Counts (convertible b)
-convertible_counts true = counts_answer tt
-convertible_counts false = counts_refused _
+agreed_counts : (c : Code) (b : Bool) → Counts (agreed c b)
+agreed_counts c true = counts_answer tt
+agreed_counts c false = counts_refused c
 
 -- ---- queries: the answer no leaves as many units as the refusal
 
@@ -211,8 +206,7 @@ module _ (E : Evaluator ℕ) (K : EvaluatorCounts E) where
     goes_on = λ A B f g h k x y. counts_next x y;
     whnf = λ B t h k y. counts_after (K.whnf t) y;
     normal = λ B t h k y. counts_after (K.normal t) y;
-    same = λ t u. counts_after (K.same t u) agreed_counts;
-    convertible = λ t u. counts_after (K.same t u) convertible_counts;
+    same = λ c t u. counts_after (K.same t u) (agreed_counts c);
   }
 
   pub as_product_counts : (c : Code) (T : Tree) → Counts (as_product E c T)

@@ -11,11 +11,11 @@ use Rattle.dk_model.specs.Shapes.{shapes_of}
 use Rattle.dk_model.specs.Scoping.{PlainAsked, typed, alike, type_of, value_of, PlainFound, yes, of_type, value, PlainCommand, declare, rule_command, query}
 use Rattle.dk_model.specs.Captures.{mentions_others, renamed}
 use Rattle.dk_model.specs.Bindings.{Bindings, under}
-use Rattle.dk_model.specs.TypingOver.{Evaluator, JudgedIn, answer, refused, ended, after, next, symbol_type, variable_type, rule_variable_type, parts_of_product, a_sort, the_star, agreed, not_kind, as_product, as_sort, as_star, as_same, against, application_type, product_type, abstraction_type, annotated_fits, inferred, checked, sort_of}
-use Rattle.dk_model.specs.RuleTypingOver.{Guard, Found, Walked, Posed, found_type, outermost_first, occurrence, with_type, with_wildcard, with_bindings, guard_walked, convertible, allowed, as_convertible, confined, bound_type, first_type, first_typed, later_type, rule_variable_walked, wildcard_walked, as_expected, walked, spine_walked, types_under, notes_agree, guards_fit, sides_fit, left_walked, rule_checked, rules_typed}
+use Rattle.dk_model.specs.TypingOver.{Evaluator, JudgedIn, answer, refused, ended, after, next, symbol_type, variable_type, rule_variable_type, parts_of_product, a_sort, the_star, agreed, not_kind, as_product, as_sort, as_star, as_convertible, against, application_type, product_type, abstraction_type, annotated_fits, inferred, checked, sort_of}
+use Rattle.dk_model.specs.RuleTypingOver.{Guard, Found, Walked, Posed, found_type, outermost_first, occurrence, with_type, with_wildcard, with_bindings, guard_walked, allowed, confined, bound_type, first_type, first_typed, later_type, rule_variable_walked, wildcard_walked, as_expected, walked, spine_walked, types_under, notes_agree, guards_fit, sides_fit, left_walked, rule_checked, rules_typed}
 use Rattle.dk_model.specs.CommandTypingOver.{body_checked, body_type, declaration_checked, rules_checked, compared, evaluated, asked_found, query_found, command_checked}
 use Rattle.dk_model.specs.declared.code.Code.{Code}
-use Rattle.dk_model.specs.declared.code.Code.TheVariants.{E20, E22, E23, E24, E25, E34, E35}
+use Rattle.dk_model.specs.declared.code.Code.TheVariants.{E20, E21, E22, E23, E24, E25, E34, E35}
 
 -- a relation of computations, over what the one and what the other spends, that typing respects where these are its evaluations
 pub record IsRespected {X Y : Type 0} (Q : (A : Type 0) → (X → JudgedIn X A) → (Y → JudgedIn Y A) → Type 0) (E : Evaluator X) (E' : Evaluator Y) : Type 1 where
@@ -27,8 +27,7 @@ pub record IsRespected {X Y : Type 0} (Q : (A : Type 0) → (X → JudgedIn X A)
       → Q B (λ n. after (E.whnf n t) h) (λ n. after (E'.whnf n t) k)
   pub normal : (B : Type 0) (t : Tree) (h : Tree → X → JudgedIn X B) (k : Tree → Y → JudgedIn Y B) → ((u : Tree) → Q B (h u) (k u))
       → Q B (λ n. after (E.normal n t) h) (λ n. after (E'.normal n t) k)
-  pub same : (t u : Tree) → Q (Unit {0}) (λ n. after (E.same n t u) agreed) (λ n. after (E'.same n t u) agreed)
-  pub convertible : (t u : Tree) → Q (Unit {0}) (λ n. after (E.same n t u) convertible) (λ n. after (E'.same n t u) convertible)
+  pub same : (c : Code) (t u : Tree) → Q (Unit {0}) (λ n. after (E.same n t u) (agreed c)) (λ n. after (E'.same n t u) (agreed c))
 
 module _ {X Y : Type 0} (Q : (A : Type 0) → (X → JudgedIn X A) → (Y → JudgedIn Y A) → Type 0) (E : Evaluator X) (E' : Evaluator Y) (R : IsRespected Q E E') where
   answer_related : {A : Type 0} (a : A) → Q A (λ n. answer a n) (λ n. answer a n)
@@ -101,11 +100,11 @@ module _ {X Y : Type 0} (Q : (A : Type 0) → (X → JudgedIn X A) → (Y → Ju
   as_star_related : (T : Tree) → Q (Unit {0}) (as_star E T) (as_star E' T)
   as_star_related T = R.whnf _ T _ _ star_related
 
-  as_same_related : (T U : Tree) → Q (Unit {0}) (as_same E T U) (as_same E' T U)
-  as_same_related T U = R.same T U
+  as_convertible_related : (c : Code) (T U : Tree) → Q (Unit {0}) (as_convertible E c T U) (as_convertible E' c T U)
+  as_convertible_related c T U = R.same c T U
 
   against_related : (T : Tree) {f : X → JudgedIn X Tree} {g : Y → JudgedIn Y Tree} → Q Tree f g → Q (Unit {0}) (λ n. against E T (f n)) (λ n. against E' T (g n))
-  against_related T h = next_related h (λ U. as_same_related U T)
+  against_related T h = next_related h (λ U. as_convertible_related E21 U T)
 
   application_related : (f : Tree → X → JudgedIn X (Unit {0})) (g : Tree → Y → JudgedIn Y (Unit {0})) → ((A : Tree) → Q (Unit {0}) (f A) (g A))
       → (a T : Tree) → Q Tree (application_type E f a T) (application_type E' g a T)
@@ -118,7 +117,7 @@ module _ {X Y : Type 0} (Q : (A : Type 0) → (X → JudgedIn X A) → (Y → Ju
   abstraction_type_related f g k d s = next_related (as_star_related s) (λ u. next_related k (λ B. next_related (not_kind_related B) (λ C. answer_related (product (erased d) C))))
 
   annotated_related : (f : X → JudgedIn X (Unit {0})) (g : Y → JudgedIn Y (Unit {0})) → Q (Unit {0}) f g → (d A s : Tree) → Q (Unit {0}) (annotated_fits E f d A s) (annotated_fits E' g d A s)
-  annotated_related f g k d A s = next_related (as_star_related s) (λ u. next_related (as_same_related (erased d) A) (λ v. k))
+  annotated_related f g k d A s = next_related (as_star_related s) (λ u. next_related (as_convertible_related E21 (erased d) A) (λ v. k))
 
   module _ (S : PlainSignature) (V : List Tree) where
     mutual
@@ -164,7 +163,7 @@ module _ {X Y : Type 0} (Q : (A : Type 0) → (X → JudgedIn X A) → (Y → Ju
     declaration_related None None = answer_related tt
 
     compared_related : (t u : Tree) → Q (Unit {0}) (compared E S t u) (compared E' S t u)
-    compared_related t u = next_related (inferred_related S [] [] t) (λ T. next_related (inferred_related S [] [] u) (λ U. as_same_related (erased t) (erased u)))
+    compared_related t u = next_related (inferred_related S [] [] t) (λ T. next_related (inferred_related S [] [] u) (λ U. as_convertible_related E21 (erased t) (erased u)))
 
     evaluated_related : (t : Tree) → Q Tree (evaluated E S t) (evaluated E' S t)
     evaluated_related t = next_related (inferred_related S [] [] t) (λ T. R.normal _ (erased t) _ _ answer_related)
@@ -179,9 +178,6 @@ module _ {X Y : Type 0} (Q : (A : Type 0) → (X → JudgedIn X A) → (Y → Ju
   -- ---- rules, where equations are solved too
 
   module _ (solve_related : (s : Bindings) (t u : Tree) → Q Bindings (λ n. E.solve n s t u) (λ n. E'.solve n s t u)) where
-    as_convertible_related : (T U : Tree) → Q (Unit {0}) (as_convertible E T U) (as_convertible E' T U)
-    as_convertible_related T U = R.convertible T U
-
     confined_related : (d : ℕ) (xs : List ℕ) (T : Tree) → Q Tree (confined E d xs T) (confined E' d xs T)
     confined_related d xs T = if_related (mentions_others 0 d xs T) (R.normal _ T _ _ (allowed_related d xs)) (answer_related T)
 
@@ -219,7 +215,7 @@ module _ {X Y : Type 0} (Q : (A : Type 0) → (X → JudgedIn X A) → (Y → Ju
     notes_related s (Some b ∷ notes) [] = answer_related tt
     notes_related s (None ∷ notes) (o ∷ types) = notes_related s notes types
     notes_related s (Some b ∷ notes) (None ∷ types) = notes_related s notes types
-    notes_related s (Some b ∷ notes) (Some U ∷ types) = next_related (as_convertible_related (under s (erased b)) (under s U)) (λ u. notes_related s notes types)
+    notes_related s (Some b ∷ notes) (Some U ∷ types) = next_related (as_convertible_related E34 (under s (erased b)) (under s U)) (λ u. notes_related s notes types)
 
     module _ (S : PlainSignature) where
       mutual

@@ -5,9 +5,10 @@ use Rattle.dk_model.specs.Erasure.{erased}
 use Rattle.dk_model.specs.PlainEntries.{PlainRule, PlainSignature}
 use Rattle.dk_model.specs.Shapes.{shapes_of}
 use Rattle.dk_model.specs.PlainCommands.{PlainAsked, typed, alike, type_of, value_of, PlainFound, yes, no, of_type, value, PlainCommand, declare, rule_command, query}
-use Rattle.dk_model.specs.TypingOver.{Evaluator, JudgedIn, answer, refused, ended, after, next, not_kind, as_same, inferred, checked, sort_of}
+use Rattle.dk_model.specs.TypingOver.{Evaluator, JudgedIn, answer, refused, ended, after, next, not_kind, as_convertible, inferred, checked, sort_of}
 use Rattle.dk_model.specs.RuleTypingOver.{rules_typed}
 use Rattle.dk_model.specs.declared.code.Code.{Code}
+use Rattle.dk_model.specs.declared.code.Code.TheVariants.{E21}
 
 -- the answer no in place of a refusal
 abbrev pub or_no : {X : Type 0} → JudgedIn X PlainFound → JudgedIn X PlainFound
@@ -46,7 +47,7 @@ module _ {X : Type 0} (E : Evaluator X) (S : PlainSignature) where
 
   -- two terms that have types are convertible without their annotations
   abbrev pub compared : Tree → Tree → X → JudgedIn X (Unit {0})
-  compared t u n = next (inferred E S [] [] t n) (λ T m. next (inferred E S [] [] u m) (λ U i. as_same E (erased t) (erased u) i))
+  compared t u n = next (inferred E S [] [] t n) (λ T m. next (inferred E S [] [] u m) (λ U i. as_convertible E E21 (erased t) (erased u) i))
 
   -- the normal form of a term that has a type, without its annotations
   abbrev pub evaluated : Tree → X → JudgedIn X Tree

@@ -5,12 +5,9 @@ use Rattle.dk_model.specs.PlainEntries.{Pattern, Patterns, PlainRule, PlainSigna
 use Rattle.dk_model.specs.Typing.{Judged, by_units}
 use Rattle.dk_model.specs.Bindings.{Bindings}
 use Rattle.dk_model.specs.RuleTypingOver as over
-pub use Rattle.dk_model.specs.RuleTypingOver.{Guard, Found, Walked, Posed, found_type, with_type, with_wildcard, with_guard, with_bindings, type_or_kind, all_types, types_under, outermost_first, occurrence, guard_walked, abstraction_over, nothing_found, patterns_of, convertible, allowed}
+pub use Rattle.dk_model.specs.RuleTypingOver.{Guard, Found, Walked, Posed, found_type, with_type, with_wildcard, with_guard, with_bindings, type_or_kind, all_types, types_under, outermost_first, occurrence, guard_walked, abstraction_over, nothing_found, patterns_of, allowed}
 
 module _ (S : PlainSignature) where
-  abbrev pub as_convertible : Tree → Tree → ℕ → Judged (Unit {0})
-  as_convertible = over.as_convertible (by_units S)
-
   abbrev pub confined : ℕ → List ℕ → Tree → ℕ → Judged Tree
   confined = over.confined (by_units S)
 

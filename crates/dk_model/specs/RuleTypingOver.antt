@@ -8,7 +8,7 @@ use Rattle.dk_model.specs.PlainEntries.{Pattern, Patterns, no_patterns, more_pat
 use Rattle.dk_model.specs.Spines.{applied}
 use Rattle.dk_model.specs.Captures.{mentions_others, renamed}
 use Rattle.dk_model.specs.Bindings.{Bindings, under}
-use Rattle.dk_model.specs.TypingOver.{Evaluator, JudgedIn, answer, refused, after, next, symbol_type, variable_type, as_product, checked}
+use Rattle.dk_model.specs.TypingOver.{Evaluator, JudgedIn, answer, refused, after, next, symbol_type, variable_type, as_product, as_convertible, checked}
 use Rattle.dk_model.specs.declared.code.Code.TheVariants.{E34, E35}
 
 -- ---- what a walk has found
@@ -92,19 +92,11 @@ abbrev pub patterns_of : List Pattern → Patterns
 patterns_of [] = no_patterns
 patterns_of (p ∷ ps) = more_patterns p (patterns_of ps)
 
--- yes, else E34
-abbrev pub convertible : {X : Type 0} → Bool → X → JudgedIn X (Unit {0})
-convertible true n = answer tt n
-convertible false n = refused E34 n
-
 -- a type that of the `d` variables of the pattern mentions only these, else E35
 abbrev pub allowed : {X : Type 0} → ℕ → List ℕ → Tree → X → JudgedIn X Tree
 allowed d xs T n = if mentions_others 0 d xs T then refused E35 n else answer T n
 
 module _ {X : Type 0} (E : Evaluator X) where
-  abbrev pub as_convertible : Tree → Tree → X → JudgedIn X (Unit {0})
-  as_convertible T U n = after (E.same n T U) convertible
-
   -- ---- a rule variable
 
   -- a type that may mention, of the `d` variables of the pattern, only these: its normal form where it mentions another
@@ -156,7 +148,7 @@ module _ {X : Type 0} (E : Evaluator X) where
 
   -- each annotation of a rule variable that has a type is convertible with it, both under the bindings
   abbrev pub notes_agree : Bindings → List (Option Tree) → List (Option Tree) → X → JudgedIn X (Unit {0})
-  notes_agree s (Some a ∷ notes) (Some T ∷ types) n = next (as_convertible (under s (erased a)) (under s T) n) (λ u m. notes_agree s notes types m)
+  notes_agree s (Some a ∷ notes) (Some T ∷ types) n = next (as_convertible E E34 (under s (erased a)) (under s T) n) (λ u m. notes_agree s notes types m)
   notes_agree s (a ∷ notes) (T ∷ types) n = notes_agree s notes types n
   notes_agree s notes types n = answer tt n
 

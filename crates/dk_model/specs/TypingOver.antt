@@ -66,10 +66,10 @@ abbrev pub the_star : {X : Type 0} → Tree → X → JudgedIn X (Unit {0})
 the_star star n = answer tt n
 the_star t n = refused E22 n
 
--- yes, else E21
-abbrev pub agreed : {X : Type 0} → Bool → X → JudgedIn X (Unit {0})
-agreed true n = answer tt n
-agreed false n = refused E21 n
+-- yes, else this code
+abbrev pub agreed : {X : Type 0} → Code → Bool → X → JudgedIn X (Unit {0})
+agreed c true n = answer tt n
+agreed c false n = refused c n
 
 -- the type of an abstraction whose body has the type B, which isn't `Kind`
 abbrev pub not_kind : {X : Type 0} → Tree → X → JudgedIn X Tree
@@ -94,13 +94,13 @@ module _ {X : Type 0} (E : Evaluator X) where
   abbrev pub as_star : Tree → X → JudgedIn X (Unit {0})
   as_star T n = after (E.whnf n T) the_star
 
-  -- the comparison of two types
-  abbrev pub as_same : Tree → Tree → X → JudgedIn X (Unit {0})
-  as_same T U n = after (E.same n T U) agreed
+  -- the comparison of two terms, which must be the same
+  abbrev pub as_convertible : Code → Tree → Tree → X → JudgedIn X (Unit {0})
+  as_convertible c T U n = after (E.same n T U) (agreed c)
 
   -- any term but an abstraction, whose type was inferred, against the type T
   abbrev pub against : Tree → JudgedIn X Tree → JudgedIn X (Unit {0})
-  against T x = next x (λ U n. as_same U T n)
+  against T x = next x (λ U n. as_convertible E21 U T n)
 
   -- the type of `f a` where `f` has the type F and `fits` checks `a`: the codomain with `a` in it
   abbrev pub application_type : (Tree → X → JudgedIn X (Unit {0})) → Tree → Tree → X → JudgedIn X Tree
@@ -116,7 +116,7 @@ module _ {X : Type 0} (E : Evaluator X) where
 
   -- an abstraction over the domain `d` of type s against the product of A, where `fits` checks the body
   abbrev pub annotated_fits : (X → JudgedIn X (Unit {0})) → Tree → Tree → Tree → X → JudgedIn X (Unit {0})
-  annotated_fits fits d A s n = next (as_star s n) (λ u m. next (as_same (erased d) A m) (λ v i. fits i))
+  annotated_fits fits d A s n = next (as_star s n) (λ u m. next (as_convertible E21 (erased d) A m) (λ v i. fits i))
 
   -- `V` has the types of the rule variables, `G` those of the bound variables, the innermost first
   module _ (S : PlainSignature) (V : List Tree) where

@@ -4,8 +4,8 @@ use Rattle.dk_model.specs.Trees.{Tree, bare, annotated, product}
 use Rattle.dk_model.specs.Substitution.{substitute}
 use Rattle.dk_model.specs.Erasure.{erased}
 use Rattle.dk_model.specs.Signatures.{PlainSignature}
-use Rattle.dk_model.specs.Typing.{Judged, by_units, answer, refused, ended, next, not_kind, as_product, as_sort, as_star, as_same, inferred, checked, sort_of, is_abstraction}
-use Rattle.dk_model.specs.declared.code.Code.TheVariants.{E20, E24}
+use Rattle.dk_model.specs.Typing.{Judged, by_units, answer, refused, ended, next, not_kind, as_product, as_sort, as_star, as_convertible, inferred, checked, sort_of, is_abstraction}
+use Rattle.dk_model.specs.declared.code.Code.TheVariants.{E20, E21, E24}
 use Rattle.dk_model.proofs.Inference.{checked_by_inference}
 use Rattle.dk_model.specs.declared.stop.TypeFault.{TypeFault}
 use Rattle.dk_model.specs.declared.stop.TypeFault.TheVariants.{Refused, Ended, NoMemory}
@@ -113,7 +113,7 @@ module _ (S : PlainSignature) (V G : List Tree) where
   pub check_infer_fails : (f : TypeFault) (spare : ℕ) (t T : Tree) (n : ℕ) → is_abstraction t ≡ false → Fails f spare (inferred S V G t n) → Fails f spare (checked S V G t T n)
   check_infer_fails f spare t T n e h = fails_is f spare _ _ (checked_by_inference (by_units S) S V G t T n e) (fails_next f spare (inferred S V G t n) _ h)
 
-  pub check_same : (t T U : Tree) (n m : ℕ) → is_abstraction t ≡ false → inferred S V G t n ≡ answer U m → checked S V G t T n ≡ as_same S U T m
+  pub check_same : (t T U : Tree) (n m : ℕ) → is_abstraction t ≡ false → inferred S V G t n ≡ answer U m → checked S V G t T n ≡ as_convertible S E21 U T m
   check_same t T U n m e q = checked_by_inference (by_units S) S V G t T n e ∙ goes (inferred S V G t n) U m _ q
 
   -- a bare abstraction
@@ -134,7 +134,7 @@ module _ (S : PlainSignature) (V G : List Tree) where
   annotated_product_fails f spare d b T n h = fails_next f spare (as_product S E24 T n) _ h
 
   abbrev of_annotated : Tree → Tree → Tree → Tree → Unit {0} → ℕ → Judged (Unit {0})
-  of_annotated d b A B u n = next (as_same S (erased d) A n) (λ v i. checked S V (A ∷ G) b B i)
+  of_annotated d b A B u n = next (as_convertible S E21 (erased d) A n) (λ v i. checked S V (A ∷ G) b B i)
 
   pub annotated_domain : (d b T A B : Tree) (n m : ℕ) → as_product S E24 T n ≡ answer (A, B) m → checked S V G (annotated d b) T n ≡ next (domain_fits S V G d m) (of_annotated d b A B)
   annotated_domain d b T A B n m e = goes (as_product S E24 T n) (A, B) m _ e ∙ flip (next_next (inferred S V G d m) (as_star S) (of_annotated d b A B))
@@ -143,22 +143,22 @@ module _ (S : PlainSignature) (V G : List Tree) where
   annotated_domain_fails f spare d b T A B n m e h = fails_is f spare _ _ (annotated_domain d b T A B n m e) (fails_next f spare (domain_fits S V G d m) (of_annotated d b A B) h)
 
   pub annotated_same : (d b T A B : Tree) (n m i : ℕ) → as_product S E24 T n ≡ answer (A, B) m → domain_fits S V G d m ≡ answer tt i
-      → checked S V G (annotated d b) T n ≡ next (as_same S (erased d) A i) (λ v j. checked S V (A ∷ G) b B j)
+      → checked S V G (annotated d b) T n ≡ next (as_convertible S E21 (erased d) A i) (λ v j. checked S V (A ∷ G) b B j)
   annotated_same d b T A B n m i e q = annotated_domain d b T A B n m e ∙ goes (domain_fits S V G d m) tt i (of_annotated d b A B) q
 
   pub annotated_same_fails : (f : TypeFault) (spare : ℕ) (d b T A B : Tree) (n m i : ℕ) → as_product S E24 T n ≡ answer (A, B) m → domain_fits S V G d m ≡ answer tt i
-      → Fails f spare (as_same S (erased d) A i) → Fails f spare (checked S V G (annotated d b) T n)
-  annotated_same_fails f spare d b T A B n m i e q h = fails_is f spare _ _ (annotated_same d b T A B n m i e q) (fails_next f spare (as_same S (erased d) A i) _ h)
+      → Fails f spare (as_convertible S E21 (erased d) A i) → Fails f spare (checked S V G (annotated d b) T n)
+  annotated_same_fails f spare d b T A B n m i e q h = fails_is f spare _ _ (annotated_same d b T A B n m i e q) (fails_next f spare (as_convertible S E21 (erased d) A i) _ h)
 
-  pub annotated_body : (d b T A B : Tree) (n m i j : ℕ) → as_product S E24 T n ≡ answer (A, B) m → domain_fits S V G d m ≡ answer tt i → as_same S (erased d) A i ≡ answer tt j
+  pub annotated_body : (d b T A B : Tree) (n m i j : ℕ) → as_product S E24 T n ≡ answer (A, B) m → domain_fits S V G d m ≡ answer tt i → as_convertible S E21 (erased d) A i ≡ answer tt j
       → checked S V G (annotated d b) T n ≡ checked S V (A ∷ G) b B j
-  annotated_body d b T A B n m i j e q r = annotated_same d b T A B n m i e q ∙ goes (as_same S (erased d) A i) tt j _ r
+  annotated_body d b T A B n m i j e q r = annotated_same d b T A B n m i e q ∙ goes (as_convertible S E21 (erased d) A i) tt j _ r
 
-  pub annotated_body_fails : (f : TypeFault) (spare : ℕ) (d b T A B : Tree) (n m i j : ℕ) → as_product S E24 T n ≡ answer (A, B) m → domain_fits S V G d m ≡ answer tt i → as_same S (erased d) A i ≡ answer tt j
+  pub annotated_body_fails : (f : TypeFault) (spare : ℕ) (d b T A B : Tree) (n m i j : ℕ) → as_product S E24 T n ≡ answer (A, B) m → domain_fits S V G d m ≡ answer tt i → as_convertible S E21 (erased d) A i ≡ answer tt j
       → Fails f spare (checked S V (A ∷ G) b B j) → Fails f spare (checked S V G (annotated d b) T n)
   annotated_body_fails f spare d b T A B n m i j e q r h = fails_is f spare _ _ (annotated_body d b T A B n m i j e q r) h
 
-  pub annotated_given : (d b T A B : Tree) (n m i j k : ℕ) → as_product S E24 T n ≡ answer (A, B) m → domain_fits S V G d m ≡ answer tt i → as_same S (erased d) A i ≡ answer tt j
+  pub annotated_given : (d b T A B : Tree) (n m i j k : ℕ) → as_product S E24 T n ≡ answer (A, B) m → domain_fits S V G d m ≡ answer tt i → as_convertible S E21 (erased d) A i ≡ answer tt j
       → checked S V (A ∷ G) b B j ≡ answer tt k → checked S V G (annotated d b) T n ≡ answer tt k
   annotated_given d b T A B n m i j k e q r h = annotated_body d b T A B n m i j e q r ∙ h
 

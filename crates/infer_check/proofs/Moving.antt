@@ -3,7 +3,8 @@ use Rattle.std.proofs.Common.{List, [], ◌∷◌, ◌++◌, ◌≡◌, ◌+◌,
 use Rattle.std.specs.Prelude.{Result}
 use Rattle.dk_model.specs.Trees.{Tree, bare, annotated}
 use Rattle.dk_model.specs.Signatures.{PlainSignature}
-use Rattle.dk_model.specs.Typing.{Judged, inferred, checked, as_same, is_abstraction}
+use Rattle.dk_model.specs.Typing.{Judged, inferred, checked, as_convertible, is_abstraction}
+use Rattle.dk_model.specs.declared.code.Code.TheVariants.{E21}
 use Rattle.dk_model.specs.declared.node.NodeOf.{NodeOf}
 use Rattle.dk_model.specs.declared.node.NodeOf.TheVariants.{Star, Kind, Sym, Var, Rvar, App, Abs, Prod}
 use Rattle.dk_model.specs.declared.stop.TypeFault.{TypeFault}
@@ -53,8 +54,8 @@ module _ (S : PlainSignature) where
   argument_same {V} {W} {G} {H} {a} {b} {A} {B} n e f g h = ap (λ x. argument_type S x G a A n) e ∙ ap (λ x. argument_type S W x a A n) f ∙ ap (λ x. argument_type S W H x A n) g
       ∙ ap (λ x. argument_type S W H b x n) h
 
-  pub same_same : {A B C D : Tree} (n : ℕ) → A ≡ B → C ≡ D → as_same S A C n ≡ as_same S B D n
-  same_same {A} {B} {C} {D} n e f = ap (λ x. as_same S x C n) e ∙ ap (λ x. as_same S B x n) f
+  pub same_same : {A B C D : Tree} (n : ℕ) → A ≡ B → C ≡ D → as_convertible S E21 A C n ≡ as_convertible S E21 B D n
+  same_same {A} {B} {C} {D} n e f = ap (λ x. as_convertible S E21 x C n) e ∙ ap (λ x. as_convertible S E21 B x n) f
 
 pub fit_is : {x y : Judged (Unit {0})} (o : Result Unit TypeFault) (n : ℕ) → x ≡ y → GivesFit y o n → GivesFit x o n
 fit_is o n e h = subst (λ (z : Judged (Unit {0})). GivesFit z o n) (flip e) h

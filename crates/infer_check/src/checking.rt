@@ -5,7 +5,7 @@ ghost use Rattle.infer_check.specs.Clauses.{Checks};
 ghost use Rattle.infer_check.specs.Walks.{IsReady, Continues};
 
 use crate::Walk;
-use crate::expect::{as_same, into_product};
+use crate::expect::{Compared, as_convertible, into_product};
 use crate::inference::{infer_domain, infer_node};
 use dk_model::{Code, NodeOf, TypeFault};
 use signature_log::{Reducer, Version};
@@ -77,7 +77,12 @@ pub(crate) fn check_taken<R: Reducer>(
         },
         other => {
             let found = infer_node(r, version, walk, other)?;
-            as_same(r, version, &found, &expected, &mut walk.left)
+            let compared = Compared {
+                code: Code::E21,
+                found: &found,
+                expected: &expected,
+            };
+            as_convertible(r, version, compared, &mut walk.left)
         }
     }
 }
@@ -143,7 +148,12 @@ fn check_annotated<R: Reducer>(
     let function = into_product(r, version, Code::E24, expected, &mut walk.left)?;
     let erased = r.erase(&annotation)?;
     infer_domain(r, version, walk, annotation)?;
-    as_same(r, version, &erased, &function.domain, &mut walk.left)?;
+    let compared = Compared {
+        code: Code::E21,
+        found: &erased,
+        expected: &function.domain,
+    };
+    as_convertible(r, version, compared, &mut walk.left)?;
     walk.context.bind(function.domain)?;
     let fits = check_taken(r, version, walk, body, function.codomain);
     let _domain = walk.context.leave();

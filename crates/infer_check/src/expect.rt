@@ -1,7 +1,7 @@
 //! What typing asks of a type: that its weak head form is a product or a sort, or that it is convertible with another.
 ghost use Rattle.std.specs.Prelude.{◌≤◌, ℕ};
 ghost use Rattle.dk_model.specs.Signatures.{PlainSignature};
-ghost use Rattle.dk_model.specs.Typing.{as_product, as_sort, as_star, as_same, not_kind};
+ghost use Rattle.dk_model.specs.Typing.{as_product, as_sort, as_star, as_convertible, not_kind};
 ghost use Rattle.signature_log.specs.Versions.{entries_of};
 ghost use Rattle.signature_log.specs.Reducers.{Keeps};
 ghost use Rattle.infer_check.specs.Given.{GivesProduct, GivesType, GivesFit};
@@ -96,27 +96,35 @@ pub fn as_star<R: Reducer>(
     }
 }
 
-/// The type of a term, which must be convertible with the one that is expected (E21).
+/// Two terms that must be convertible, and the code where they aren't.
+#[derive(Drop)]
+pub struct Compared<'a, T> {
+    pub code: Code,
+    pub found: &'a T,
+    pub expected: &'a T,
+}
+
+/// That two terms are convertible.
 #[tactic(auto, using(crate::proofs::Walks::follows))]
-pub fn as_same<R: Reducer>(
+pub fn as_convertible<R: Reducer>(
     r: &mut R,
     version: &Version,
-    found: &R::T,
-    expected: &R::T,
+    compared: Compared<R::T>,
     left: &mut u64,
 ) -> Result<(), TypeFault>
-    requires own { R.owns r.old found.now }
-    requires other { R.owns r.old expected.now }
+    requires own { R.owns r.old compared.found.now }
+    requires other { R.owns r.old compared.expected.now }
     requires serves { R.serves (entries_of version.now) r.old }
-    ensures gives { GivesFit (as_same (entries_of version.now)
-        (R.denotes r.old found.now) (R.denotes r.old expected.now) left.old) result left.new }
+    ensures gives { GivesFit (as_convertible (entries_of version.now) compared.entry.code
+        (R.denotes r.old compared.entry.found.now) (R.denotes r.old compared.entry.expected.now)
+        left.old) result left.new }
     ensures follows { Follows R.owns R.denotes R.serves (entries_of version.now) r.old r.new }
     ensures spent { left.new ≤ left.old }
 {
-    if r.same(version, found, expected, left)? {
+    if r.same(version, compared.found, compared.expected, left)? {
         Ok(())
     } else {
-        Err(TypeFault::Refused(Code::E21))
+        Err(TypeFault::Refused(compared.code))
     }
 }
 

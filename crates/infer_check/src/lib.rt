@@ -16,7 +16,7 @@ mod walk;
 
 pub use checking::check;
 pub use context::Context;
-pub use expect::{as_product, as_same, into_product, not_kind};
+pub use expect::{Compared, as_convertible, as_product, into_product, not_kind};
 pub use inference::{infer, sort_of};
 pub use product::Product;
 pub use variables::{symbol_type, variable_type};

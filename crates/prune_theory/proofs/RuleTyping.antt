@@ -5,14 +5,14 @@ use Rattle.dk_model.specs.PlainEntries.{Pattern, Patterns, PlainRule, PlainSigna
 use Rattle.dk_model.specs.Captures.{renamed}
 use Rattle.dk_model.specs.Bindings.{Bindings}
 use Rattle.dk_model.specs.Typing.{by_units, answer, next}
-use Rattle.dk_model.specs.RuleTyping.{Guard, Found, Walked, Posed, found_type, with_type, with_wildcard, with_guard, with_bindings, type_or_kind, all_types, types_under, outermost_first, occurrence, guard_walked, abstraction_over, nothing_found, patterns_of, convertible, allowed, as_convertible, confined, bound_type, first_type, later_type, first_typed, rule_variable_walked, wildcard_walked, as_expected, walked, spine_walked, notes_agree, guards_fit, sides_fit, rule_checked, rules_typed}
+use Rattle.dk_model.specs.RuleTyping.{Guard, Found, Walked, Posed, found_type, with_type, with_wildcard, with_guard, with_bindings, type_or_kind, all_types, types_under, outermost_first, occurrence, guard_walked, abstraction_over, nothing_found, patterns_of, allowed, confined, bound_type, first_type, later_type, first_typed, rule_variable_walked, wildcard_walked, as_expected, walked, spine_walked, notes_agree, guards_fit, sides_fit, rule_checked, rules_typed}
 use Rattle.dk_model.specs.declared.code.Code.TheVariants.{E34}
 use Rattle.prune_theory.specs.Alike.{Each, none_left, one_more, Maybe, neither, both, InJudged, both_answer, both_refused, Alike, alike_kind, alike_symbol, alike_variable, alike_rule_variable, alike_apply, alike_bare, alike_product, AlikePattern, alike_rule_variable_pattern, alike_wildcard_pattern, alike_guard_pattern, alike_symbol_pattern, alike_variable_pattern, alike_abstraction_pattern, AlikePatterns, alike_no_patterns, alike_more_patterns, AlikeRule, alike_rule, AreSimilar}
 use Rattle.prune_theory.proofs.Lists.{if_alike, option_alike, each_append, each_get, each_length, each_map, each_set, each_replicate}
 use Rattle.prune_theory.proofs.Terms.{substitute_alike, erased_alike, applied_alike, mentions_alike, renamed_alike}
 use Rattle.prune_theory.proofs.Bindings.{AlikeBindings, under_alike, all_under_alike}
-use Rattle.prune_theory.proofs.Evaluation.{comparison_alike, normal_alike}
-use Rattle.prune_theory.proofs.Typing.{after_alike, next_alike, Passes, variable_type_alike, placed_alike, as_product_alike, checked_alike}
+use Rattle.prune_theory.proofs.Evaluation.{normal_alike}
+use Rattle.prune_theory.proofs.Typing.{after_alike, next_alike, Passes, variable_type_alike, placed_alike, as_product_alike, as_convertible_alike, checked_alike}
 use Rattle.prune_theory.proofs.Solving.{solved_alike}
 
 pub data AlikeGuard (Q : ℕ → ℕ → Type 0) : Guard → Guard → Type 0 where
@@ -27,13 +27,6 @@ pub data AlikeWalked (Q : ℕ → ℕ → Type 0) : Walked → Walked → Type 0
 
 pub data AlikePosed (Q : ℕ → ℕ → Type 0) : Posed → Posed → Type 0 where
   alike_posed : {T U : Tree} {s r : Bindings} → Alike Q T U → AlikeBindings Q s r → AlikePosed Q (record { typ = T; bindings = s }) (record { typ = U; bindings = r })
-
-convertible_alike : (b c : Bool) → b ≡ c → (n : ℕ) → Passes (convertible b n) (convertible c n)
-convertible_alike b c e n = subst (λ z. Passes (convertible b n) (convertible z n)) e (itself b)
-  where
-    itself : (b : Bool) → Passes (convertible b n) (convertible b n)
-    itself true = both_answer refl
-    itself false = both_refused
 
 module _ {Q : ℕ → ℕ → Type 0} where
   allowed_alike : (d : ℕ) (xs : List ℕ) (n : ℕ) {T U : Tree} → Alike Q T U → InJudged (Alike Q) (allowed d xs T n) (allowed d xs U n)
@@ -85,9 +78,6 @@ module _ {Q : ℕ → ℕ → Type 0} where
   types_length (alike_found ts gs s) = each_length ts
 
 module _ {Q : ℕ → ℕ → Type 0} {S S' : PlainSignature} (similar : AreSimilar Q S S') where
-  as_convertible_alike : (n : ℕ) {T T' U U' : Tree} → Alike Q T T' → Alike Q U U' → Passes (as_convertible S T U n) (as_convertible S' T' U' n)
-  as_convertible_alike n p q = after_alike (comparison_alike similar n p q) (λ b c m r. convertible_alike b c r m)
-
   confined_alike : (d : ℕ) (xs : List ℕ) (n : ℕ) {T U : Tree} → Alike Q T U → InJudged (Alike Q) (confined S d xs T n) (confined S' d xs U n)
   confined_alike d xs n p = if_alike (InJudged (Alike Q)) _ _ _ _ _ _ (mentions_alike 0 d xs p) (after_alike (normal_alike similar n p) (λ t u m r. allowed_alike d xs m r)) (both_answer p)
 
@@ -159,7 +149,7 @@ module _ {Q : ℕ → ℕ → Type 0} {S S' : PlainSignature} (similar : AreSimi
   notes_alike n s (one_more (both a) ns) none_left = both_answer refl
   notes_alike n s (one_more neither ns) (one_more t ts) = notes_alike n s ns ts
   notes_alike n s (one_more (both a) ns) (one_more neither ts) = notes_alike n s ns ts
-  notes_alike n s (one_more (both a) ns) (one_more (both t) ts) = next_alike (as_convertible_alike n (under_alike s (erased_alike a)) (under_alike s t)) (λ u v m r. notes_alike m s ns ts)
+  notes_alike n s (one_more (both a) ns) (one_more (both t) ts) = next_alike (as_convertible_alike similar E34 n (under_alike s (erased_alike a)) (under_alike s t)) (λ u v m r. notes_alike m s ns ts)
 
   guards_alike : (n : ℕ) {s r : Bindings} {V W : List Tree} {gs hs : List Guard} → AlikeBindings Q s r → Each (Alike Q) V W → Each (AlikeGuard Q) gs hs
       → Passes (guards_fit S s V gs n) (guards_fit S' r W hs n)

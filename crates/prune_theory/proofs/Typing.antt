@@ -5,9 +5,9 @@ use Rattle.dk_model.specs.Substitution.{shift}
 use Rattle.dk_model.specs.PlainEntries.{PlainSignature}
 use Rattle.dk_model.specs.Units.{Units}
 use Rattle.dk_model.specs.TypingOver as over
-use Rattle.dk_model.specs.Typing.{Judged, by_units, after, next, parts_of_product, a_sort, the_star, agreed, not_kind, variable_type, rule_variable_type, as_product, as_sort, as_star, as_same, against, application_type, inferred, checked, sort_of}
+use Rattle.dk_model.specs.Typing.{Judged, by_units, after, next, parts_of_product, a_sort, the_star, agreed, not_kind, variable_type, rule_variable_type, as_product, as_sort, as_star, as_convertible, against, application_type, inferred, checked, sort_of}
 use Rattle.dk_model.specs.declared.code.Code.{Code}
-use Rattle.dk_model.specs.declared.code.Code.TheVariants.{E20, E24}
+use Rattle.dk_model.specs.declared.code.Code.TheVariants.{E20, E21, E24}
 use Rattle.prune_theory.specs.Alike.{Each, one_more, InUnits, both_end, both_give, InJudged, both_answer, both_refused, both_ended, Alike, alike_star, alike_kind, alike_symbol, alike_variable, alike_rule_variable, alike_apply, alike_bare, alike_annotated, alike_product, AreSimilar}
 use Rattle.prune_theory.proofs.Lists.{option_alike, each_get, each_length}
 use Rattle.prune_theory.proofs.Terms.{AlikePair, shift_alike, substitute_alike, erased_alike}
@@ -63,10 +63,10 @@ module _ {Q : ℕ → ℕ → Type 0} where
   pub placed_alike : {G H : List Tree} {t u : Tree} → Each (Alike Q) G H → Alike Q t u → Alike Q (shift 0 (length G) t) (shift 0 (length H) u)
   placed_alike {G} {t} {u} g p = subst (λ z. Alike Q (shift 0 (length G) t) (shift 0 z u)) (each_length g) (shift_alike 0 (length G) p)
 
-agreed_alike : (b c : Bool) → b ≡ c → (n : ℕ) → Passes (agreed b n) (agreed c n)
-agreed_alike b c e n = subst (λ z. Passes (agreed b n) (agreed z n)) e (itself b)
+agreed_alike : (code : Code) (b c : Bool) → b ≡ c → (n : ℕ) → Passes (agreed code b n) (agreed code c n)
+agreed_alike code b c e n = subst (λ z. Passes (agreed code b n) (agreed code z n)) e (itself b)
   where
-    itself : (b : Bool) → Passes (agreed b n) (agreed b n)
+    itself : (b : Bool) → Passes (agreed code b n) (agreed code b n)
     itself true = both_answer refl
     itself false = both_refused
 
@@ -80,11 +80,11 @@ module _ {Q : ℕ → ℕ → Type 0} {S S' : PlainSignature} (similar : AreSimi
   as_star_alike : (n : ℕ) {T U : Tree} → Alike Q T U → Passes (as_star S T n) (as_star S' U n)
   as_star_alike n p = after_alike (whnf_alike similar n p) (λ t u m r. star_alike m r)
 
-  pub as_same_alike : (n : ℕ) {T T' U U' : Tree} → Alike Q T T' → Alike Q U U' → Passes (as_same S T U n) (as_same S' T' U' n)
-  as_same_alike n p q = after_alike (comparison_alike similar n p q) (λ b c m r. agreed_alike b c r m)
+  pub as_convertible_alike : (c : Code) (n : ℕ) {T T' U U' : Tree} → Alike Q T T' → Alike Q U U' → Passes (as_convertible S c T U n) (as_convertible S' c T' U' n)
+  as_convertible_alike c n p q = after_alike (comparison_alike similar n p q) (λ b d m r. agreed_alike c b d r m)
 
   against_alike : {T U : Tree} {x y : Judged Tree} → Alike Q T U → InJudged (Alike Q) x y → Passes (against S T x) (against S' U y)
-  against_alike p h = next_alike h (λ a b n r. as_same_alike n r p)
+  against_alike p h = next_alike h (λ a b n r. as_convertible_alike E21 n r p)
 
   application_alike : (n : ℕ) {fits fits' : Tree → ℕ → Judged (Unit {0})} {a b F G : Tree} → ((A B : Tree) (m : ℕ) → Alike Q A B → Passes (fits A m) (fits' B m)) → Alike Q a b → Alike Q F G
       → InJudged (Alike Q) (application_type S fits a F n) (application_type S' fits' b G n)
@@ -100,7 +100,7 @@ module _ {Q : ℕ → ℕ → Type 0} {S S' : PlainSignature} (similar : AreSimi
 
   annotated_alike : (n : ℕ) {fits fits' : ℕ → Judged (Unit {0})} {d d' A A' s s' : Tree} → ((m : ℕ) → Passes (fits m) (fits' m)) → Alike Q d d' → Alike Q A A' → Alike Q s s'
       → Passes (over.annotated_fits (by_units S) fits d A s n) (over.annotated_fits (by_units S') fits' d' A' s' n)
-  annotated_alike n k d a p = next_alike (as_star_alike n p) (λ u v m r. next_alike (as_same_alike m (erased_alike d) a) (λ x y i s. k i))
+  annotated_alike n k d a p = next_alike (as_star_alike n p) (λ u v m r. next_alike (as_convertible_alike E21 m (erased_alike d) a) (λ x y i s. k i))
 
   module _ {V V' : List Tree} (vs : Each (Alike Q) V V') where
     mutual

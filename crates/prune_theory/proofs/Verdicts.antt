@@ -9,11 +9,12 @@ use Rattle.dk_model.specs.Verdicts.{verdict, body_checked, body_type, declaratio
 use Rattle.dk_model.specs.declared.signature.SymSort.{SymSort}
 use Rattle.dk_model.specs.declared.signature.SymSort.TheVariants.{Static, Definable, Theorem}
 use Rattle.dk_model.specs.declared.code.Code.{Code}
+use Rattle.dk_model.specs.declared.code.Code.TheVariants.{E21}
 use Rattle.prune_theory.specs.Alike.{Each, none_left, one_more, Maybe, neither, both, InJudged, both_answer, both_refused, both_ended, InResult, both_ok, both_err, Alike, alike_kind, alike_apply, alike_bare, alike_annotated, alike_product, AlikePattern, alike_rule_variable_pattern, alike_wildcard_pattern, alike_guard_pattern, alike_symbol_pattern, alike_variable_pattern, alike_abstraction_pattern, AlikePatterns, alike_no_patterns, alike_more_patterns, AlikeRule, alike_rule, AlikeEntry, alike_symbol_entry, alike_rules_entry, AlikeLeft, alike_left_symbol, alike_left_rule_variable, alike_left_variable, alike_left_wildcard, alike_left_guard, alike_left_abstraction, alike_left_apply, AlikeScopedRule, alike_scoped_rule, AlikeAsked, alike_typed, alike_alike, alike_type_of, alike_value_of, AlikeFinding, alike_yes, alike_no, alike_of_type, alike_value, AlikeCommand, alike_declare, alike_rule_command, alike_query, AreSimilar}
 use Rattle.prune_theory.proofs.Lists.{if_alike, option_alike, each_map}
 use Rattle.prune_theory.proofs.Terms.{erased_alike}
 use Rattle.prune_theory.proofs.Matrix.{list_alike}
-use Rattle.prune_theory.proofs.Typing.{after_alike, next_alike, Passes, inferred_alike, checked_alike, sort_of_alike, as_same_alike, not_kind_alike}
+use Rattle.prune_theory.proofs.Typing.{after_alike, next_alike, Passes, inferred_alike, checked_alike, sort_of_alike, as_convertible_alike, not_kind_alike}
 use Rattle.prune_theory.proofs.Evaluation.{normal_alike}
 use Rattle.prune_theory.proofs.RuleTyping.{rules_typed_alike}
 
@@ -203,7 +204,7 @@ module _ {Q : ℕ → ℕ → Type 0} {S S' : PlainSignature} (similar : AreSimi
 
   compared_alike : (n : ℕ) {t u v w : Tree} → Alike Q t u → Alike Q v w → Passes (compared S t v n) (compared S' u w n)
   compared_alike n p q = next_alike (inferred_alike similar none_left n none_left p) (λ T U m r. next_alike (inferred_alike similar none_left m none_left q) (λ F G i s.
-      as_same_alike similar i (erased_alike p) (erased_alike q)))
+      as_convertible_alike similar E21 i (erased_alike p) (erased_alike q)))
 
   evaluated_alike : (n : ℕ) {t u : Tree} → Alike Q t u → InJudged (Alike Q) (evaluated S t n) (evaluated S' u n)
   evaluated_alike n p = next_alike (inferred_alike similar none_left n none_left p) (λ T U m r. after_alike (normal_alike similar m (erased_alike p)) (λ v w i s. both_answer s))

@@ -3,11 +3,11 @@ use Rattle.std.specs.Prelude.{ℕ, List, Option, Some, None, length, slice_get}
 use Rattle.dk_model.specs.Trees.{Tree, variable, apply}
 use Rattle.dk_model.specs.Substitution.{shift, substitute}
 use Rattle.dk_model.specs.Signatures.{Pattern, PlainSignature}
-use Rattle.dk_model.specs.Typing.{Judged, answer, next, as_product, variable_type}
+use Rattle.dk_model.specs.Typing.{Judged, answer, next, as_product, as_convertible, variable_type}
 use Rattle.dk_model.specs.Erasure.{erased}
 use Rattle.dk_model.specs.Bindings.{Bindings, under}
 use Rattle.dk_model.specs.Solving.{solved}
-use Rattle.dk_model.specs.RuleTyping.{Found, Walked, Posed, with_type, with_bindings, as_convertible, first_typed, later_type, walked}
+use Rattle.dk_model.specs.RuleTyping.{Found, Walked, Posed, with_type, with_bindings, first_typed, later_type, walked}
 use Rattle.dk_model.specs.declared.code.Code.TheVariants.{E34}
 
 -- what stands at a place, where something does
@@ -39,6 +39,6 @@ module _ (S : PlainSignature) (G : List Tree) where
 
 -- whether an annotation agrees with the type of its rule variable, both under bindings
 abbrev pub note_agrees : PlainSignature → Bindings → Option Tree → Option Tree → ℕ → Judged (Unit {0})
-note_agrees S s (Some a) (Some T) n = as_convertible S (under s (erased a)) (under s T) n
+note_agrees S s (Some a) (Some T) n = as_convertible S E34 (under s (erased a)) (under s T) n
 note_agrees S s (Some a) None n = answer tt n
 note_agrees S s None o n = answer tt n

@@ -1,6 +1,6 @@
 //! What the walk of a left side asks of two types, and of the variables that a type mentions.
 ghost use Rattle.std.specs.Prelude.{◌≤◌, length};
-ghost use Rattle.dk_model.specs.RuleTyping.{as_convertible, confined};
+ghost use Rattle.dk_model.specs.RuleTyping.{confined};
 ghost use Rattle.signature_log.specs.Versions.{entries_of};
 ghost use Rattle.infer_check.specs.Given.{GivesType, GivesFit};
 ghost use Rattle.infer_check.specs.Walks.{Follows, Continues};
@@ -9,30 +9,6 @@ ghost use Rattle.rule_check.specs.Clauses.{Binds};
 use dk_model::{Code, TypeFault};
 use infer_check::Walk;
 use signature_log::{Reducer, Version};
-
-/// A type that must be convertible with another (E34).
-#[tactic(auto, using(infer_check::proofs::Walks::follows))]
-pub(crate) fn as_convertible<R: Reducer>(
-    r: &mut R,
-    version: &Version,
-    found: &R::T,
-    expected: &R::T,
-    left: &mut u64,
-) -> Result<(), TypeFault>
-    requires own { R.owns r.old found.now }
-    requires other { R.owns r.old expected.now }
-    requires serves { R.serves (entries_of version.now) r.old }
-    ensures gives { GivesFit (as_convertible (entries_of version.now)
-        (R.denotes r.old found.now) (R.denotes r.old expected.now) left.old) result left.new }
-    ensures follows { Follows R.owns R.denotes R.serves (entries_of version.now) r.old r.new }
-    ensures spent { left.new ≤ left.old }
-{
-    if r.same(version, found, expected, left)? {
-        Ok(())
-    } else {
-        Err(TypeFault::Refused(Code::E34))
-    }
-}
 
 /// A type that may mention, of the variables that the pattern binds there, only these: its normal form where it mentions
 /// another, which then must not (E35).

@@ -15,12 +15,11 @@ ghost use Rattle.rule_check.specs.Given.{GivesLeft};
 ghost use Rattle.rule_check.specs.Clauses.{notes_due, terms_due, right_due, left_due, sides_due};
 
 use crate::bindings::{copy_under, under};
-use crate::compare::as_convertible;
 use crate::found::{Bindings, Found, Left, LeftWalk};
 use crate::guards::check_guards;
 use crate::walk::{Application, symbol_head, walk_spine};
-use dk_model::{Listed, NoMemory, NodeOf, Rule, Term, TypeFault};
-use infer_check::{Context, Walk, check};
+use dk_model::{Code, Listed, NoMemory, NodeOf, Rule, Term, TypeFault};
+use infer_check::{Compared, Context, Walk, as_convertible, check};
 use signature_log::{Reducer, Version};
 
 /// That both sides of a rule have one type, that its annotations agree with the types of its variables, and that its
@@ -162,7 +161,12 @@ fn check_note<R: Reducer>(
         (Some(note), Some(typ)) => {
             let note = note_under(r, noted.bindings, note)?;
             let typ = copy_under(r, noted.bindings, typ)?;
-            as_convertible(r, version, &note, &typ, left)
+            let compared = Compared {
+                code: Code::E34,
+                found: &note,
+                expected: &typ,
+            };
+            as_convertible(r, version, compared, left)
         }
         _ => Ok(()),
     }

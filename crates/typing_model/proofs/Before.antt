@@ -5,11 +5,11 @@ use Rattle.dk_model.specs.Signatures.{PlainSignature}
 use Rattle.dk_model.specs.Evaluation.{whnf_of, comparison_of, normal_of}
 use Rattle.dk_model.specs.Bindings.{Bindings, under}
 use Rattle.dk_model.specs.Scoping.{PlainAsked, PlainFound, query}
-use Rattle.dk_model.specs.TypingOver.{answer, refused, ended, after, next}
+use Rattle.dk_model.specs.TypingOver.{agreed, answer, refused, ended, after, next}
 use Rattle.dk_model.specs.CommandTypingOver.{found_by, command_checked}
-use Rattle.dk_model.specs.RuleTypingOver.{convertible}
 use Rattle.dk_model.specs.Solving.{solved, heads_solved, unless_same}
 use Rattle.dk_model.specs.Typing.{Judged, by_units}
+use Rattle.dk_model.specs.declared.code.Code.TheVariants.{E34}
 use Rattle.dk_model.proofs.Solving.{solved_is}
 use Rattle.dk_model.proofs.RelatedTyping.{IsRespected, asked_related, command_related}
 use Rattle.typing_model.specs.Laws.{by_conversion, StaysAccepted}
@@ -32,7 +32,7 @@ after_same : {A B : Type 0} (h k : A → ℕ → Judged B) → ((a : A) → Same
 after_same h k y None = refl
 after_same h k y (Some p) = y p.0 p.1
 
-convertible_is : (b : Bool) (n m : ℕ) (u : Unit {0}) → convertible b n ≡ answer u m → (b ≡ true) × (n ≡ m)
+convertible_is : (b : Bool) (n m : ℕ) (u : Unit {0}) → agreed E34 b n ≡ answer u m → (b ≡ true) × (n ≡ m)
 convertible_is true n m u e = (refl, cc)
 convertible_is false n m u e = cc
 
@@ -41,8 +41,8 @@ unless_yes x s b n m e q = ap (λ y. unless_same x s y n) e ∙ ap (answer s) q
 
 module _ (S : PlainSignature) where
   solve_answers : (s : Bindings) (t u : Tree) → Answers Bindings (λ n. (by_conversion S).solve n s t u) (λ n. (by_units S).solve n s t u)
-  solve_answers s t u n m r e = from_next (solved S s t u n ≡ answer r m) (after (comparison_of S n (under s t) (under s u)) convertible) (λ v i. answer s i) r m e (λ v i e1 h.
-      from_after (solved S s t u n ≡ answer r m) (comparison_of S n (under s t) (under s u)) convertible v i e1 (λ p e2 h'.
+  solve_answers s t u n m r e = from_next (solved S s t u n ≡ answer r m) (after (comparison_of S n (under s t) (under s u)) (agreed E34)) (λ v i. answer s i) r m e (λ v i e1 h.
+      from_after (solved S s t u n ≡ answer r m) (comparison_of S n (under s t) (under s u)) (agreed E34) v i e1 (λ p e2 h'.
       let y : (p.0 ≡ true) × (p.1 ≡ i) = convertible_is p.0 p.1 i v h' in
       solved_is S n s t u ∙ ap (λ x. after x (λ same j. unless_same (heads_solved S (solved S) s t u j) s same j)) e2
       ∙ unless_yes (heads_solved S (solved S) s t u p.1) s p.0 p.1 i y.0 y.1 ∙ h))
@@ -54,8 +54,7 @@ module _ (S : PlainSignature) where
     goes_on = λ A B f g h k x y n m b e. from_next (next (g n) k ≡ answer b m) (f n) h b m e (λ a i e1 e2. ap (λ z. next z k) (x n i a e1) ∙ y a i m b e2);
     whnf = λ B t h k y n m b e. from_after (after (whnf_of S n t) k ≡ answer b m) (whnf_of S n t) h b m e (λ p e1 e2. ap (λ z. after z k) e1 ∙ y p.0 p.1 m b e2);
     normal = λ B t h k y n m b e. from_after (after (normal_of S n t) k ≡ answer b m) (normal_of S n t) h b m e (λ p e1 e2. ap (λ z. after z k) e1 ∙ y p.0 p.1 m b e2);
-    same = λ t u n m b e. e;
-    convertible = λ t u n m b e. e;
+    same = λ c t u n m b e. e;
   }
 
   same_typing : IsRespected Same (by_conversion S) (by_units S)
@@ -65,8 +64,7 @@ module _ (S : PlainSignature) where
     goes_on = λ A B f g h k x y n. ap (λ z. next z h) (x n) ∙ next_same h k y (g n);
     whnf = λ B t h k y n. after_same h k y (whnf_of S n t);
     normal = λ B t h k y n. after_same h k y (normal_of S n t);
-    same = λ t u n. refl;
-    convertible = λ t u n. refl;
+    same = λ c t u n. refl;
   }
 
   -- a query solves no equation, so it is the same

@@ -5,12 +5,13 @@ use Rattle.dk_model.specs.Trees.{Tree}
 use Rattle.dk_model.specs.Erasure.{erased}
 use Rattle.dk_model.specs.Signatures.{PlainSignature}
 use Rattle.dk_model.specs.Scoping.{PlainAsked, typed, alike, type_of, value_of, PlainFound, yes, no, of_type, value}
+use Rattle.dk_model.specs.declared.code.Code.TheVariants.{E21}
 use Rattle.dk_model.specs.TypingOver.{Evaluator, JudgedIn, answer, refused, ended, inferred}
 use Rattle.dk_model.specs.CommandTypingOver.{or_no, declaration_checked, compared, evaluated, asked_found}
 use Rattle.typing_model.specs.Steps.{ReducesTo, AreJoinable}
 use Rattle.typing_model.specs.Laws.{Reduces}
 use Rattle.typing_model.specs.Queries.{HasSomeType, IsSo, FoundIsSo}
-use Rattle.typing_model.proofs.Typing.{from_after, from_next, same_joins, inferred_derives}
+use Rattle.typing_model.proofs.Typing.{from_after, from_next, convertible_joins, inferred_derives}
 use Rattle.typing_model.proofs.Commands.{declaration_derives}
 
 same_found : {X : Type 0} (f g : PlainFound) (n m : X) → answer f n ≡ answer g m → f ≡ g
@@ -25,7 +26,7 @@ module _ (S : PlainSignature) {X : Type 0} (E : Evaluator X) (M : Reduces S E) w
   compared_joins : (t u : Tree) (n m : X) (v : Unit {0}) → compared E S t u n ≡ answer v m → HasSomeType S t × HasSomeType S u × AreJoinable S (erased t) (erased u)
   compared_joins t u n m v e = from_next (HasSomeType S t × HasSomeType S u × AreJoinable S (erased t) (erased u)) (inferred E S [] [] t n) _ v m e (λ T i e1 g.
       from_next (HasSomeType S t × HasSomeType S u × AreJoinable S (erased t) (erased u)) (inferred E S [] [] u i) _ v m g (λ U j e2 h.
-      ((T, inferred_derives S E M [] [] t T n i e1), (U, inferred_derives S E M [] [] u U i j e2), same_joins S E M (erased t) (erased u) j m v h)))
+      ((T, inferred_derives S E M [] [] t T n i e1), (U, inferred_derives S E M [] [] u U i j e2), convertible_joins S E M E21 (erased t) (erased u) j m v h)))
 
   evaluated_reduces : (t v : Tree) (n m : X) → evaluated E S t n ≡ answer v m → HasSomeType S t × ReducesTo S (erased t) v
   evaluated_reduces t v n m e = from_next (HasSomeType S t × ReducesTo S (erased t) v) (inferred E S [] [] t n) _ v m e (λ T i e1 g.

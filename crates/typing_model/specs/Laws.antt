@@ -6,8 +6,8 @@ use Rattle.dk_model.specs.PlainEntries.{PlainRule, PlainSignature}
 use Rattle.dk_model.specs.WellFormed.{IsSignature}
 use Rattle.dk_model.specs.PlainCommands.{PlainScopedRule, PlainCommand, declare}
 use Rattle.dk_model.specs.Shapes.{shape_of}
-use Rattle.dk_model.specs.TypingOver.{Evaluator, answer, after, next, inferred, checked}
-use Rattle.dk_model.specs.RuleTypingOver.{convertible, rule_checked}
+use Rattle.dk_model.specs.TypingOver.{Evaluator, agreed, answer, after, next, inferred, checked}
+use Rattle.dk_model.specs.RuleTypingOver.{rule_checked}
 use Rattle.dk_model.specs.CommandTypingOver.{command_checked}
 use Rattle.dk_model.specs.Bindings.{Bindings, under}
 use Rattle.dk_model.specs.ByUnits.{by_units}
@@ -16,6 +16,7 @@ use Rattle.dk_model.specs.Selection.{Selected}
 use Rattle.dk_model.specs.Evaluation.{whnf_of, comparison_of, normal_of, columns, rows, rewritten}
 use Rattle.dk_model.specs.Equations.{selection_of}
 use Rattle.dk_model.specs.Verdicts.{verdict, inferred_type, entry_of}
+use Rattle.dk_model.specs.declared.code.Code.TheVariants.{E34}
 use Rattle.dk_model.specs.declared.code.Verdict.TheVariants.{Accepted}
 use Rattle.dk_model.specs.declared.signature.SymSort.{SymSort}
 use Rattle.typing_model.specs.Steps.{ReducesTo, AreJoinable}
@@ -75,7 +76,7 @@ by_conversion S = record {
   whnf = whnf_of S;
   same = comparison_of S;
   normal = normal_of S;
-  solve = λ n s t u. next (after (comparison_of S n (under s t) (under s u)) convertible) (λ v m. answer s m);
+  solve = λ n s t u. next (after (comparison_of S n (under s t) (under s u)) (agreed E34)) (λ v m. answer s m);
 }
 
 -- a command that is accepted without binding a rule variable is accepted, and leaves as many units

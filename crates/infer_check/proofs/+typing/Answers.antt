@@ -39,8 +39,8 @@ checking::check_annotated-returns-in_err-infer_domain-clause-gives g t c =
     (bound_types_moved c.args.r.now c.erase.new.self k c.args.walk.now.context c.args.walk.now.context c.requires.ready.context refl) (k.same c.args.abstraction.annotation c.requires.annotation))) c.in_err-infer_domain.ensures.gives) in
     search rules
 
-pub checking::check_annotated-returns-in_err-as_same-clause-gives : goal.checking::check_annotated-returns-in_err-as_same-clause-gives
-checking::check_annotated-returns-in_err-as_same-clause-gives g t c =
+pub checking::check_annotated-returns-in_err-as_convertible-clause-gives : goal.checking::check_annotated-returns-in_err-as_convertible-clause-gives
+checking::check_annotated-returns-in_err-as_convertible-clause-gives g t c =
     let S = entries_of c.args.version.now in
     let D = g.R.Reducer.denotes in
     let r = c.args.r.now in
@@ -58,8 +58,8 @@ checking::check_annotated-returns-in_err-as_same-clause-gives g t c =
     (ke.same c.args.abstraction.annotation c.requires.annotation)) ∙ c.in_ok-infer_domain.ensures.gives in
     let alike = same_same S c.infer_domain.new.walk.left (flip (c.in_ok-infer_domain.ensures.continues.keeps.same c.in_ok-erased.erased c.in_ok-erased.ensures.makes.1 ∙ c.in_ok-erased.ensures.makes.0
     ∙ ap erased (kp.same c.args.abstraction.annotation c.requires.annotation))) (flip (kqi.same fn.domain c.in_ok-function.ensures.gives.1)) in
-    let p = annotated_same_fails S V G c.in_err-as_same.field-0.0 _ (D r c.args.abstraction.annotation) (D r c.args.abstraction.body) (D r c.args.expected) (D q fn.domain) (D q fn.codomain)
-    c.args.walk.now.left c.into_product.new.left c.infer_domain.new.walk.left c.in_ok-function.ensures.gives.0 fits (fails_is c.in_err-as_same.field-0.0 _ _ _ alike c.in_err-as_same.ensures.gives) in
+    let p = annotated_same_fails S V G c.in_err-as_convertible.field-0.0 _ (D r c.args.abstraction.annotation) (D r c.args.abstraction.body) (D r c.args.expected) (D q fn.domain) (D q fn.codomain)
+    c.args.walk.now.left c.into_product.new.left c.infer_domain.new.walk.left c.in_ok-function.ensures.gives.0 fits (fails_is c.in_err-as_convertible.field-0.0 _ _ _ alike c.in_err-as_convertible.ensures.gives) in
     search rules
 
 pub checking::check_annotated-check_taken-fits-requires : goal.checking::check_annotated-check_taken-fits-requires
@@ -81,8 +81,8 @@ checking::check_annotated-check_taken-fits-requires g t c =
     (ke.same c.args.abstraction.annotation c.requires.annotation)) ∙ c.in_ok-infer_domain.ensures.gives in
     let alike = same_same S c.infer_domain.new.walk.left (flip (c.in_ok-infer_domain.ensures.continues.keeps.same c.in_ok-erased.erased c.in_ok-erased.ensures.makes.1 ∙ c.in_ok-erased.ensures.makes.0
     ∙ ap erased (kp.same c.args.abstraction.annotation c.requires.annotation))) (flip (kqi.same fn.domain c.in_ok-function.ensures.gives.1)) in
-    let a = c.as_same.new.r in
-    let kqa = keeps_further q i a kqi c.in_ok-as_same.ensures.follows.keeps in
+    let a = c.as_convertible.new.r in
+    let kqa = keeps_further q i a kqi c.in_ok-as_convertible.ensures.follows.keeps in
     let ka = keeps_further r q a kp kqa in
     let b = c.bind.new.self in
     let bound = c.in_ok-bind.ensures.ok ∙ ap (λ y. with_bound y fn.domain) c.in_ok-infer_domain.ensures.continues.context in
@@ -111,15 +111,15 @@ checking::check_annotated-returns-clause-gives g t c =
     (ke.same c.args.abstraction.annotation c.requires.annotation)) ∙ c.in_ok-infer_domain.ensures.gives in
     let alike = same_same S c.infer_domain.new.walk.left (flip (c.in_ok-infer_domain.ensures.continues.keeps.same c.in_ok-erased.erased c.in_ok-erased.ensures.makes.1 ∙ c.in_ok-erased.ensures.makes.0
     ∙ ap erased (kp.same c.args.abstraction.annotation c.requires.annotation))) (flip (kqi.same fn.domain c.in_ok-function.ensures.gives.1)) in
-    let a = c.as_same.new.r in
-    let kqa = keeps_further q i a kqi c.in_ok-as_same.ensures.follows.keeps in
+    let a = c.as_convertible.new.r in
+    let kqa = keeps_further q i a kqi c.in_ok-as_convertible.ensures.follows.keeps in
     let ka = keeps_further r q a kp kqa in
     let b = c.bind.new.self in
     let bound = c.in_ok-bind.ensures.ok ∙ ap (λ y. with_bound y fn.domain) c.in_ok-infer_domain.ensures.continues.context in
     fit_is c.check_taken-fits.result c.check_taken-fits.new.walk.left
     (annotated_body S V G (D r c.args.abstraction.annotation) (D r c.args.abstraction.body) (D r c.args.expected) (D q fn.domain) (D q fn.codomain)
-    c.args.walk.now.left c.into_product.new.left c.infer_domain.new.walk.left c.as_same.new.left c.in_ok-function.ensures.gives.0 fits (alike ∙ c.in_ok-as_same.ensures.gives)
-    ∙ flip (checked_same S c.as_same.new.left (rule_types_under r a ka x b c.requires.ready.context fn.domain bound)
+    c.args.walk.now.left c.into_product.new.left c.infer_domain.new.walk.left c.as_convertible.new.left c.in_ok-function.ensures.gives.0 fits (alike ∙ c.in_ok-as_convertible.ensures.gives)
+    ∙ flip (checked_same S c.as_convertible.new.left (rule_types_under r a ka x b c.requires.ready.context fn.domain bound)
     (bound_types_under r a ka x b c.requires.ready.context fn.domain bound ∙ ap (λ y. y ∷ G) (kqa.same fn.domain c.in_ok-function.ensures.gives.1))
     (ka.same c.args.abstraction.body c.requires.body) (kqa.same fn.codomain c.in_ok-function.ensures.gives.2)))
     c.check_taken-fits.ensures.gives
@@ -605,16 +605,16 @@ inference::infer_taken-infer_node-requires g t c =
     let h = context_moved r o k x x c.requires.ready.context refl in
     search rules
 
-pub checking::check_annotated-as_same-requires-clause-own : goal.checking::check_annotated-as_same-requires-clause-own
-checking::check_annotated-as_same-requires-clause-own g t c =
+pub checking::check_annotated-as_convertible-requires-clause-own : goal.checking::check_annotated-as_convertible-requires-clause-own
+checking::check_annotated-as_convertible-requires-clause-own g t c =
     c.in_ok-infer_domain.ensures.continues.keeps.own c.in_ok-erased.erased c.in_ok-erased.ensures.makes.1
 
-pub checking::check_annotated-as_same-requires-clause-other : goal.checking::check_annotated-as_same-requires-clause-other
-checking::check_annotated-as_same-requires-clause-other g t c =
+pub checking::check_annotated-as_convertible-requires-clause-other : goal.checking::check_annotated-as_convertible-requires-clause-other
+checking::check_annotated-as_convertible-requires-clause-other g t c =
     c.in_ok-infer_domain.ensures.continues.keeps.own c.in_ok-function.function.domain (c.in_ok-erased.ensures.keeps.own c.in_ok-function.function.domain c.in_ok-function.ensures.gives.1)
 
-pub checking::check_annotated-as_same-requires-clause-serves : goal.checking::check_annotated-as_same-requires-clause-serves
-checking::check_annotated-as_same-requires-clause-serves g t c =
+pub checking::check_annotated-as_convertible-requires-clause-serves : goal.checking::check_annotated-as_convertible-requires-clause-serves
+checking::check_annotated-as_convertible-requires-clause-serves g t c =
     c.in_ok-infer_domain.ensures.continues.serving
 
 pub inference::infer_abstraction-not_kind-requires : goal.inference::infer_abstraction-not_kind-requires

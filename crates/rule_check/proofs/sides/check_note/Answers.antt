@@ -2,7 +2,8 @@ use Rattle.std.proofs.Common.{rules, ◌∙◌, ap, sym as flip}
 use Rattle.dk_model.specs.Trees.{tree}
 use Rattle.dk_model.specs.Erasure.{erased}
 use Rattle.dk_model.specs.Bindings.{under}
-use Rattle.dk_model.specs.RuleTyping.{as_convertible}
+use Rattle.dk_model.specs.Typing.{as_convertible}
+use Rattle.dk_model.specs.declared.code.Code.TheVariants.{E34}
 use Rattle.signature_log.specs.Versions.{entries_of}
 use Rattle.infer_check.proofs.Moving.{fit_is}
 use Rattle.rule_check.specs.Founds.{terms_of}
@@ -30,5 +31,5 @@ returns-in_ok-typ-in-Some-Some-clause-gives g c =
     let first = l.same c.in_ok-note-in-Some-Some.note note.1 ∙ note.0 in
     let second = typ.0 ∙ ap (λ z. under z (D mid c.in-Some-Some.typ)) (terms_kept r mid k b c.requires.bindings) ∙ ap (under s) (k.same c.in-Some-Some.typ owned) in
     let p = fit_is c.as_convertible.result c.as_convertible.new.left
-    (flip (ap (λ z. as_convertible S z (D two c.in_ok-typ-in-Some-Some.typ) n) first ∙ ap (λ z. as_convertible S (under s (erased (tree c.in-Some-Some.note))) z n) second)) c.as_convertible.ensures.gives in
+    (flip (ap (λ z. as_convertible S E34 z (D two c.in_ok-typ-in-Some-Some.typ) n) first ∙ ap (λ z. as_convertible S E34 (under s (erased (tree c.in-Some-Some.note))) z n) second)) c.as_convertible.ensures.gives in
     search rules
