@@ -1,7 +1,7 @@
--- Each reduction has its steps, each joining its two, each solving its solution: so an accepted command has a checked derivation.
+-- Each reduction has its steps, each joining its two, each equation its items: so an accepted command has a checked derivation.
 use Rattle.dk_model.specs.declared.code.Code.{Code}
 use Rattle.std.specs.Prelude.{Result, slice_get, Contains, nat_lt, Bool, true, false, if◌then◌else◌}
-use Rattle.std.proofs.Common.{List, [], ◌∷◌, ◌++◌, append-nil, ℕ, zero, suc, ◌+◌, ◌-◌, ◌<◌, ◌≤◌, ◌≡◌, Option, Some, None, refl, ap, ◌∙◌, sym as flip, subst as along, arith}
+use Rattle.std.proofs.Common.{List, [], ◌∷◌, ◌++◌, append-nil, append_assoc, ℕ, zero, suc, ◌+◌, ◌-◌, ◌<◌, ◌≤◌, ◌≡◌, Option, Some, None, refl, ap, ◌∙◌, sym as flip, subst as along, arith}
 use Rattle.std.proofs.lemmas.Bool.{eq-eqb, lt-ltb, le-ltb, ltb-true, ltb-false}
 use Rattle.dk_model.specs.Trees.{Tree, star, kind, symbol, variable, rule_variable, apply, bare, annotated, product}
 use Rattle.dk_model.specs.Substitution.{equal}
@@ -26,9 +26,9 @@ use Rattle.typing_model.specs.Laws.{WhnfReduces, NormalReduces, ComparisonJoins}
 use Rattle.typing_model.proofs.Typing.{from_after, from_next}
 use Rattle.typing_model.proofs.Lefts.{listed_back}
 use Rattle.checked_steps.specs.Matching.{both_parts, matched, all_matched, laters, guards, to_join, nodes, within, at_place}
-use Rattle.checked_steps.specs.Items.{ItemStep, beta_step, rule_step, ItemSteps, no_steps, more_steps, ItemJoins, no_joins, more_joins, Solution, same_now, left_bound, right_bound, in_parts, let_go, Solutions, no_solutions, more_solutions, Item, reduction, joining, equation}
-use Rattle.checked_steps.specs.Taken.{contracted, and_then, both_same, fired_with, fired, step_taken, steps_taken, all_joined, sides_taken, if_same, if_bound, if_nothing, if_parts, is_left, if_left, if_right, solution_taken, solutions_taken}
-use Rattle.checked_steps.specs.Checked.{with_rest, next_reduction, next_joining, solved_with_rest, by_items, IsChecked}
+use Rattle.checked_steps.specs.Items.{ItemStep, beta_step, rule_step, ItemSteps, no_steps, more_steps, ItemJoins, no_joins, more_joins, ItemWord, same_now, left_bound, right_bound, in_parts, let_go, Item, reduction, joining, equation}
+use Rattle.checked_steps.specs.Taken.{Solved, contracted, and_then, both_same, fired_with, fired, step_taken, steps_taken, all_joined, if_bound, if_parts, if_nothing, is_left, word_taken, equation_taken}
+use Rattle.checked_steps.specs.Checked.{with_rest, next_reduction, next_joining, solving_on, solutions_taken, by_items, IsChecked}
 use Rattle.checked_steps.proofs.Follow.{Follows, Followed, body_type_follows, declaration_follows, shaped_follow}
 
 -- ---- terms
@@ -235,62 +235,83 @@ module _ (S : PlainSignature) where
       (joining x.0 x.1 ∷ [], λ rest. ap (λ b. if b then Some (true, rest) else None) (ap (λ o. both_same o (steps_taken S x.1 u)) x.3 ∙ ap (both_same (Some x.2)) x.4 ∙ equal_itself x.2))
 
   module _ (W : WhnfReduces S) (N : NormalReduces S) (C : ComparisonJoins S) where
+    abbrev EquationStep : Type 0
+    EquationStep = Bindings → Tree → Tree → ℕ → JudgedIn ℕ Bindings
+
+    -- these items solve these equations, which stand before any others
+    abbrev Solve : List Item → Bindings → List (Tree × Tree) → Bindings → Type 0
+    Solve ys s qs r = (ps : List (Tree × Tree)) (rest : List Item) → solutions_taken S (ys ++ rest) s (qs ++ ps) ≡ solutions_taken S rest r ps
+
+    abbrev HaveItems : Bindings → List (Tree × Tree) → Bindings → Type 0
+    HaveItems s qs r = (ys : List Item) × Solve ys s qs r
+
+    abbrev HasItem : Bindings → Tree → Tree → Bindings → Type 0
+    HasItem s t u r = HaveItems s ((t, u) ∷ []) r
+
     -- the sides of an equation reach these
-    sides_are : (xs ys : ItemSteps) (s : Bindings) (t u v w : Tree) (g : Tree → Tree → Option Bindings) (r : Bindings) → steps_taken S xs (under s t) ≡ Some v → steps_taken S ys (under s u) ≡ Some w
-        → g (under s v) (under s w) ≡ Some r → sides_taken S xs ys s t u g ≡ Some r
-    sides_are xs ys s t u v w g r a b e = ap (λ o. and_then o (λ x. and_then (steps_taken S ys (under s u)) (λ y. g (under s x) (under s y)))) a ∙ ap (λ o. and_then o (λ y. g (under s v) (under s y))) b ∙ e
+    sides_are : (x : ItemWord) (xs ys : ItemSteps) (s : Bindings) (t u v w : Tree) (o : Option Solved) → steps_taken S xs (under s t) ≡ Some v → steps_taken S ys (under s u) ≡ Some w
+        → word_taken S x s (under s v) (under s w) ≡ o → equation_taken S x xs ys s t u ≡ o
+    sides_are x xs ys s t u v w o a b e = ap (λ q. and_then q (λ c. and_then (steps_taken S ys (under s u)) (λ d. word_taken S x s (under s c) (under s d)))) a
+        ∙ ap (λ q. and_then q (λ d. word_taken S x s (under s v) (under s d))) b ∙ e
 
-    abbrev IsItem : Bindings → Tree → Tree → Bindings → Type 0
-    IsItem s t u r = (x : Solution) × (solution_taken S x s t u ≡ Some r)
+    -- one item, and those of the equations that it leaves
+    item_solves : (x : ItemWord) (xs ys : ItemSteps) (s q r : Bindings) (t u : Tree) (qs : List (Tree × Tree)) → equation_taken S x xs ys s t u ≡ Some (q, qs)
+        → HaveItems q qs r → HasItem s t u r
+    item_solves x xs ys s q r t u qs e h = (
+      equation x xs ys ∷ h.0,
+      λ ps rest.
+          ap (λ o. solving_on o (λ z zs. solutions_taken S (h.0 ++ rest) z (zs ++ ps))) e ∙ h.1 ps rest,
+    )
 
-    abbrev AreItems : Bindings → List (Tree × Tree) → Bindings → Type 0
-    AreItems s ps r = (xs : Solutions) × (solutions_taken S xs s ps ≡ Some r)
+    none_left : (s r : Bindings) (n m : ℕ) → ◌≡◌ {A = JudgedIn ℕ Bindings} (answer s n) (answer r m) → HaveItems s [] r
+    none_left s r n m e = let q : s ≡ r = cc in ([], λ ps rest. ap (λ z. solutions_taken S rest z ps) q)
 
-    some_same : (s r : Bindings) (n m : ℕ) → ◌≡◌ {A = JudgedIn ℕ Bindings} (answer s n) (answer r m) → Some s ≡ Some r
-    some_same s r n m e = let q : s ≡ r = cc in ap Some q
-
-    same_item : (s r : Bindings) (t u : Tree) (n m : ℕ) → AreJoinable S (under s t) (under s u) → ◌≡◌ {A = JudgedIn ℕ Bindings} (answer s n) (answer r m) → IsItem s t u r
+    same_item : (s r : Bindings) (t u : Tree) (n m : ℕ) → AreJoinable S (under s t) (under s u) → ◌≡◌ {A = JudgedIn ℕ Bindings} (answer s n) (answer r m) → HasItem s t u r
     same_item s r t u n m j e = let x : _ = both_steps (under s t) (under s u) j in
-        (same_now x.0 x.1, sides_are x.0 x.1 s t u x.2 x.2 (if_same s) r x.3 x.4 (ap (λ b. if b then Some s else None) (equal_itself (under s x.2)) ∙ some_same s r n m e))
+        item_solves same_now x.0 x.1 s s r t u [] (sides_are same_now x.0 x.1 s t u x.2 x.2 (Some (s, [])) x.3 x.4 (ap (λ b. if b then Some (s, []) else None) (equal_itself (under s x.2)))) (none_left s r n m e)
 
     module _ (s r : Bindings) (t u v w : Tree) (xs ys : ItemSteps) (a : steps_taken S xs (under s t) ≡ Some v) (b : steps_taken S ys (under s u) ≡ Some w) where
-      bound_item : (c : Bool) → is_left (under s v) (under s w) ≡ c → if_bound s (equation_of S (under s v) (under s w)) ≡ Some r → IsItem s t u r
-      bound_item true q e = (left_bound xs ys, sides_are xs ys s t u v w (if_left S s) r a b (ap (λ x. if x then if_bound s (equation_of S (under s v) (under s w)) else None) q ∙ e))
-      bound_item false q e = (right_bound xs ys, sides_are xs ys s t u v w (if_right S s) r a b (ap (λ x. if x then None else if_bound s (equation_of S (under s v) (under s w))) q ∙ e))
+      bound_item : (k : ℕ) (x : Tree) (c : Bool) → is_left (under s v) (under s w) ≡ c → equation_of S (under s v) (under s w) ≡ binds k x → HaveItems (bound s k x) [] r → HasItem s t u r
+      bound_item k x true q e h = item_solves left_bound xs ys s (bound s k x) r t u [] (sides_are left_bound xs ys s t u v w (Some (bound s k x, [])) a b
+          (ap (λ c. if c then if_bound s (equation_of S (under s v) (under s w)) else None) q ∙ ap (if_bound s) e)) h
+      bound_item k x false q e h = item_solves right_bound xs ys s (bound s k x) r t u [] (sides_are right_bound xs ys s t u v w (Some (bound s k x, [])) a b
+          (ap (λ c. if c then None else if_bound s (equation_of S (under s v) (under s w))) q ∙ ap (if_bound s) e)) h
 
-      parts_item : (ps : List (Tree × Tree)) → equation_of S (under s v) (under s w) ≡ parts ps → AreItems s ps r → IsItem s t u r
-      parts_item ps q x = (in_parts xs ys x.0, sides_are xs ys s t u v w (λ y z. if_parts (solutions_taken S x.0 s) (equation_of S y z)) r a b (ap (if_parts (solutions_taken S x.0 s)) q ∙ x.1))
+      parts_item : (ps : List (Tree × Tree)) → equation_of S (under s v) (under s w) ≡ parts ps → HaveItems s ps r → HasItem s t u r
+      parts_item ps q h = item_solves in_parts xs ys s s r t u ps (sides_are in_parts xs ys s t u v w (Some (s, ps)) a b (ap (if_parts s) q)) h
 
-      dropped_item : equation_of S (under s v) (under s w) ≡ nothing → Some s ≡ Some r → IsItem s t u r
-      dropped_item q e = (let_go xs ys, sides_are xs ys s t u v w (λ y z. if_nothing s (equation_of S y z)) r a b (ap (if_nothing s) q ∙ e))
+      dropped_item : equation_of S (under s v) (under s w) ≡ nothing → HaveItems s [] r → HasItem s t u r
+      dropped_item q h = item_solves let_go xs ys s s r t u [] (sides_are let_go xs ys s t u v w (Some (s, [])) a b (ap (if_nothing s) q)) h
 
-      equation_item : (Q : Bindings → Tree → Tree → ℕ → JudgedIn ℕ Bindings) (n m : ℕ) → ((ps : List (Tree × Tree)) → each_solved Q ps s n ≡ answer r m → AreItems s ps r)
-          → (e : Equation) → equation_of S (under s v) (under s w) ≡ e → equation_solved Q s e n ≡ answer r m → IsItem s t u r
-      equation_item Q n m h (binds k x) q e = bound_item (is_left (under s v) (under s w)) refl (ap (if_bound s) q ∙ some_same (bound s k x) r n m e)
+      equation_item : (Q : EquationStep) (n m : ℕ) → ((ps : List (Tree × Tree)) → each_solved Q ps s n ≡ answer r m → HaveItems s ps r)
+          → (e : Equation) → equation_of S (under s v) (under s w) ≡ e → equation_solved Q s e n ≡ answer r m → HasItem s t u r
+      equation_item Q n m h (binds k x) q e = bound_item k x (is_left (under s v) (under s w)) refl q (none_left (bound s k x) r n m e)
       equation_item Q n m h (parts ps) q e = parts_item ps q (h ps e)
       equation_item Q n m h clash q e = cc
-      equation_item Q n m h nothing q e = dropped_item q (some_same s r n m e)
+      equation_item Q n m h nothing q e = dropped_item q (none_left s r n m e)
 
-    each_items : (Q : Bindings → Tree → Tree → ℕ → JudgedIn ℕ Bindings) → ((s : Bindings) (t u : Tree) (n m : ℕ) (r : Bindings) → Q s t u n ≡ answer r m → IsItem s t u r)
-        → (ps : List (Tree × Tree)) (s r : Bindings) (n m : ℕ) → each_solved Q ps s n ≡ answer r m → AreItems s ps r
-    each_items Q h [] s r n m e = (no_solutions, some_same s r n m e)
-    each_items Q h (p ∷ ps) s r n m e = from_next (AreItems s (p ∷ ps) r) (Q s p.0 p.1 n) _ r m e (λ q i e1 g.
-        let x : IsItem s p.0 p.1 q = h s p.0 p.1 n i q e1 in let y : AreItems q ps r = each_items Q h ps q r i m g in
-        (more_solutions x.0 y.0, ap (λ o. and_then o (λ z. solutions_taken S y.0 z ps)) x.1 ∙ y.1))
+    -- the items of one equation, and those of the others behind it
+    items_append : (s q r : Bindings) (p : Tree × Tree) (qs : List (Tree × Tree)) → HasItem s p.0 p.1 q → HaveItems q qs r → HaveItems s (p ∷ qs) r
+    items_append s q r p qs x y = (x.0 ++ y.0, λ ps rest. ap (λ z. solutions_taken S z s (p ∷ (qs ++ ps))) (append_assoc x.0 y.0 rest) ∙ x.1 (qs ++ ps) (y.0 ++ rest) ∙ y.1 ps rest)
 
-    by_word : (Q : Bindings → Tree → Tree → ℕ → JudgedIn ℕ Bindings) → ((s : Bindings) (t u : Tree) (n m : ℕ) (r : Bindings) → Q s t u n ≡ answer r m → IsItem s t u r)
+    each_items : (Q : EquationStep) → ((s : Bindings) (t u : Tree) (n m : ℕ) (r : Bindings) → Q s t u n ≡ answer r m → HasItem s t u r)
+        → (ps : List (Tree × Tree)) (s r : Bindings) (n m : ℕ) → each_solved Q ps s n ≡ answer r m → HaveItems s ps r
+    each_items Q h [] s r n m e = none_left s r n m e
+    each_items Q h (p ∷ ps) s r n m e = from_next (HaveItems s (p ∷ ps) r) (Q s p.0 p.1 n) _ r m e (λ q i e1 g. items_append s q r p ps (h s p.0 p.1 n i q e1) (each_items Q h ps q r i m g))
+
+    by_word : (Q : EquationStep) → ((s : Bindings) (t u : Tree) (n m : ℕ) (r : Bindings) → Q s t u n ≡ answer r m → HasItem s t u r)
         → (s : Bindings) (t u : Tree) (n m : ℕ) (r : Bindings) (b : Bool) (i : ℕ) → ◌≡◌ {A = Option (Bool × ℕ)} (comparison_of S n (under s t) (under s u)) (Some (b, i))
-        → unless_same (heads_solved S Q s t u i) s b i ≡ answer r m → IsItem s t u r
+        → unless_same (heads_solved S Q s t u i) s b i ≡ answer r m → HasItem s t u r
     by_word Q h s t u n m r true i e1 g = same_item s r t u i m (C n i (under s t) (under s u) e1) g
-    by_word Q h s t u n m r false i e1 g = from_after (IsItem s t u r) (whnf_of S i (under s t)) _ r m g (λ v e2 g2.
-        from_after (IsItem s t u r) (whnf_of S v.1 (under s u)) _ r m g2 (λ w e3 g3.
+    by_word Q h s t u n m r false i e1 g = from_after (HasItem s t u r) (whnf_of S i (under s t)) _ r m g (λ v e2 g2.
+        from_after (HasItem s t u r) (whnf_of S v.1 (under s u)) _ r m g2 (λ w e3 g3.
         let a : (xs : ItemSteps) × (steps_taken S xs (under s t) ≡ Some v.0) = steps_items (W i v.1 (under s t) v.0 e2).1 in
         let b : (ys : ItemSteps) × (steps_taken S ys (under s u) ≡ Some w.0) = steps_items (W v.1 w.1 (under s u) w.0 e3).1 in
         equation_item s r t u v.0 w.0 a.0 b.0 a.1 b.1 Q w.1 m (λ ps q. each_items Q h ps s r w.1 m q) (equation_of S (under s v.0) (under s w.0)) refl g3))
 
-    solved_item : (f : ℕ) (s : Bindings) (t u : Tree) (n m : ℕ) (r : Bindings) → solved_with f S s t u n ≡ answer r m → IsItem s t u r
+    solved_item : (f : ℕ) (s : Bindings) (t u : Tree) (n m : ℕ) (r : Bindings) → solved_with f S s t u n ≡ answer r m → HasItem s t u r
     solved_item zero s t u n m r e = cc
-    solved_item (suc f) s t u n m r e = from_after (IsItem s t u r) (comparison_of S n (under s t) (under s u)) _ r m e (λ p e1 g.
+    solved_item (suc f) s t u n m r e = from_after (HasItem s t u r) (comparison_of S n (under s t) (under s u)) _ r m e (λ p e1 g.
         by_word (solved_with f S) (solved_item f) s t u n m r p.0 p.1 e1 g)
 
     evaluation_followed : Followed {X = ℕ} {Y = Item} (by_units S) (by_items S)
@@ -298,7 +319,7 @@ module _ (S : PlainSignature) where
       whnf = λ t n m u e. reduced_items t u (W n m t u e);
       same = λ t u n m e. joined_items t u (C n m t u e);
       normal = λ t n m u e. reduced_items t u (N n m t u e);
-      solve = λ s t u n m r e. let x : IsItem s t u r = solved_item n s t u n m r e in (equation x.0 ∷ [], λ rest. ap (solved_with_rest rest) x.1);
+      solve = λ s t u n m r e. let x : HasItem s t u r = solved_item n s t u n m r e in (x.0, λ rest. x.1 [] rest);
     }
 
     all_items : (g : List Item → JudgedIn (List Item) (Unit {0})) (f : ℕ → JudgedIn ℕ (Unit {0})) → Follows f g → (n m : ℕ) (u : Unit {0}) → f n ≡ answer u m → (items : List Item) × (g items ≡ answer tt [])

@@ -2,22 +2,19 @@
 use Rattle.std.specs.Prelude.{length, map, Bool, true, false, if◌then◌else◌, Result, Ok, Err}
 use Rattle.std.proofs.Common.{List, [], ◌∷◌, ◌++◌, append_assoc, ℕ, ◌≡◌, Option, Some, None, refl, ap, ◌∙◌}
 use Rattle.dk_model.specs.declared.code.Code.{Code}
-use Rattle.dk_model.specs.declared.code.Code.TheVariants.{E20, E22, E23, E24, E25, E34, E35}
+use Rattle.dk_model.specs.declared.code.Code.TheVariants.{E20, E21, E22, E23, E24, E25, E34, E35}
 use Rattle.dk_model.specs.Trees.{Tree, star, kind, symbol, variable, rule_variable, apply, bare, annotated, product}
 use Rattle.dk_model.specs.Substitution.{shift, substitute}
 use Rattle.dk_model.specs.Erasure.{erased}
 use Rattle.dk_model.specs.Signatures.{Pattern, Patterns, no_patterns, more_patterns, rule_variable_pattern, wildcard_pattern, guard_pattern, symbol_pattern, variable_pattern, abstraction_pattern, PlainRule, PlainSignature}
 use Rattle.dk_model.specs.Captures.{mentions_others, renamed}
 use Rattle.dk_model.specs.Bindings.{Bindings, under}
-use Rattle.dk_model.specs.TypingOver.{Evaluator, JudgedIn, answer, refused, ended, after, next, parts_of_product, a_sort, the_star, agreed, not_kind, symbol_type, variable_type, rule_variable_type, as_product, as_sort, as_star, as_same, against, application_type, product_type, abstraction_type, annotated_fits, inferred, checked, sort_of}
-use Rattle.dk_model.specs.RuleTypingOver.{Guard, Found, Walked, found_type, with_type, with_wildcard, with_bindings, types_under, outermost_first, occurrence, guard_walked, patterns_of, convertible, allowed, as_convertible, confined, bound_type, first_type, later_type, first_typed, rule_variable_walked, wildcard_walked, as_expected, walked, spine_walked, notes_agree, guards_fit, sides_fit, left_walked, rule_checked, rules_typed}
+use Rattle.dk_model.specs.TypingOver.{Evaluator, JudgedIn, answer, refused, ended, after, next, parts_of_product, a_sort, the_star, agreed, not_kind, symbol_type, variable_type, rule_variable_type, as_product, as_sort, as_star, as_convertible, against, application_type, product_type, abstraction_type, annotated_fits, inferred, checked, sort_of}
+use Rattle.dk_model.specs.RuleTypingOver.{Guard, Found, Walked, found_type, with_type, with_wildcard, with_bindings, types_under, outermost_first, occurrence, guard_walked, patterns_of, allowed, confined, bound_type, first_type, later_type, first_typed, rule_variable_walked, wildcard_walked, as_expected, walked, spine_walked, notes_agree, guards_fit, sides_fit, left_walked, rule_checked, rules_typed}
 use Rattle.dk_model.specs.CommandTypingOver.{body_checked, body_type, declaration_checked, rules_checked}
 
-no_answer : {X : Type 0} (n m : X) (b : Unit {0}) → agreed false n ≡ answer b m → ⊥
-no_answer n m b e = cc
-
-no_convertible : {X : Type 0} (n m : X) (b : Unit {0}) → convertible false n ≡ answer b m → ⊥
-no_convertible n m b e = cc
+no_answer : {X : Type 0} (c : Code) (n m : X) (b : Unit {0}) → agreed c false n ≡ answer b m → ⊥
+no_answer c n m b e = cc
 
 abbrev paired : {X : Type 0} → Bool → X → Option (Bool × X)
 paired b n = Some (b, n)
@@ -147,14 +144,11 @@ module _ {X Y : Type 0} where
     as_star_follows : (T : Tree) → Follows (as_star O T) (as_star P T)
     as_star_follows T = after_follows (λ n. O.whnf n T) (λ n. P.whnf n T) the_star the_star (F.whnf T) star_follows
 
-    same_follows : (T U : Tree) → Follows (as_same O T U) (as_same P T U)
-    same_follows T U = yes_follows (λ n. O.same n T U) (λ n. P.same n T U) agreed agreed (F.same T U) (given tt) no_answer
-
-    convertible_follows : (T U : Tree) → Follows (as_convertible O T U) (as_convertible P T U)
-    convertible_follows T U = yes_follows (λ n. O.same n T U) (λ n. P.same n T U) convertible convertible (F.same T U) (given tt) no_convertible
+    convertible_follows : (c : Code) (T U : Tree) → Follows (as_convertible O c T U) (as_convertible P c T U)
+    convertible_follows c T U = yes_follows (λ n. O.same n T U) (λ n. P.same n T U) (agreed c) (agreed c) (F.same T U) (given tt) (no_answer c)
 
     against_follows : (T : Tree) (f : X → JudgedIn X Tree) (g : List Y → JudgedIn (List Y) Tree) → Follows f g → Follows (λ n. against O T (f n)) (λ n. against P T (g n))
-    against_follows T f g h = next_follows f g (λ U n. as_same O U T n) (λ U n. as_same P U T n) h (λ U. same_follows U T)
+    against_follows T f g h = next_follows f g (λ U n. as_convertible O E21 U T n) (λ U n. as_convertible P E21 U T n) h (λ U. convertible_follows E21 U T)
 
     application_follows : (f : Tree → X → JudgedIn X (Unit {0})) (g : Tree → List Y → JudgedIn (List Y) (Unit {0})) → ((A : Tree) → Follows (f A) (g A)) → (a T : Tree)
         → Follows (application_type O f a T) (application_type P g a T)
@@ -170,7 +164,7 @@ module _ {X Y : Type 0} where
 
     annotated_follows : (f : X → JudgedIn X (Unit {0})) (g : List Y → JudgedIn (List Y) (Unit {0})) → Follows f g → (d A T : Tree) → Follows (annotated_fits O f d A T) (annotated_fits P g d A T)
     annotated_follows f g h d A T = next_follows (as_star O T) (as_star P T) _ _ (as_star_follows T) (λ u.
-        next_follows (as_same O (erased d) A) (as_same P (erased d) A) _ _ (same_follows (erased d) A) (λ v. h))
+        next_follows (as_convertible O E21 (erased d) A) (as_convertible P E21 (erased d) A) _ _ (convertible_follows E21 (erased d) A) (λ v. h))
 
     module _ (V : List Tree) where
       mutual
@@ -264,7 +258,7 @@ module _ {X Y : Type 0} where
     notes_follow s (Some a ∷ notes) [] = given tt
     notes_follow s (None ∷ notes) (o ∷ types) = notes_follow s notes types
     notes_follow s (Some a ∷ notes) (None ∷ types) = notes_follow s notes types
-    notes_follow s (Some a ∷ notes) (Some T ∷ types) = next_follows (as_convertible O (under s (erased a)) (under s T)) (as_convertible P (under s (erased a)) (under s T)) _ _ (convertible_follows (under s (erased a)) (under s T)) (λ u. notes_follow s notes types)
+    notes_follow s (Some a ∷ notes) (Some T ∷ types) = next_follows (as_convertible O E34 (under s (erased a)) (under s T)) (as_convertible P E34 (under s (erased a)) (under s T)) _ _ (convertible_follows E34 (under s (erased a)) (under s T)) (λ u. notes_follow s notes types)
 
     guards_follow : (s : Bindings) (V : List Tree) (gs : List Guard) → Follows (guards_fit O S s V gs) (guards_fit P S s V gs)
     guards_follow s V [] = given tt

@@ -1,6 +1,6 @@
 -- Items in the place of evaluation: what each gives has its meaning.
 use Rattle.std.specs.Prelude.{Bool, true, false, if◌then◌else◌}
-use Rattle.std.proofs.Common.{List, [], ◌∷◌, append-nil, ◌≡◌, Option, Some, None, refl, ap, sym as flip, subst as along}
+use Rattle.std.proofs.Common.{List, [], ◌∷◌, ◌++◌, ◌≡◌, Option, Some, None, refl, ap, sym as flip, subst as along}
 use Rattle.dk_model.specs.Trees.{Tree, rule_variable}
 use Rattle.dk_model.specs.Substitution.{equal}
 use Rattle.dk_model.specs.Signatures.{PlainSignature}
@@ -14,11 +14,10 @@ use Rattle.typing_model.specs.Derivations.{Equations, HasDerivation, Binds, left
 use Rattle.typing_model.specs.Laws.{Reduces}
 use Rattle.typing_model.specs.Conditions.{HasNoAnnotations}
 use Rattle.typing_model.proofs.Commands.{accepted_derives}
-use Rattle.typing_model.proofs.Resolving.{resolves_then}
 use Rattle.checked_steps.proofs.Equations.{BindsSide, binds_left, binds_right, IsEquation, equation_is}
-use Rattle.checked_steps.specs.Items.{ItemSteps, Solution, same_now, left_bound, right_bound, in_parts, let_go, Solutions, no_solutions, more_solutions, Item, reduction, joining, equation}
-use Rattle.checked_steps.specs.Taken.{both_same, steps_taken, sides_taken, if_same, if_bound, if_nothing, if_parts, is_left, if_left, if_right, solution_taken, solutions_taken}
-use Rattle.checked_steps.specs.Checked.{with_rest, next_reduction, next_joining, solved_with_rest, next_solution, by_items, IsChecked}
+use Rattle.checked_steps.specs.Items.{ItemSteps, ItemWord, same_now, left_bound, right_bound, in_parts, let_go, Item, reduction, joining, equation}
+use Rattle.checked_steps.specs.Taken.{Solved, both_same, steps_taken, if_bound, if_parts, if_nothing, is_left, word_taken, equation_taken}
+use Rattle.checked_steps.specs.Checked.{with_rest, next_reduction, next_joining, solving_on, solutions_taken, next_solution, by_items, IsChecked}
 use Rattle.checked_steps.proofs.Steps.{from_and_then, steps_sound, joined_is}
 
 from_rest : {A : Type 0} (items : List Item) (o : Option A) (a : A) (m : List Item) → ◌≡◌ {A = Option (A × List Item)} (with_rest items o) (Some (a, m)) → o ≡ Some a
@@ -29,96 +28,97 @@ joined_if : (items m : List Item) (b : Bool) → ◌≡◌ {A = Option (Bool × 
 joined_if items m true e = refl
 joined_if items m false e = cc
 
-some_is : {A : Type 0} (a b : A) → Some a ≡ Some b → a ≡ b
-some_is a b e = cc
-
 module _ (S : PlainSignature) where
   reductions_sound : (n m : List Item) (t u : Tree) → next_reduction S n t ≡ Some (u, m) → ReducesTo S t u
   reductions_sound [] m t u e = cc
   reductions_sound (reduction xs ∷ items) m t u e = steps_sound S xs t u (from_rest items (steps_taken S xs t) u m e)
   reductions_sound (joining xs ys ∷ items) m t u e = cc
-  reductions_sound (equation x ∷ items) m t u e = cc
+  reductions_sound (equation w xs ys ∷ items) m t u e = cc
 
   joinings_sound : (n m : List Item) (t u : Tree) → next_joining S n t u ≡ Some (true, m) → AreJoinable S t u
   joinings_sound [] m t u e = cc
   joinings_sound (reduction xs ∷ items) m t u e = cc
   joinings_sound (joining xs ys ∷ items) m t u e = joined_is S xs ys t u (joined_if items m (both_same (steps_taken S xs t) (steps_taken S ys u)) e)
-  joinings_sound (equation x ∷ items) m t u e = cc
+  joinings_sound (equation w xs ys ∷ items) m t u e = cc
 
   -- ---- equations
 
-  same_bindings : (s r : Bindings) (t u : Tree) → Some s ≡ Some r → Resolves S s ((t, u) ∷ []) r
-  same_bindings s r t u e = along (λ x. Resolves S s ((t, u) ∷ []) x) (some_is s r e) (dropped t u [] [] resolved)
+  module _ (s : Bindings) (t u v w : Tree) (rt : ReducesTo S (under s t) v) (ru : ReducesTo S (under s u) w) (ps : Equations) (r : Bindings) where
+    -- what a solved equation leaves resolves with the others, and so do both
+    abbrev Goes : Option Solved → Type 0
+    Goes o = (q : Bindings) (qs : Equations) → o ≡ Some (q, qs) → Resolves S q (qs ++ ps) r → Resolves S s ((t, u) ∷ ps) r
 
-  same_if : (s r : Bindings) (t u : Tree) (b : Bool) → (if b then Some s else None) ≡ Some r → Resolves S s ((t, u) ∷ []) r
-  same_if s r t u true e = same_bindings s r t u e
-  same_if s r t u false e = cc
+    dropped_goes : Goes (Some (s, []))
+    dropped_goes q qs e h = let i : ◌≡◌ {A = Solved} (s, []) (q, qs) = cc in
+        dropped t u [] ps (along (λ x. Resolves S x.0 (x.1 ++ ps) r) (flip i) h)
 
-  module _ (s : Bindings) (t u v w : Tree) (rt : ReducesTo S (under s t) v) (ru : ReducesTo S (under s u) w) (r : Bindings) where
-    side_binds : (k : _) (x : Tree) → BindsSide (under s v) (under s w) k x → Resolves S s ((t, u) ∷ []) (bound s k x)
-    side_binds k x (binds_left i j may) = binding t u v w [] [] rt ru
-        (along (λ z. Binds s z (under s w) (bound s k x)) (flip i) (along (λ z. Binds s (rule_variable k) z (bound s k x)) (flip j) (left_binds k may))) resolved
-    side_binds k x (binds_right i j may) = binding t u v w [] [] rt ru
-        (along (λ z. Binds s (under s v) z (bound s k x)) (flip i) (along (λ z. Binds s z (rule_variable k) (bound s k x)) (flip j) (right_binds k may))) resolved
+    same_goes : (b : Bool) → Goes (if b then Some (s, []) else None)
+    same_goes true q qs e h = dropped_goes q qs e h
+    same_goes false q qs e h = cc
 
-    bound_holds : (e : Equation) → IsEquation S (under s v) (under s w) e → if_bound s e ≡ Some r → Resolves S s ((t, u) ∷ []) r
-    bound_holds (binds k x) i e = along (λ z. Resolves S s ((t, u) ∷ []) z) (some_is (bound s k x) r e) (side_binds k x i)
-    bound_holds (parts ps) i e = cc
-    bound_holds clash i e = cc
-    bound_holds nothing i e = cc
+    side_binds : (k : _) (x : Tree) → BindsSide (under s v) (under s w) k x → Resolves S (bound s k x) ps r → Resolves S s ((t, u) ∷ ps) r
+    side_binds k x (binds_left i j may) h = binding t u v w [] ps rt ru
+        (along (λ z. Binds s z (under s w) (bound s k x)) (flip i) (along (λ z. Binds s (rule_variable k) z (bound s k x)) (flip j) (left_binds k may))) h
+    side_binds k x (binds_right i j may) h = binding t u v w [] ps rt ru
+        (along (λ z. Binds s (under s v) z (bound s k x)) (flip i) (along (λ z. Binds s z (rule_variable k) (bound s k x)) (flip j) (right_binds k may))) h
 
-    nothing_holds : (e : Equation) → if_nothing s e ≡ Some r → Resolves S s ((t, u) ∷ []) r
-    nothing_holds nothing e = same_bindings s r t u e
-    nothing_holds (binds k x) e = cc
-    nothing_holds (parts ps) e = cc
-    nothing_holds clash e = cc
+    bound_goes : (e : Equation) → IsEquation S (under s v) (under s w) e → Goes (if_bound s e)
+    bound_goes (binds k x) i q qs e h = let j : ◌≡◌ {A = Solved} (bound s k x, []) (q, qs) = cc in
+        side_binds k x i (along (λ z. Resolves S z.0 (z.1 ++ ps) r) (flip j) h)
+    bound_goes (parts xs) i q qs e h = cc
+    bound_goes clash i q qs e h = cc
+    bound_goes nothing i q qs e h = cc
 
-    left_holds : (b : Bool) → (if b then if_bound s (equation_of S (under s v) (under s w)) else None) ≡ Some r → Resolves S s ((t, u) ∷ []) r
-    left_holds true e = bound_holds (equation_of S (under s v) (under s w)) (equation_is S (under s v) (under s w)) e
-    left_holds false e = cc
+    parts_go : (e : Equation) → IsEquation S (under s v) (under s w) e → Goes (if_parts s e)
+    parts_go (parts xs) i q qs e h = let j : ◌≡◌ {A = Solved} (s, xs) (q, qs) = cc in
+        replaced t u v w [] ps rt ru i (along (λ z. Resolves S z.0 (z.1 ++ ps) r) (flip j) h)
+    parts_go (binds k x) i q qs e h = cc
+    parts_go clash i q qs e h = cc
+    parts_go nothing i q qs e h = cc
 
-    right_holds : (b : Bool) → (if b then None else if_bound s (equation_of S (under s v) (under s w))) ≡ Some r → Resolves S s ((t, u) ∷ []) r
-    right_holds true e = cc
-    right_holds false e = bound_holds (equation_of S (under s v) (under s w)) (equation_is S (under s v) (under s w)) e
+    nothing_goes : (e : Equation) → Goes (if_nothing s e)
+    nothing_goes nothing q qs e h = dropped_goes q qs e h
+    nothing_goes (binds k x) q qs e h = cc
+    nothing_goes (parts xs) q qs e h = cc
+    nothing_goes clash q qs e h = cc
 
-    parts_hold : (g : Equations → Option Bindings) → ((ps : Equations) → g ps ≡ Some r → Resolves S s ps r) → (e : Equation) → IsEquation S (under s v) (under s w) e
-        → if_parts g e ≡ Some r → Resolves S s ((t, u) ∷ []) r
-    parts_hold g h (parts ps) i e = replaced t u v w [] [] rt ru i (along (λ z. Resolves S s z r) (flip (append-nil ps)) (h ps e))
-    parts_hold g h (binds k x) i e = cc
-    parts_hold g h clash i e = cc
-    parts_hold g h nothing i e = cc
+    left_goes : (b : Bool) → Goes (if b then if_bound s (equation_of S (under s v) (under s w)) else None)
+    left_goes true q qs e h = bound_goes (equation_of S (under s v) (under s w)) (equation_is S (under s v) (under s w)) q qs e h
+    left_goes false q qs e h = cc
 
-  from_sides : (P : Type 0) (xs ys : ItemSteps) (s : Bindings) (t u : Tree) (g : Tree → Tree → Option Bindings) (r : Bindings) → sides_taken S xs ys s t u g ≡ Some r
-      → ((v w : Tree) → ReducesTo S (under s t) v → ReducesTo S (under s u) w → g (under s v) (under s w) ≡ Some r → P) → P
-  from_sides P xs ys s t u g r e k = from_and_then P (steps_taken S xs (under s t)) _ r e (λ v a h.
-      from_and_then P (steps_taken S ys (under s u)) _ r h (λ w b h'. k v w (steps_sound S xs (under s t) v a) (steps_sound S ys (under s u) w b) h'))
+    right_goes : (b : Bool) → Goes (if b then None else if_bound s (equation_of S (under s v) (under s w)))
+    right_goes true q qs e h = cc
+    right_goes false q qs e h = bound_goes (equation_of S (under s v) (under s w)) (equation_is S (under s v) (under s w)) q qs e h
 
-  mutual
-    solution_holds : (x : Solution) (s : Bindings) (t u : Tree) (r : Bindings) → solution_taken S x s t u ≡ Some r → Resolves S s ((t, u) ∷ []) r
-    solution_holds (same_now xs ys) s t u r e = from_sides (Resolves S s ((t, u) ∷ []) r) xs ys s t u (if_same s) r e (λ v w rt ru h. same_if s r t u (equal (under s v) (under s w)) h)
-    solution_holds (left_bound xs ys) s t u r e = from_sides (Resolves S s ((t, u) ∷ []) r) xs ys s t u (if_left S s) r e (λ v w rt ru h. left_holds s t u v w rt ru r (is_left (under s v) (under s w)) h)
-    solution_holds (right_bound xs ys) s t u r e = from_sides (Resolves S s ((t, u) ∷ []) r) xs ys s t u (if_right S s) r e (λ v w rt ru h. right_holds s t u v w rt ru r (is_left (under s v) (under s w)) h)
-    solution_holds (in_parts xs ys subs) s t u r e = from_sides (Resolves S s ((t, u) ∷ []) r) xs ys s t u (λ v w. if_parts (solutions_taken S subs s) (equation_of S v w)) r e (λ v w rt ru h.
-        parts_hold s t u v w rt ru r (solutions_taken S subs s) (λ ps g. solutions_hold subs ps s r g) (equation_of S (under s v) (under s w)) (equation_is S (under s v) (under s w)) h)
-    solution_holds (let_go xs ys) s t u r e = from_sides (Resolves S s ((t, u) ∷ []) r) xs ys s t u (λ v w. if_nothing s (equation_of S v w)) r e (λ v w rt ru h.
-        nothing_holds s t u v w rt ru r (equation_of S (under s v) (under s w)) h)
+    word_goes : (x : ItemWord) → Goes (word_taken S x s (under s v) (under s w))
+    word_goes same_now = same_goes (equal (under s v) (under s w))
+    word_goes left_bound = left_goes (is_left (under s v) (under s w))
+    word_goes right_bound = right_goes (is_left (under s v) (under s w))
+    word_goes in_parts = parts_go (equation_of S (under s v) (under s w)) (equation_is S (under s v) (under s w))
+    word_goes let_go = nothing_goes (equation_of S (under s v) (under s w))
 
-    solutions_hold : (xs : Solutions) (ps : Equations) (s r : Bindings) → solutions_taken S xs s ps ≡ Some r → Resolves S s ps r
-    solutions_hold no_solutions [] s r e = along (λ x. Resolves S s [] x) (some_is s r e) resolved
-    solutions_hold no_solutions (p ∷ ps) s r e = cc
-    solutions_hold (more_solutions x xs) [] s r e = cc
-    solutions_hold (more_solutions x xs) (p ∷ ps) s r e = from_and_then (Resolves S s (p ∷ ps) r) (solution_taken S x s p.0 p.1) _ r e (λ q a h.
-        resolves_then S ps (solution_holds x s p.0 p.1 q a) (solutions_hold xs ps q r h))
+  equation_goes : (x : ItemWord) (xs ys : ItemSteps) (s q r : Bindings) (t u : Tree) (qs ps : Equations) → equation_taken S x xs ys s t u ≡ Some (q, qs)
+      → Resolves S q (qs ++ ps) r → Resolves S s ((t, u) ∷ ps) r
+  equation_goes x xs ys s q r t u qs ps e h = from_and_then (Resolves S s ((t, u) ∷ ps) r) (steps_taken S xs (under s t)) _ (q, qs) e (λ v a g.
+      from_and_then (Resolves S s ((t, u) ∷ ps) r) (steps_taken S ys (under s u)) _ (q, qs) g (λ w b f.
+      word_goes s t u v w (steps_sound S xs (under s t) v a) (steps_sound S ys (under s u) w b) ps r x q qs f h))
 
-  solved_if : (items m : List Item) (o : Option Bindings) (r : Bindings) → solved_with_rest items o ≡ answer r m → o ≡ Some r
-  solved_if items m None r e = cc
-  solved_if items m (Some s) r e = let q : s ≡ r = cc in ap Some q
+  solved_holds : (items m : List Item) (s r : Bindings) (t u : Tree) (ps : Equations) (x : ItemWord) (xs ys : ItemSteps)
+      → ((q : Bindings) (qs : Equations) → solutions_taken S items q (qs ++ ps) ≡ answer r m → Resolves S q (qs ++ ps) r)
+      → (o : Option Solved) → equation_taken S x xs ys s t u ≡ o → solving_on o (λ q qs. solutions_taken S items q (qs ++ ps)) ≡ answer r m → Resolves S s ((t, u) ∷ ps) r
+  solved_holds items m s r t u ps x xs ys h None i e = cc
+  solved_holds items m s r t u ps x xs ys h (Some p) i e = equation_goes x xs ys s p.0 r t u p.1 ps i (h p.0 p.1 e)
+
+  solutions_hold : (items m : List Item) (s r : Bindings) (ps : Equations) → solutions_taken S items s ps ≡ answer r m → Resolves S s ps r
+  solutions_hold items m s r [] e = let q : s ≡ r = cc in along (λ x. Resolves S s [] x) q resolved
+  solutions_hold [] m s r (p ∷ ps) e = cc
+  solutions_hold (reduction xs ∷ items) m s r (p ∷ ps) e = cc
+  solutions_hold (joining xs ys ∷ items) m s r (p ∷ ps) e = cc
+  solutions_hold (equation x xs ys ∷ items) m s r (p ∷ ps) e = solved_holds items m s r p.0 p.1 ps x xs ys
+      (λ q qs. solutions_hold items m q r (qs ++ ps)) (equation_taken S x xs ys s p.0 p.1) refl e
 
   solutions_sound : (n m : List Item) (s r : Bindings) (t u : Tree) → next_solution S n s t u ≡ answer r m → Resolves S s ((t, u) ∷ []) r
-  solutions_sound [] m s r t u e = cc
-  solutions_sound (reduction xs ∷ items) m s r t u e = cc
-  solutions_sound (joining xs ys ∷ items) m s r t u e = cc
-  solutions_sound (equation x ∷ items) m s r t u e = solution_holds x s t u r (solved_if items m (solution_taken S x s t u) r e)
+  solutions_sound n m s r t u e = solutions_hold n m s r ((t, u) ∷ []) e
 
   pub items_reduce : Reduces S (by_items S)
   items_reduce = record { whnf = reductions_sound; same = joinings_sound; normal = reductions_sound; solve = solutions_sound }

@@ -4,13 +4,17 @@ use Rattle.dk_model.specs.Trees.{Tree, star, symbol, variable, rule_variable, ap
 use Rattle.dk_model.specs.Signatures.{rule_variable_pattern, guard_pattern, PlainRule, symbol_entry, rules_entry, PlainEntry, PlainSignature}
 use Rattle.dk_model.specs.Scoping.{PlainLeft, left_symbol, left_rule_variable, left_apply, PlainScopedRule, PlainCommand, declare, rule_command}
 use Rattle.dk_model.specs.declared.signature.SymSort.TheVariants.{Static, Definable, Theorem}
-use Rattle.checked_steps.specs.Items.{ItemSteps, beta_step, rule_step, no_steps, more_steps, no_joins, more_joins, left_bound, right_bound, in_parts, let_go, no_solutions, more_solutions, Item, reduction, joining, equation}
+use Rattle.checked_steps.specs.Items.{ItemSteps, beta_step, rule_step, no_steps, more_steps, no_joins, more_joins, ItemWord, left_bound, right_bound, in_parts, let_go, Item, reduction, joining, equation}
 use Rattle.checked_steps.specs.Taken.{steps_taken}
 use Rattle.checked_steps.specs.Checked.{IsChecked}
 
 -- r 0
 abbrev r0 : Item
 r0 = reduction no_steps
+
+-- e 0 0 and a word
+abbrev e00 : ItemWord → Item
+e00 w = equation w no_steps no_steps
 
 -- ---- nat : Type. z : nat. thm t : nat := z.
 
@@ -93,16 +97,20 @@ tail_rule = record {
 
 -- five r 0, e 0 0 t, e 0 0 t, e 0 0 l, j 0 0
 tail_checked : IsChecked lists (rule_command (tail_rule ∷ []))
-    (r0 ∷ r0 ∷ r0 ∷ r0 ∷ r0 ∷ equation (in_parts no_steps no_steps (more_solutions (in_parts no_steps no_steps (more_solutions (left_bound no_steps no_steps) no_solutions)) no_solutions)) ∷ joining no_steps no_steps ∷ [])
+    (r0 ∷ r0 ∷ r0 ∷ r0 ∷ r0 ∷ e00 in_parts ∷ e00 in_parts ∷ e00 left_bound ∷ joining no_steps no_steps ∷ [])
 tail_checked = refl
 
 -- the right variable isn't bound where the left one may be, and an equation of one head isn't dropped
 tail_bound_right : ¬ IsChecked lists (rule_command (tail_rule ∷ []))
-    (r0 ∷ r0 ∷ r0 ∷ r0 ∷ r0 ∷ equation (in_parts no_steps no_steps (more_solutions (in_parts no_steps no_steps (more_solutions (right_bound no_steps no_steps) no_solutions)) no_solutions)) ∷ joining no_steps no_steps ∷ [])
+    (r0 ∷ r0 ∷ r0 ∷ r0 ∷ r0 ∷ e00 in_parts ∷ e00 in_parts ∷ e00 right_bound ∷ joining no_steps no_steps ∷ [])
 tail_bound_right e = cc
 
-tail_dropped : ¬ IsChecked lists (rule_command (tail_rule ∷ [])) (r0 ∷ r0 ∷ r0 ∷ r0 ∷ r0 ∷ equation (let_go no_steps no_steps) ∷ joining no_steps no_steps ∷ [])
+tail_dropped : ¬ IsChecked lists (rule_command (tail_rule ∷ [])) (r0 ∷ r0 ∷ r0 ∷ r0 ∷ r0 ∷ e00 let_go ∷ joining no_steps no_steps ∷ [])
 tail_dropped e = cc
+
+-- the equation of the parts isn't there
+tail_part_missing : ¬ IsChecked lists (rule_command (tail_rule ∷ [])) (r0 ∷ r0 ∷ r0 ∷ r0 ∷ r0 ∷ e00 in_parts ∷ e00 in_parts ∷ joining no_steps no_steps ∷ [])
+tail_part_missing e = cc
 
 -- ---- nat : Type. z : nat. def same : nat -> nat -> nat. [x] same x x --> x. P : nat -> Type. p : P z. thm t : P (same z z) := p.
 

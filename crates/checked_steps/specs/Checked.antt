@@ -1,6 +1,6 @@
 -- Trusted: a checked derivation of a command: typing, where each evaluation that it asks for has an item in its place
 -- (docs/certificates.md).
-use Rattle.std.specs.Prelude.{◌≡◌, Option, Some, None, Bool, true, if◌then◌else◌, List, [], ◌∷◌}
+use Rattle.std.specs.Prelude.{◌≡◌, Option, Some, None, Bool, true, if◌then◌else◌, List, [], ◌∷◌, ◌++◌}
 use Rattle.dk_model.specs.PlainTerms.{Tree}
 use Rattle.dk_model.specs.PlainEntries.{PlainSignature}
 use Rattle.dk_model.specs.PlainCommands.{PlainCommand, declare, rule_command, query}
@@ -8,15 +8,16 @@ use Rattle.dk_model.specs.Bindings.{Bindings}
 use Rattle.dk_model.specs.TypingOver.{Evaluator, JudgedIn, answer, ended}
 use Rattle.dk_model.specs.CommandTypingOver.{command_checked}
 use Rattle.checked_steps.specs.Items.{Item, reduction, joining, equation}
-use Rattle.checked_steps.specs.Taken.{both_same, steps_taken, solution_taken}
+use Rattle.checked_steps.specs.Taken.{Solved, both_same, steps_taken, equation_taken}
 
 abbrev pub with_rest : {A : Type 0} → List Item → Option A → Option (A × List Item)
 with_rest items None = None
 with_rest items (Some a) = Some (a, items)
 
-abbrev pub solved_with_rest : List Item → Option Bindings → JudgedIn (List Item) Bindings
-solved_with_rest items None = ended
-solved_with_rest items (Some s) = answer s items
+-- solving goes on where an equation is solved
+abbrev pub solving_on : Option Solved → (Bindings → List (Tree × Tree) → JudgedIn (List Item) Bindings) → JudgedIn (List Item) Bindings
+solving_on None g = ended
+solving_on (Some p) g = g p.0 p.1
 
 module _ (S : PlainSignature) where
   -- the form to which the next item reduces the term
@@ -29,9 +30,14 @@ module _ (S : PlainSignature) where
   next_joining (joining xs ys ∷ items) t u = if both_same (steps_taken S xs t) (steps_taken S ys u) then Some (true, items) else None
   next_joining items t u = None
 
+  -- the bindings once these equations are solved, in order, each by the next item; the parts of one stand in its place
+  abbrev pub solutions_taken : List Item → Bindings → List (Tree × Tree) → JudgedIn (List Item) Bindings
+  solutions_taken items s [] = answer s items
+  solutions_taken (equation w xs ys ∷ items) s (p ∷ ps) = solving_on (equation_taken S w xs ys s p.0 p.1) (λ r qs. solutions_taken items r (qs ++ ps))
+  solutions_taken items s (p ∷ ps) = ended
+
   abbrev pub next_solution : List Item → Bindings → Tree → Tree → JudgedIn (List Item) Bindings
-  next_solution (equation x ∷ items) s t u = solved_with_rest items (solution_taken S x s t u)
-  next_solution items s t u = ended
+  next_solution items s t u = solutions_taken items s ((t, u) ∷ [])
 
 -- each evaluation takes the next item off the list, which must do its work; what is spent is items
 abbrev pub by_items : PlainSignature → Evaluator (List Item)

@@ -17,23 +17,18 @@ mutual
     no_joins : ItemJoins
     more_joins : ItemSteps → ItemSteps → ItemJoins → ItemJoins
 
-mutual
-  -- how an equation is solved, after steps of both sides: they are the same now, the left or the right one is bound, it is
-  -- solved in its parts, or it is dropped
-  pub data Solution : Type 0 where
-    same_now : ItemSteps → ItemSteps → Solution
-    left_bound : ItemSteps → ItemSteps → Solution
-    right_bound : ItemSteps → ItemSteps → Solution
-    in_parts : ItemSteps → ItemSteps → Solutions → Solution
-    let_go : ItemSteps → ItemSteps → Solution
+-- how an equation is solved, after steps of both sides: they are the same now, the left or the right one is bound, it is solved
+-- in its parts, each by a later item, or it is dropped
+pub data ItemWord : Type 0 where
+  same_now : ItemWord
+  left_bound : ItemWord
+  right_bound : ItemWord
+  in_parts : ItemWord
+  let_go : ItemWord
 
-  pub data Solutions : Type 0 where
-    no_solutions : Solutions
-    more_solutions : Solution → Solutions → Solutions
-
--- an item stands for one evaluation that typing asks for: a form of a term, that two terms are the same, or the equation of two
--- types
+-- an item stands for one evaluation that typing asks for: a form of a term, or that two terms are the same; or for one equation,
+-- of two types or of two parts
 pub data Item : Type 0 where
   reduction : ItemSteps → Item
   joining : ItemSteps → ItemSteps → Item
-  equation : Solution → Item
+  equation : ItemWord → ItemSteps → ItemSteps → Item

@@ -1,4 +1,4 @@
--- Trusted: what steps and solutions give: substitution, instances and single steps, and no strategy (docs/certificates.md).
+-- Trusted: what steps and equations give: substitution, instances and single steps, and no strategy (docs/certificates.md).
 use Rattle.std.specs.Prelude.{ℕ, Option, Some, None, Bool, true, false, ◌&&◌, if◌then◌else◌, List, [], ◌∷◌, slice_get}
 use Rattle.dk_model.specs.PlainTerms.{Tree, apply, bare}
 use Rattle.dk_model.specs.Substitution.{substitute, equal}
@@ -10,7 +10,7 @@ use Rattle.dk_model.specs.Solving.{Equation, binds, parts, nothing, binder_of, e
 use Rattle.dk_model.specs.RuleTypingOver.{patterns_of}
 use Rattle.typing_model.specs.Steps.{Part, capture, instantiated}
 use Rattle.checked_steps.specs.Matching.{all_matched, to_join, at_place}
-use Rattle.checked_steps.specs.Items.{ItemStep, beta_step, rule_step, ItemSteps, no_steps, more_steps, ItemJoins, no_joins, more_joins, Solution, same_now, left_bound, right_bound, in_parts, let_go, Solutions, no_solutions, more_solutions}
+use Rattle.checked_steps.specs.Items.{ItemStep, beta_step, rule_step, ItemSteps, no_steps, more_steps, ItemJoins, no_joins, more_joins, ItemWord, same_now, left_bound, right_bound, in_parts, let_go}
 
 abbrev pub and_then : {A B : Type 0} → Option A → (A → Option B) → Option B
 and_then None g = None
@@ -37,34 +37,30 @@ fired S number met t = and_then (head_symbol t) (λ k. and_then (slice_get (rule
 
 -- ---- equations
 
--- both sides under the bindings may have changed
-abbrev pub if_same : Bindings → Tree → Tree → Option Bindings
-if_same s v w = if equal v w then Some s else None
+-- the bindings after an equation, and the equations that stand in its place
+abbrev pub Solved : Type 0
+Solved = Bindings × List (Tree × Tree)
 
-abbrev pub if_bound : Bindings → Equation → Option Bindings
-if_bound s (binds k x) = Some (bound s k x)
+abbrev pub if_same : Bindings → Tree → Tree → Option Solved
+if_same s v w = if equal v w then Some (s, []) else None
+
+abbrev pub if_bound : Bindings → Equation → Option Solved
+if_bound s (binds k x) = Some (bound s k x, [])
 if_bound s e = None
 
-abbrev pub if_nothing : Bindings → Equation → Option Bindings
-if_nothing s nothing = Some s
-if_nothing s e = None
+abbrev pub if_parts : Bindings → Equation → Option Solved
+if_parts s (parts ps) = Some (s, ps)
+if_parts s e = None
 
-abbrev pub if_parts : (List (Tree × Tree) → Option Bindings) → Equation → Option Bindings
-if_parts g (parts ps) = g ps
-if_parts g e = None
+abbrev pub if_nothing : Bindings → Equation → Option Solved
+if_nothing s nothing = Some (s, [])
+if_nothing s e = None
 
 -- whether the left side is a rule variable that may be bound to the right one
 abbrev pub is_left : Tree → Tree → Bool
 is_left v w = elim (binder_of v w) [ None ↦ false | Some k ↦ true ]
 
 module _ (S : PlainSignature) where
-  abbrev pub if_left : Bindings → Tree → Tree → Option Bindings
-  if_left s v w = if is_left v w then if_bound s (equation_of S v w) else None
-
-  -- the right one where the left one may not be bound
-  abbrev pub if_right : Bindings → Tree → Tree → Option Bindings
-  if_right s v w = if is_left v w then None else if_bound s (equation_of S v w)
-
   abbrev mutual
     -- the term after a step; None where the step can't be taken
     pub step_taken : ItemStep → Tree → Option Tree
@@ -82,22 +78,15 @@ module _ (S : PlainSignature) where
     all_joined (more_joins xs ys js) [] = false
     all_joined (more_joins xs ys js) (c ∷ cs) = both_same (steps_taken xs c.0) (steps_taken ys c.1) && all_joined js cs
 
-  -- the sides under the bindings, after their steps, under the bindings
-  abbrev pub sides_taken : ItemSteps → ItemSteps → Bindings → Tree → Tree → (Tree → Tree → Option Bindings) → Option Bindings
-  sides_taken xs ys s t u g = and_then (steps_taken xs (under s t)) (λ v. and_then (steps_taken ys (under s u)) (λ w. g (under s v) (under s w)))
+  -- by this word, of the equation of v and w; a right side is bound where the left one may not be
+  abbrev pub word_taken : ItemWord → Bindings → Tree → Tree → Option Solved
+  word_taken same_now s v w = if_same s v w
+  word_taken left_bound s v w = if is_left v w then if_bound s (equation_of S v w) else None
+  word_taken right_bound s v w = if is_left v w then None else if_bound s (equation_of S v w)
+  word_taken in_parts s v w = if_parts s (equation_of S v w)
+  word_taken let_go s v w = if_nothing s (equation_of S v w)
 
-  abbrev mutual
-    -- the bindings after the equation of t and u
-    pub solution_taken : Solution → Bindings → Tree → Tree → Option Bindings
-    solution_taken (same_now xs ys) s t u = sides_taken xs ys s t u (if_same s)
-    solution_taken (left_bound xs ys) s t u = sides_taken xs ys s t u (if_left s)
-    solution_taken (right_bound xs ys) s t u = sides_taken xs ys s t u (if_right s)
-    solution_taken (in_parts xs ys subs) s t u = sides_taken xs ys s t u (λ v w. if_parts (solutions_taken subs s) (equation_of S v w))
-    solution_taken (let_go xs ys) s t u = sides_taken xs ys s t u (λ v w. if_nothing s (equation_of S v w))
-
-    -- each pair, in order, has its solution
-    pub solutions_taken : Solutions → Bindings → List (Tree × Tree) → Option Bindings
-    solutions_taken no_solutions s [] = Some s
-    solutions_taken no_solutions s (p ∷ ps) = None
-    solutions_taken (more_solutions x xs) s [] = None
-    solutions_taken (more_solutions x xs) s (p ∷ ps) = and_then (solution_taken x s p.0 p.1) (λ r. solutions_taken xs r ps)
+  -- the equation of t and u: both sides under the bindings take their steps, and are taken under the bindings again
+  abbrev pub equation_taken : ItemWord → ItemSteps → ItemSteps → Bindings → Tree → Tree → Option Solved
+  equation_taken w xs ys s t u =
+      and_then (steps_taken xs (under s t)) (λ a. and_then (steps_taken ys (under s u)) (λ b. word_taken w s (under s a) (under s b)))

@@ -19,7 +19,7 @@ pub fn checked_has_derivation()
     ensures signature { (S : _) → IsSignature S → CheckedHasDerivation S }
     ensures plain { (S : _) → HasNoAnnotations S → CheckedHasDerivation S }
 {
-    // Proved by the structure of steps and of solutions.
+    // Proved by the structure of steps, and item by item.
 }
 
 /// An accepted command has a checked derivation: it can be certified. The type that is inferred for a body is the type of it
