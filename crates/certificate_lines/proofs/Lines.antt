@@ -22,7 +22,7 @@ choice P c k x y a false q e f g = g e
 from_if : {A : Type 0} (P : Type 0) (c k : ℕ) (x y : Option A) (a : A) → (if eqb c k then x else y) ≡ Some a → (c ≡ k → x ≡ Some a → P) → (y ≡ Some a → P) → P
 from_if P c k x y a e f g = choice P c k x y a (eqb c k) refl e f g
 
-some_is : {A : Type 0} (a b : A) → Some a ≡ Some b → a ≡ b
+pub some_is : {A : Type 0} (a b : A) → Some a ≡ Some b → a ≡ b
 some_is a b e = cc
 
 -- ---- what is read stands there
@@ -103,13 +103,13 @@ line_stands (c ∷ cs) l e = numbered_stands c cs l e
 spaced_read : (n : ℕ) (xs : List ℕ) → IsShort n → IsEnd xs → read_spaced (spaced n xs) ≡ Some (n, xs)
 spaced_read n xs s i = number_read n xs s i
 
-one_read : (n : ℕ) → IsShort n → read_one (spaced n []) ≡ Some n
+pub one_read : (n : ℕ) → IsShort n → read_one (spaced n []) ≡ Some n
 one_read n s = ap (λ o. and_then o nothing_behind) (spaced_read n [] s refl)
 
-two_read : (n m : ℕ) → IsShort n → IsShort m → read_two (spaced n (spaced m [])) ≡ Some (n, m)
+pub two_read : (n m : ℕ) → IsShort n → IsShort m → read_two (spaced n (spaced m [])) ≡ Some (n, m)
 two_read n m s r = ap (λ o. and_then o (λ p. and_then (read_one p.1) (λ k. Some (p.0, k)))) (spaced_read n (spaced m []) s refl) ∙ ap (λ o. and_then o (λ k. Some (n, k))) (one_read m r)
 
-rule_read : (n m k : ℕ) → IsShort n → IsShort m → IsShort k → read_rule (spaced n (spaced m (spaced k []))) ≡ Some (Rule n m k)
+pub rule_read : (n m k : ℕ) → IsShort n → IsShort m → IsShort k → read_rule (spaced n (spaced m (spaced k []))) ≡ Some (Rule n m k)
 rule_read n m k s r q = ap (λ o. and_then o (λ p. and_then (read_two p.1) (λ j. Some (Rule p.0 j.0 j.1)))) (spaced_read n (spaced m (spaced k [])) s refl)
     ∙ ap (λ o. and_then o (λ j. Some (Rule n j.0 j.1))) (two_read m k r q)
 
@@ -120,7 +120,7 @@ word_read RightBound = refl
 word_read InParts = refl
 word_read LetGo = refl
 
-equation_read : (n m : ℕ) (w : Word) → IsShort n → IsShort m → read_equation (spaced n (spaced m (32 ∷ word_text w))) ≡ Some (Equation n m w)
+pub equation_read : (n m : ℕ) (w : Word) → IsShort n → IsShort m → read_equation (spaced n (spaced m (32 ∷ word_text w))) ≡ Some (Equation n m w)
 equation_read n m w s r = ap (λ o. and_then o (λ p. and_then (read_spaced p.1) (λ q. and_then (read_word q.1) (λ v. Some (Equation p.0 q.0 v))))) (spaced_read n (spaced m (32 ∷ word_text w)) s refl)
     ∙ ap (λ o. and_then o (λ q. and_then (read_word q.1) (λ v. Some (Equation n q.0 v)))) (spaced_read m (32 ∷ word_text w) r refl)
     ∙ ap (λ o. and_then o (λ v. Some (Equation n m v))) (word_read w)

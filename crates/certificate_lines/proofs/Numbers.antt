@@ -18,14 +18,14 @@ digit_if c false true p q e = (ltb-false c 48 p, ltb-true c 58 q)
 digit_if c false false p q e = cc
 digit_if c true d p q e = cc
 
-digit_is : (c : ℕ) → is_digit c ≡ true → (48 ≤ c) × (c < 58)
+pub digit_is : (c : ℕ) → is_digit c ≡ true → (48 ≤ c) × (c < 58)
 digit_is c e = digit_if c (nat_lt c 48) (nat_lt c 58) refl refl e
 
 is_one : (c : ℕ) → 48 ≤ c → c < 58 → is_digit c ≡ true
 is_one c l m = rw (le-ltb c 48 l, lt-ltb c 58 m) refl
 
 -- a digit as std has it
-one_digit : (c : ℕ) → digit_value c < 10 → (is_digit c ≡ true) × (digit_value c ≡ c - 48)
+pub one_digit : (c : ℕ) → digit_value c < 10 → (is_digit c ≡ true) × (digit_value c ≡ c - 48)
 one_digit c h = let r = digit_from_value c h in let v : digit_value c + 48 ≡ c = digit_value_digit c r in
     (is_one c (omega (arith, r)) (omega (arith, r)), omega (arith, v))
 
