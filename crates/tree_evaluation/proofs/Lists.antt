@@ -1,16 +1,10 @@
 -- Lists under a view.
-use Rattle.std.proofs.Common.{List, [], ◌∷◌, ◌++◌, ◌≡◌, ◌+◌, ◌≤◌, ℕ, zero, suc, length, map, take, drop, refl, ap, ◌∙◌, sym as flip, arith, Some, None}
+use Rattle.std.proofs.Common.{List, [], ◌∷◌, ◌++◌, ◌≡◌, ◌+◌, ℕ, zero, suc, length, map, take, drop, refl, ap, ◌∙◌, sym as flip, arith, Some, None}
 use Rattle.std.specs.Prelude.{slice_get}
 use Rattle.std.proofs.lemmas.List.{map-append, take-map, drop-map, length-map}
-use Rattle.dk_model.specs.Trees.{Tree, tree}
-use Rattle.dk_model.specs.Signatures.{PlainRule}
+use Rattle.dk_model.specs.Trees.{tree}
 use Rattle.dk_model.specs.declared.term.Term.{Term}
 use Rattle.tree_evaluation.specs.declared.matrix.Column.{Column}
-use Rattle.tree_evaluation.specs.declared.rules.SymbolRule.{SymbolRule}
-use Rattle.tree_evaluation.specs.Views.{rule}
-
-pub argument_pushed : (ts new : List Term) (a : Term) (xs : List Tree) → new ≡ ts ++ (a ∷ []) → map tree ts ≡ xs → map tree new ≡ xs ++ (tree a ∷ [])
-argument_pushed ts new a xs e q = ap (map tree) e ∙ map-append tree ts (a ∷ []) ∙ ap (λ (l : List Tree). l ++ (tree a ∷ [])) q
 
 -- a list with others in the place of one of its items
 pub spliced : {A B : Type 0} (f : A → B) (i : ℕ) (xs ys : List A) → map f (take i xs ++ ys ++ drop (i + 1) xs) ≡ take i (map f xs) ++ map f ys ++ drop (i + 1) (map f xs)
@@ -40,25 +34,6 @@ next_on (suc i) (y ∷ cs) behind x e = next_on i cs behind x e
 
 pub cut_behind : (i : ℕ) (cs behind : List Column) (x : Column) → drop i cs ≡ x ∷ behind → behind ≡ drop (i + 1) cs
 cut_behind i cs behind x e = next_on i cs behind x e ∙ ap (λ (n : ℕ). drop n cs) (let k : suc i ≡ i + 1 = omega arith in k)
-
--- the rules of a symbol, one after another
-
-take_next : (rs : List PlainRule) (j : ℕ) (r : PlainRule) → slice_get rs j ≡ Some r → take (suc j) rs ≡ take j rs ++ (r ∷ [])
-take_next [] j r e = cc
-take_next (x ∷ rs) zero r e = let q : x ≡ r = cc in ap (λ (y : PlainRule). y ∷ []) q
-take_next (x ∷ rs) (suc j) r e = ap (λ (l : List PlainRule). x ∷ l) (take_next rs j r e)
-
-pub rule_listed : (rs : List PlainRule) (xs new : List SymbolRule) (j : ℕ) (r : SymbolRule) → slice_get rs j ≡ Some (rule r) → map rule xs ≡ take j rs
-    → new ≡ xs ++ (r ∷ []) → map rule new ≡ take (j + 1) rs
-rule_listed rs xs new j r e h q =
-    ap (map rule) q ∙ map-append rule xs (r ∷ []) ∙ ap (λ (l : List PlainRule). l ++ (rule r ∷ [])) h
-    ∙ flip (take_next rs j (rule r) e) ∙ ap (λ (k : ℕ). take k rs) (let i : suc j ≡ j + 1 = omega arith in i)
-
-pub all_listed : (rs : List PlainRule) (j : ℕ) → length rs ≤ j → take j rs ≡ rs
-all_listed [] zero le = refl
-all_listed [] (suc j) le = refl
-all_listed (x ∷ rs) zero le = absurd (omega arith)
-all_listed (x ∷ rs) (suc j) le = ap (λ (l : List PlainRule). x ∷ l) (all_listed rs j (omega arith))
 
 -- arguments as the code has them
 

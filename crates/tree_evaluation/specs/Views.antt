@@ -4,21 +4,19 @@ use Rattle.std.specs.Option.{option_map}
 use Rattle.std.specs.declared.vec.Vec.{Vec}
 use Rattle.std.specs.declared.alloc.Global.{Global}
 use Rattle.dk_model.specs.Trees.{Tree, tree}
-use Rattle.dk_model.specs.Signatures.{Pattern, pattern_by, maybe_tree, PlainRule}
+use Rattle.dk_model.specs.Signatures.{maybe_tree}
 use Rattle.dk_model.specs.Matrix.{blank, cell, cell_at, refined_cells}
 use Rattle.dk_model.specs.Matrix.{Cell as PlainCell, Column as PlainColumn, Row as PlainRow}
 use Rattle.dk_model.specs.Captures.{Captures}
 use Rattle.dk_model.specs.Selection.{PartTrial as PlainPartTrial, CellTrial as PlainCellTrial, RowTrial as PlainRowTrial, Selected as PlainSelected}
 use Rattle.dk_model.specs.declared.term.Term.{Term}
 use Rattle.dk_model.specs.declared.signature.Pat.{Pat}
-use Rattle.shared_term.specs.Storage.{stored_term}
 use Rattle.shared_term.specs.declared.stored.Stored.{Stored}
-use Rattle.signature_log.specs.Versions.{row_rule}
+pub use Rattle.tree_terms.specs.Rules.{stored_pattern, rule}
 use Rattle.tree_evaluation.specs.declared.matrix.Cell.{Cell}
 use Rattle.tree_evaluation.specs.declared.matrix.Cell.TheVariants.{Blank, Pattern as Asks}
 use Rattle.tree_evaluation.specs.declared.matrix.Column.{Column}
 use Rattle.tree_evaluation.specs.declared.matrix.Row.{Row}
-use Rattle.tree_evaluation.specs.declared.rules.SymbolRule.{SymbolRule}
 use Rattle.tree_evaluation.specs.declared.select.Selected.{Selected}
 use Rattle.tree_evaluation.specs.declared.select.PartTrial.{PartTrial}
 use Rattle.tree_evaluation.specs.declared.select.CellTrial.{CellTrial}
@@ -34,12 +32,6 @@ abbrev pub denoted : Trees → Term → Tree
 denoted r t = tree t
 
 -- the matrix
-
-abbrev pub stored_pattern : Pat Stored → Pattern
-stored_pattern = pattern_by stored_term
-
-abbrev pub rule : SymbolRule → PlainRule
-rule r = row_rule r.symbol r.row
 
 abbrev pub pattern_cell : Pat Stored → PlainCell
 pattern_cell p = cell (stored_pattern p)

@@ -8,15 +8,13 @@ ghost use Rattle.signature_log.specs.Versions.{entries_of};
 ghost use Rattle.tree_evaluation.specs.Answers.{Answers, Leads, Spends, by_selection};
 ghost use Rattle.tree_evaluation.specs.Views.{column, row, plain_selected};
 
-use crate::captures::filled;
 use crate::matrix::{Column, Row, columns_of, rows_for, width};
-use crate::rules::rules_of;
 use crate::select::Selected;
-use crate::spines::{applied, arguments, behind, contraction, front, head_symbol};
 use dk_model::{NoMemory, Stop, Term, make_annotated, make_app, make_bare, make_product};
 use signature_log::Version;
 use std::alloc::Global;
 use std::collections::LinkedList;
+use tree_terms::{applied, arguments, behind, contraction, filled, front, head_symbol, rules_of};
 
 /// How deep the functions of an evaluation may call each other.
 const DEEPEST: u32 = 2_000;

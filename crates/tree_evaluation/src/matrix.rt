@@ -6,12 +6,11 @@ ghost use Rattle.dk_model.specs.Spines.{head, arguments};
 ghost use Rattle.dk_model.specs.Matrix.{blank, is_rigid, rigid_at, cell_at, first_cells, opened_columns, refined_cells, refined_rows, heads_same, width, rows_for};
 ghost use Rattle.tree_evaluation.specs.Views.{pattern_cell, plain_cell, plain_cells, column, at_depth, row as row_of, rule as rule_of, refined_row, cells_if};
 
-use crate::rules::SymbolRule;
-use crate::spines::{arguments, body_of, is_applied};
 use dk_model::{NoMemory, Pat, Term};
 use shared_term::Stored;
 use std::alloc::Global;
 use std::collections::LinkedList;
+use tree_terms::{SymbolRule, arguments, body_of, is_applied};
 
 /// What a row asks of a column.
 #[derive(Clone, Copy)]

@@ -9,13 +9,12 @@ ghost use Rattle.dk_model.specs.Selection.{row_taken, captures_of_row, cell_capt
 ghost use Rattle.tree_evaluation.specs.Answers.{Answers, by_value, guard_of};
 ghost use Rattle.tree_evaluation.specs.Views.{captures_of, capturing, plain_cell, plain_cells, column as column_of, row as row_of, selected, part_trial, cell_trial, row_trial};
 
-use crate::captures::{capture_at, captured, filled, mentions_others};
 use crate::evaluation::{Evaluation, deeper};
 use crate::matrix::{Cell, Column, Row, cut, joined, opened_columns, refined_rows, rigid_at};
-use crate::rules::SymbolRule;
 use dk_model::{NoMemory, Pat, Stop, Term};
 use std::alloc::Global;
 use std::collections::LinkedList;
+use tree_terms::{SymbolRule, capture_at, captured, filled, mentions_others};
 
 /// A rule that is taken, with its captures.
 #[derive(Drop)]

@@ -6,12 +6,12 @@ ghost use Rattle.dk_model.specs.Signatures.{PlainSignature};
 ghost use Rattle.signature_log.specs.Reducers.{Keeps, Makes, OwnsParts, built};
 ghost use Rattle.tree_evaluation.specs.Views.{owned, denoted};
 
-use crate::captures::{all_put, filled, may_bind, mentions_others, renamed};
 use crate::evaluation::Evaluation;
 use dk_model::{NoMemory, NodeOf, Stop, Term, make_annotated, make_app, make_bare, make_product};
 use shared_term::Stored;
 use signature_log::{Reducer, Version};
 use std::alloc::Global;
+use tree_terms::{all_put, filled, may_bind, mentions_others, renamed};
 
 /// Evaluation over boxed trees. It remembers nothing, and every term is one of its own. One that would nest too deep
 /// answers `NoMemory` (docs/evaluation.md).

@@ -1,0 +1,4 @@
+pub mod Founding
+pub mod Sizes
+pub mod Steps
+pub mod Noting

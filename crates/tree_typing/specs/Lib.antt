@@ -1,0 +1,4 @@
+pub mod Given
+pub mod Contexts
+pub mod Clauses
+pub mod Steps
