@@ -1,0 +1,4 @@
+pub mod Parts
+pub mod Lines
+pub mod Turns
+pub mod Shaped
