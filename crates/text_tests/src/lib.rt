@@ -18,6 +18,8 @@ mod reading;
 #[cfg(test)]
 mod reports;
 #[cfg(test)]
+mod theories;
+#[cfg(test)]
 mod token_rows;
 #[cfg(test)]
 mod tokens;
