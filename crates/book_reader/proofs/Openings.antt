@@ -8,7 +8,8 @@ use Rattle.theory_walk.specs.Walks.{is_module, module_in}
 use Rattle.book_reader.specs.declared.walker.Frame.{Frame}
 use Rattle.book_reader.specs.declared.walker.Walker.{Walker}
 use Rattle.file_reader.specs.Progress.{HasBegun}
-use Rattle.book_reader.specs.Ends.{AreBegun}
+use Rattle.book_reader.specs.Ends.{AreBegun, LeavesFormer}
+use Rattle.book_reader.specs.Shelves.{ShelfState}
 use Rattle.dk_io.specs.Bytes.{put_aside}
 use Rattle.dk_parser.specs.Modules.{is_directive}
 use Rattle.dk_parser.specs.Written.{WrittenCommand}
@@ -48,6 +49,26 @@ begun_more fs gs f is first later = subst AreBegun (sym (ap reverse is ∙ rever
 pub aside_one : (b : Bool) (left : Option (List ℕ)) (aside : List (Option (List ℕ))) → aside ≡ [] → length (put_aside b left aside) ≤ 1
 aside_one true left aside is = let e : length aside ≡ 0 = ap length is in omega (arith, e)
 aside_one false left aside is = let e : length aside ≡ 0 = ap length is in omega (arith, e)
+
+-- ---- what was open before
+
+none_of : {A : Type 0} (l : List A) → length l ≤ 0 → l ≡ []
+none_of [] le = refl
+none_of (x ∷ xs) le = absurd (omega (arith, le))
+
+-- nothing was put aside, and a book was opened
+pub former_opened : (old new : ShelfState) → old.aside ≡ [] → new.aside ≡ put_aside old.is_open old.left old.aside → LeavesFormer old new
+former_opened old new none opened = record {
+  few = subst (λ l. length l ≤ 1) (sym opened) (aside_one old.is_open old.left old.aside none);
+  none = λ closed. opened ∙ ap (λ b. put_aside b old.left old.aside) closed ∙ none;
+}
+
+-- where no more is put aside than behind the opening
+pub former_kept : (old mid new : ShelfState) → LeavesFormer old mid → length new.aside ≤ length mid.aside → LeavesFormer old new
+former_kept old mid new former le = record {
+  few = let one = former.few in omega (arith, le, one);
+  none = λ closed. none_of new.aside (let e = ap length (former.none closed) in omega (arith, le, e));
+}
 
 -- the needs of an item, the last of which is the next one
 pub pending_next : (c : WrittenCommand) (ms ns : List (List ℕ)) (m : List ℕ) → ms ≡ ns ++ m ∷ [] → steps_behind c (reverse ms) ≡ need (is_directive c.form) c.line m ∷ steps_behind c (reverse ns)

@@ -14,7 +14,7 @@ use Rattle.book_reader.specs.declared.walker.WalkEnd.TheVariants as end
 use Rattle.book_reader.specs.declared.walker.Walker.{Walker}
 use Rattle.dk_io.specs.Causes.{Rose}
 use Rattle.theory_walk.specs.BookNames.{book_named}
-use Rattle.book_reader.specs.Ends.{Causes, ComesTo, HoldsCounts, Moves, books_open}
+use Rattle.book_reader.specs.Ends.{Causes, ComesTo, HoldsCounts, KeepsBelow, LeavesRoom, Moves, below_file, books_open}
 use Rattle.book_reader.specs.Shelves.{ShelfState}
 use Rattle.book_reader.specs.Turns.{GivesUp}
 use Rattle.book_reader.specs.Walkers.{IsAmong, books_in, open_of, opens_below, opens_of, setting_of}
@@ -62,3 +62,8 @@ pub moves_up : (w mid new : Walker) (t u : ShelfState) (result : Result Turn Wal
 moves_up w mid new t u (Ok x) books opened gone =
     subst (λ x. Moves w new (Ok x)) (sym gone.0) (mid.top.module, sym books ∙ ap (λ os. mid.top.module ∷ books_in os) gone.1, gone.2 ∙ opened)
 moves_up w mid new t u (Err e) books opened gone = tt
+
+-- where as many lie below
+pub below_then : {T : Type 0} (w mid new : Walker) (s t u : ShelfState) (result : Result T WalkEnd) → below_file mid t ≡ below_file w s → KeepsBelow mid t new u result → KeepsBelow w s new u result
+below_then w mid new s t u (Ok x) same kept = kept ∙ same
+below_then w mid new s t u (Err e) same leaves = subst (λ n. LeavesRoom n u e) same leaves

@@ -1,5 +1,5 @@
 -- For callers: what a turn of the reading of several books comes to, and how it ends.
-use Rattle.std.specs.Prelude.{◌≡◌, ◌≤◌, ◌<◌, ℕ, ◌+◌, true, List, [], ◌∷◌, ◌++◌, length, reverse, vec_len, Some, Result, Ok, Err}
+use Rattle.std.specs.Prelude.{◌≡◌, ◌≤◌, ◌<◌, ℕ, ◌+◌, ◌-◌, true, false, List, [], ◌∷◌, ◌++◌, length, reverse, vec_len, Some, Result, Ok, Err}
 use Rattle.dk_io.specs.Bytes.{Books}
 use Rattle.dk_io.specs.Causes.{Rose}
 use Rattle.dk_parser.specs.RawViews.{written_command}
@@ -94,6 +94,25 @@ pub record HasRoom (files below : ℕ) (shelf : ShelfState) : Type 0 where
   pub is_open : shelf.is_open ≡ true
   pub all_aside : below ≤ length shelf.aside
   pub room : length shelf.aside ≤ below + 1
+
+-- so many books are put aside below those of the walk
+abbrev pub below_file : Walker → ShelfState → ℕ
+below_file w shelf = length shelf.aside - vec_len w.below
+
+-- at the end of the file at most so many books are put aside
+abbrev pub LeavesRoom : ℕ → ShelfState → WalkEnd → Type 0
+LeavesRoom count shelf end.Whole = length shelf.aside ≤ count
+LeavesRoom count shelf e = Unit {0}
+
+-- a turn puts none aside below those of the walk; at the end of the file they are all that is put aside
+abbrev pub KeepsBelow : {T : Type 0} → Walker → ShelfState → Walker → ShelfState → Result T WalkEnd → Type 0
+KeepsBelow w old v new (Ok t) = below_file v new ≡ below_file w old
+KeepsBelow w old v new (Err e) = LeavesRoom (below_file w old) new e
+
+-- what is put aside was open before: at most one book, and none where no book was open
+pub record LeavesFormer (old new : ShelfState) : Type 0 where
+  pub few : length new.aside ≤ 1
+  pub none : old.is_open ≡ false → new.aside ≡ []
 
 abbrev pub AreBegun : List Frame → Type 0
 AreBegun [] = Unit {0}

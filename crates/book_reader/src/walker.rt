@@ -1,12 +1,12 @@
 //! Several books, one inside the other.
-ghost use Rattle.std.specs.Prelude.{◌≡◌, ◌+◌, ◌<◌, ◌≤◌, ◌∷◌, [], ℕ, Bool, List, Some, None, reverse, vec_len, IfOk, OnOk, OnErr};
+ghost use Rattle.std.specs.Prelude.{◌≡◌, ◌+◌, ◌<◌, ◌≤◌, ◌∷◌, [], ℕ, Bool, List, Some, None, reverse, vec_len, IfErr, IfOk, OnOk, OnErr};
 ghost use Rattle.std.specs.List.{list_any};
 ghost use Rattle.std.specs.String.{string_bytes};
 ghost use Rattle.dk_io.specs.Bytes.{Books};
 ghost use Rattle.dk_io.specs.Causes.{HasCauseAt, MayRise};
 ghost use Rattle.theory_walk.specs.declared.needs.Standing.{Standing};
 ghost use Rattle.theory_walk.specs.Walks.{Placed, is_module, module_in, standing_of};
-ghost use Rattle.book_reader.specs.Ends.{AreBegun, Causes, ComesTo, HasRoom, IsNewTo, IsReady, Moves, books_open};
+ghost use Rattle.book_reader.specs.Ends.{AreBegun, Causes, ComesTo, HasRoom, IsNewTo, IsReady, KeepsBelow, LeavesFormer, Moves, books_open};
 ghost use Rattle.book_reader.specs.Rooms.{room_of_book, room_of_walk};
 ghost use Rattle.book_reader.specs.Shelves.{shelf_of};
 ghost use Rattle.book_reader.specs.Turns.{GivesUp, IsIdle, NeedsNext};
@@ -180,6 +180,8 @@ impl Walker {
         ensures cause { HasCauseAt (H.missed shelf.old) (H.missed shelf.new)
             (string_bytes root.file) result }
         ensures faults { MayRise (H.faults shelf.old) (H.faults shelf.new) result }
+        ensures leaves { OnOk result
+            (LeavesFormer (shelf_of H.Shelf shelf.old) (shelf_of H.Shelf shelf.new)) }
         ensures left { OnErr result (H.left shelf.new ≡ H.left shelf.old) }
         ensures aside { OnErr result (H.aside shelf.new ≡ H.aside shelf.old) }
         ensures is_open { OnErr result (H.is_open shelf.new ≡ H.is_open shelf.old) }
@@ -220,6 +222,8 @@ impl Walker {
         ensures moves { Moves self.old self.new result }
         ensures room { OnOk result (room_of_walk self.new ≤ room_of_walk self.old) }
         ensures books { H.books shelf.new ≡ H.books shelf.old }
+        ensures leaves { KeepsBelow self.old (shelf_of H.Shelf shelf.old) self.new
+            (shelf_of H.Shelf shelf.new) result }
         ensures causes { Causes (string_bytes self.old.root.file) (shelf_of H.Shelf shelf.old)
             (shelf_of H.Shelf shelf.new) result }
     {
@@ -263,6 +267,8 @@ impl Walker {
         ensures moves { Moves self.old self.new result }
         ensures room { OnOk result (room_of_walk self.new ≤ room_of_walk self.old) }
         ensures books { H.books shelf.new ≡ H.books shelf.old }
+        ensures leaves { KeepsBelow self.old (shelf_of H.Shelf shelf.old) self.new
+            (shelf_of H.Shelf shelf.new) result }
         ensures causes { Causes (string_bytes self.old.root.file) (shelf_of H.Shelf shelf.old)
             (shelf_of H.Shelf shelf.new) result }
     {
@@ -291,6 +297,8 @@ impl Walker {
         ensures room { OnOk result
             (room_of_walk self.new + room_of_book self.old.top ≡ room_of_walk self.old) }
         ensures books { H.books shelf.new ≡ H.books shelf.old }
+        ensures leaves { KeepsBelow self.old (shelf_of H.Shelf shelf.old) self.new
+            (shelf_of H.Shelf shelf.new) result }
         ensures causes { Causes (string_bytes self.old.root.file) (shelf_of H.Shelf shelf.old)
             (shelf_of H.Shelf shelf.new) result }
     {
@@ -316,6 +324,8 @@ impl Walker {
         ensures moves { Moves self.old self.new result }
         ensures room { OnOk result (room_of_walk self.new < room_of_walk self.old) }
         ensures books { H.books shelf.new ≡ H.books shelf.old }
+        ensures leaves { KeepsBelow self.old (shelf_of H.Shelf shelf.old) self.new
+            (shelf_of H.Shelf shelf.new) result }
         ensures causes { Causes (string_bytes self.old.root.file) (shelf_of H.Shelf shelf.old)
             (shelf_of H.Shelf shelf.new) result }
     {
@@ -347,6 +357,8 @@ impl Walker {
         ensures moves { Moves self.old self.new result }
         ensures room { OnOk result (room_of_walk self.new < room_of_walk self.old) }
         ensures books { H.books shelf.new ≡ H.books shelf.old }
+        ensures leaves { KeepsBelow self.old (shelf_of H.Shelf shelf.old) self.new
+            (shelf_of H.Shelf shelf.new) result }
         ensures causes { Causes (string_bytes self.old.root.file) (shelf_of H.Shelf shelf.old)
             (shelf_of H.Shelf shelf.new) result }
     {

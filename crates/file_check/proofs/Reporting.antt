@@ -1,6 +1,6 @@
 -- The report of the book in which a theory's commands were put and checked.
 use Rattle.std.proofs.Common.{◌≡◌, ◌⊎◌, inl, inr, ⊎_elim, ℕ, zero, suc, ◌+◌, Bool, true, false, List, [], ◌∷◌, ◌++◌, length, drop, refl, sym, ap, subst, ◌∙◌}
-use Rattle.std.specs.Prelude.{Option, Some, None, ◌==◌, if◌then◌else◌}
+use Rattle.std.specs.Prelude.{IfSome, Option, Some, None, ◌==◌, if◌then◌else◌}
 use Rattle.std.specs.List.{list_any}
 use Rattle.std.proofs.lemmas.List.{length-map}
 use Rattle.dk_io.specs.Bytes.{Books}
@@ -29,19 +29,21 @@ use Rattle.file_report.specs.Jobs.{AreJobsBehind, job_titles}
 use Rattle.file_report.specs.Histories.{ChecksJobsIn, ChecksTheory, DueAt, EndsReading, IsCut, ReportsTheory}
 use Rattle.file_report.proofs.Law.{theory_faults, theory_reports}
 use Rattle.book_reader.specs.declared.walker.Root.{Root}
-use Rattle.book_reader.specs.Ends.{HoldsCounts}
+use Rattle.book_reader.specs.Ends.{HoldsCounts, LeavesFormer}
 use Rattle.book_reader.specs.Shelved.{IsDueAt, MemoryDue, Setting, walk_in, whole_library, without}
 use Rattle.book_reader.specs.Shelves.{HasHeld, ShelfState}
 use Rattle.book_reader.specs.Walkers.{setting_of}
+use Rattle.book_reader.proofs.Openings.{former_kept}
 use Rattle.file_check.specs.declared.halt.Halt.{Halt}
 use Rattle.file_check.specs.declared.halt.Halt.TheVariants as halt
 use Rattle.file_check.specs.declared.job.Job.{Job}
+use Rattle.file_check.specs.Checks.{LeavesAt}
 use Rattle.file_check.specs.Counts.{CountsAt, EndsGiven, EndsOn, IsCutByMemory, Reports, ReportsBy, ReportsWhole}
 use Rattle.file_check.specs.Desks.{plain_jobs}
 use Rattle.file_check.specs.Failures.{Counted, Failure, given_till, of_opening, of_read}
 use Rattle.file_check.specs.Halts.{end_at}
 use Rattle.file_check.specs.Jobs.{due, early, job_of}
-use Rattle.file_check.specs.Lecterns.{EndsBehind, EndsBooks, EndsFront, HaltCounts, MemoryAt, ReadsBooks}
+use Rattle.file_check.specs.Lecterns.{EndLeaves, EndsBehind, EndsBooks, EndsFront, HaltCounts, MemoryAt, ReadsBooks}
 use Rattle.file_check.proofs.Steps.{counts_then}
 
 -- ---- the outcome
@@ -344,3 +346,33 @@ from_opening root budget old mid new jobs e titles books held read = record {
 -- each job has its title
 pub as_many_titles : (root : Root) (budget : ℕ) (old new : ShelfState) (jobs : List (Job × Bool)) (e : Option End) (titles : List Title) → ReadsBooks root budget old new jobs e titles → length titles ≡ length jobs
 as_many_titles root budget old new jobs e titles read = ap length read.titled ∙ length-map jobs (λ (j : Job × Bool). (job_of j.0).title)
+
+-- ---- what is put aside
+
+-- where all was accepted, the books were read to their end
+pub leaves : (old mid new : ShelfState) (titles : List Title) (events : List Event) (report : FileReport) → IsReportOf titles events report → LeavesFormer old mid
+    → IfSome (end_of events) (EndLeaves (length mid.aside) new) → LeavesAt old new report.outcome
+leaves old mid new titles events report reports former ended =
+    subst (λ (r : FileReport). LeavesAt old new r.outcome) (sym reports.2) (by_first reports.0)
+  where
+    at_fault : (count : ℕ) (place : Place) (v : Verdict) → LeavesAt old new (fault_outcome count place v)
+    at_fault count place verdict.Accepted = tt
+    at_fault count place (verdict.Refused code) = tt
+    at_fault count place verdict.Ended = tt
+    at_fault count place verdict.Memory = by_line (place.line == 0)
+      where
+        by_line : (b : Bool) → LeavesAt old new (if b then Stopped 0 nowhere verdict.Memory else Stopped (count + 1) place verdict.Memory)
+        by_line true = tt
+        by_line false = tt
+
+    at_end : (e : Option End) → IfSome e (EndLeaves (length mid.aside) new) → LeavesAt old new (end_outcome (length titles) e)
+    at_end None ended = tt
+    at_end (Some end.Whole) ended = former_kept old mid new former ended
+    at_end (Some end.Stopped) ended = tt
+    at_end (Some (end.Unread place)) ended = tt
+    at_end (Some (end.Unopened name)) ended = tt
+    at_end (Some (end.Fault place v)) ended = at_fault (length titles) place v
+
+    by_first : (f : Option (ℕ × Verdict)) → LeavesAt old new (report_with titles f (end_of events)).outcome
+    by_first (Some f) = tt
+    by_first None = at_end (end_of events) ended

@@ -1,5 +1,5 @@
 -- What a turn of the books leaves at the desk.
-use Rattle.std.proofs.Common.{◌≡◌, inl, inr, ⊎_elim, ℕ, List, [], ◌∷◌, ◌++◌, length, refl, sym, ap, subst, ◌∙◌, Some, None}
+use Rattle.std.proofs.Common.{◌≡◌, ◌≤◌, arith, inl, inr, ⊎_elim, ℕ, List, [], ◌∷◌, ◌++◌, length, refl, sym, ap, subst, ◌∙◌, Some, None}
 use Rattle.std.specs.Prelude.{Result, Ok, Err, OnOk, IfErr}
 use Rattle.dk_io.specs.Bytes.{Books}
 use Rattle.dk_model.specs.declared.code.Verdict.TheVariants as verdict
@@ -12,6 +12,8 @@ use Rattle.scope_terms.specs.declared.modules.Entered.{Entered}
 use Rattle.scope_terms.specs.declared.modules.Entered.TheVariants.{Known, New, Open}
 use Rattle.signature_log.specs.Versions.{entries_of}
 use Rattle.signature_log.specs.declared.version.Version.{Version}
+use Rattle.board_core.specs.declared.event.End.{End}
+use Rattle.board_core.specs.declared.event.End.TheVariants as end
 use Rattle.board_core.specs.Machine.{MayEnd}
 use Rattle.theory_walk.specs.Libraries.{Key}
 use Rattle.theory_walk.specs.Walks.{Placed, spot_of}
@@ -22,7 +24,7 @@ use Rattle.book_reader.specs.declared.walker.Turn.TheVariants as turn
 use Rattle.book_reader.specs.declared.walker.WalkEnd.{WalkEnd}
 use Rattle.book_reader.specs.declared.walker.WalkEnd.TheVariants as walk
 use Rattle.book_reader.specs.declared.walker.Walker.{Walker}
-use Rattle.book_reader.specs.Ends.{BeginsWalk, CausesEnd, ComesTo, HoldsCounts, Moves, books_open, placed}
+use Rattle.book_reader.specs.Ends.{BeginsWalk, CausesEnd, ComesTo, HoldsCounts, LeavesRoom, Moves, below_file, books_open, placed}
 use Rattle.book_reader.specs.Ends as books
 use Rattle.book_reader.specs.Shelves.{ShelfState}
 use Rattle.book_reader.specs.Walkers.{HasGiven, opens_of, setting_of}
@@ -37,7 +39,7 @@ use Rattle.file_check.specs.Desks.{IsSound, IsVerdictOn, StandsBehind, Stays, Ta
 use Rattle.file_check.specs.Desks as desk
 use Rattle.file_check.specs.Halts.{end_at}
 use Rattle.file_check.specs.Jobs.{module_at, modules_of, theory_of}
-use Rattle.file_check.specs.Lecterns.{EndsBooks, EntersModule, HaltCounts, IsBegun, IsReady, IsTied, Keeps, KeepsDesk, PutsCommand, Stands, StepsTo, halt_at}
+use Rattle.file_check.specs.Lecterns.{EndLeaves, EndsBooks, EntersModule, HaltCounts, IsBegun, IsReady, IsTied, Keeps, KeepsDesk, PutsCommand, Stands, StepLeaves, StepsTo, halt_at}
 use Rattle.file_check.proofs.Desking.{fresh_ready}
 use Rattle.file_check.proofs.Ending.{ends_so, memory_so, stops_so, verdict_so}
 use Rattle.file_check.proofs.Modules.{first_key, reads_module, tied_entered, tied_first, tied_kept, tied_left}
@@ -249,6 +251,39 @@ counts_then named s t u halt.Stopped held is = (is.0 ∙ held.0, λ n. is.1 n �
 counts_then named s t u (halt.Fault line v) held is = (is.0 ∙ held.0, λ n. is.1 n ∙ held.1 n)
 counts_then named s t u halt.Unread held is = subst (λ n. Rattle.dk_io.specs.Causes.Rose n u.faults) held.0 is
 counts_then named s t u (halt.Unopened m) held is = subst (λ n. Rattle.dk_io.specs.Causes.Rose n (u.missed (named (Some m)))) (held.1 (named (Some m))) is
+
+-- ---- what is put aside
+
+pub walk_leaves : (count : ℕ) (t : ShelfState) (book : Key) (e : WalkEnd) → LeavesRoom count t e → EndLeaves count t (end_at book (halt_at e))
+walk_leaves count t book walk.Whole is = is
+walk_leaves count t book walk.Unread is = tt
+walk_leaves count t book (walk.Refused line code) is = tt
+walk_leaves count t book (walk.Unopened m line) is = tt
+walk_leaves count t book (walk.NoMemory line) is = tt
+
+pub fewer_left : (few more : ℕ) (t : ShelfState) (e : End) → few ≤ more → EndLeaves few t e → EndLeaves more t e
+fewer_left few more t end.Whole le leaves = omega (arith, le, leaves)
+fewer_left few more t end.Stopped le leaves = tt
+fewer_left few more t (end.Unread place) le leaves = tt
+fewer_left few more t (end.Unopened m) le leaves = tt
+fewer_left few more t (end.Fault place v) le leaves = tt
+
+-- neither a command nor a book that is entered ends the file, and the walk is that of the turn
+module _ (l m : Lectern) (w : Walker) (s t : ShelfState) (kept : below_file w t ≡ below_file l.walker s) (walker : m.walker ≡ w) where
+  below_kept : below_file m.walker t ≡ below_file l.walker s
+  below_kept = ap (λ x. below_file x t) walker ∙ kept
+
+  pub put_leaves : (old new : Desk) (form : _) (place : _) (r : Result Unit Halt) → PutsCommand old form place new r → StepLeaves l s m t r
+  put_leaves old new form place (Ok u) puts = below_kept
+  put_leaves old new form place (Err halt.Stopped) puts = tt
+  put_leaves old new form place (Err (halt.Fault line v)) puts = tt
+  put_leaves old new form place (Err halt.Whole) puts = absurd puts
+  put_leaves old new form place (Err halt.Unread) puts = absurd puts
+  put_leaves old new form place (Err (halt.Unopened n)) puts = absurd puts
+
+  pub enter_leaves : (r : Result Unit Halt) → IfErr r (λ h. h ≡ halt.Fault 1 verdict.Memory) → StepLeaves l s m t r
+  enter_leaves (Ok u) is = below_kept
+  enter_leaves (Err h) is = subst (λ x. StepLeaves l s m t (Err x)) (sym is) tt
 
 -- ---- a file is begun
 

@@ -6,14 +6,22 @@ use Rattle.dk_io.specs.Causes.{Rose}
 use Rattle.board_core.specs.declared.event.Event.{Event}
 use Rattle.verdict_book.specs.Books.{IsReportOf}
 use Rattle.verdict_book.specs.Report.{FileReport}
+use Rattle.verdict_book.specs.declared.outcome.Outcome.{Outcome}
+use Rattle.verdict_book.specs.declared.outcome.Outcome.TheVariants.{Accepted}
 use Rattle.verdict_book.specs.declared.title.Title.{Title}
 use Rattle.theory_walk.specs.BookNames.{book_named}
 use Rattle.book_reader.specs.declared.walker.Root.{Root}
+use Rattle.book_reader.specs.Ends.{LeavesFormer}
 use Rattle.book_reader.specs.Shelves.{HasHeld, ShelfState}
 use Rattle.book_reader.specs.Walkers.{setting_of}
 use Rattle.file_check.specs.declared.checking.Unchecked.{Unchecked}
 use Rattle.file_check.specs.declared.checking.Unchecked.TheVariants as unchecked
 use Rattle.file_check.specs.Counts.{CountsAt, EndsOn}
+
+-- where all was accepted, another book can be opened on the shelf
+abbrev pub LeavesAt : ShelfState → ShelfState → Outcome → Type 0
+LeavesAt old new (Accepted count) = LeavesFormer old new
+LeavesAt old new outcome = Unit {0}
 
 -- the report of its history is that of the whole books, or of those given before a call failed, or memory ended
 pub record ChecksShelf (root : Root) (budget : ℕ) (old new : ShelfState) (titles : List Title) (events : List Event) : Type 0 where
@@ -22,6 +30,7 @@ pub record ChecksShelf (root : Root) (budget : ℕ) (old new : ShelfState) (titl
   pub ends : (books : Books) → old.books ≡ Some books → EndsOn (setting_of root books) budget old new report.lines report.outcome
   pub books : new.books ≡ old.books
   pub counts : CountsAt (book_named (string_bytes root.file)) old new report.outcome
+  pub leaves : LeavesAt old new report.outcome
 
 -- nothing was read: the file couldn't be opened, and its count says so; or memory ended
 pub record LeavesUnread (file : List ℕ) (old new : ShelfState) : Type 0 where

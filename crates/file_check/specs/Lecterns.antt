@@ -9,6 +9,7 @@ use Rattle.dk_parser.specs.Written.{WrittenForm}
 use Rattle.scope_terms.specs.Reading.{Reading, after_entering}
 use Rattle.scope_terms.specs.declared.modules.Entered.TheVariants.{New}
 use Rattle.board_core.specs.declared.event.End.{End}
+use Rattle.board_core.specs.declared.event.End.TheVariants as ending
 use Rattle.board_core.specs.declared.event.Place.{Place}
 use Rattle.board_core.specs.Events.{is_fault}
 use Rattle.verdict_book.specs.declared.title.Title.{Title}
@@ -22,7 +23,7 @@ use Rattle.book_reader.specs.declared.walker.Root.{Root}
 use Rattle.book_reader.specs.declared.walker.WalkEnd.{WalkEnd}
 use Rattle.book_reader.specs.declared.walker.WalkEnd.TheVariants as walk
 use Rattle.book_reader.specs.declared.walker.Walker.{Walker}
-use Rattle.book_reader.specs.Ends.{HoldsCounts, books_open}
+use Rattle.book_reader.specs.Ends.{HoldsCounts, below_file, books_open}
 use Rattle.book_reader.specs.Ends as books
 use Rattle.book_reader.specs.Shelved.{AreLeft, Given, MemoryDue, Setting, walk_in, whole_library, without}
 use Rattle.book_reader.specs.Shelves.{ShelfState}
@@ -114,6 +115,16 @@ HaltCounts named old new h = HoldsCounts old new
 abbrev pub StepCounts : (Key → List ℕ) → ShelfState → ShelfState → Result Unit Halt → Type 0
 StepCounts named old new (Ok u) = HoldsCounts old new
 StepCounts named old new (Err h) = HaltCounts named old new h
+
+-- at the end of the file at most so many books are put aside
+abbrev pub EndLeaves : ℕ → ShelfState → End → Type 0
+EndLeaves count shelf ending.Whole = length shelf.aside ≤ count
+EndLeaves count shelf e = Unit {0}
+
+-- a turn puts none aside below those of the walk; at the end of the file they are all that is put aside
+abbrev pub StepLeaves : Lectern → ShelfState → Lectern → ShelfState → Result Unit Halt → Type 0
+StepLeaves l old m new (Ok u) = below_file m.walker new ≡ below_file l.walker old
+StepLeaves l old m new (Err h) = EndLeaves (below_file l.walker old) new (end_at m.walker.top.«module» h)
 
 -- where memory ended, it did so behind so many commands, at this line of this book
 abbrev pub MemoryAt : Setting → ℕ → Key → Halt → Type 0

@@ -27,11 +27,11 @@ pub struct BookRead<'a, H> {
 }
 
 impl<'a, 'b, R: Wait, H: Shelf> Reading for BookReading<'a, 'b, R, H> {
-    ghost use Rattle.std.specs.Prelude.{◌≡◌};
+    ghost use Rattle.std.specs.Prelude.{◌≡◌, IfSome, length};
     ghost use Rattle.board_core.specs.Events.{end_of};
     ghost use Rattle.task_board.specs.Histories.{events_in};
     ghost use Rattle.book_reader.specs.Shelves.{shelf_of};
-    ghost use Rattle.file_check.specs.Lecterns.{IsBegun, ReadsBooks};
+    ghost use Rattle.file_check.specs.Lecterns.{EndLeaves, IsBegun, ReadsBooks};
 
     type Given = BookRead<'a, H>;
 
@@ -43,7 +43,9 @@ impl<'a, 'b, R: Wait, H: Shelf> Reading for BookReading<'a, 'b, R, H> {
         × (r.sealed.seat.me.0.made ≡ t.lectern.desk.pass.seat.me.0.made)
         × ReadsBooks t.lectern.walker.root t.lectern.desk.budget
         (shelf_of H.Shelf t.shelf.now) (shelf_of H.Shelf r.shelf.now)
-        r.sealed.seat.me.0.known (end_of (events_in r.sealed.seat.me.0.mine)) r.titles };
+        r.sealed.seat.me.0.known (end_of (events_in r.sealed.seat.me.0.mine)) r.titles
+        × IfSome (end_of (events_in r.sealed.seat.me.0.mine))
+        (EndLeaves (length (H.aside t.shelf.now)) (shelf_of H.Shelf r.shelf.now)) };
 
     fn read(self) -> BookRead<'a, H> {
         let BookReading {

@@ -1,5 +1,5 @@
 //! The check of a file with all that it needs, by a reader and workers, up to the closed board.
-ghost use Rattle.std.specs.Prelude.{◌≡◌, ◌+◌, ◌-◌, ◌^◌, ◌<◌, ◌≤◌, [], All, IfOk, IfErr, length};
+ghost use Rattle.std.specs.Prelude.{◌≡◌, ◌+◌, ◌-◌, ◌^◌, ◌<◌, ◌≤◌, [], All, IfOk, IfErr, IfSome, length};
 ghost use Rattle.std.specs.String.{string_bytes};
 ghost use Rattle.board_core.specs.Events.{end_of};
 ghost use Rattle.board_core.specs.Machine.{IsFinished, IsLegal, marks_of};
@@ -9,7 +9,7 @@ ghost use Rattle.book_reader.specs.Shelves.{shelf_of};
 ghost use Rattle.file_check.specs.Checks.{ChecksShelf, IsUnchecked};
 ghost use Rattle.file_check.specs.Desks.{IsFresh};
 ghost use Rattle.file_check.specs.Jobs.{due, early, theory_of};
-ghost use Rattle.file_check.specs.Lecterns.{IsBegun, ReadsBooks};
+ghost use Rattle.file_check.specs.Lecterns.{EndLeaves, IsBegun, ReadsBooks};
 
 use crate::book_reading::{BookRead, BookReading};
 use crate::checker::JobChecker;
@@ -127,6 +127,8 @@ fn checked_book<R: Threads + Wait + Sync, H: Shelf, G: Gate + Sync>(
     ensures read { ReadsBooks opened.0.root opened.1.desk.budget
         (shelf_of H.Shelf shelf.old) (shelf_of H.Shelf shelf.new)
         result.book.jobs (end_of result.book.events) result.titles }
+    ensures leaves { IfSome (end_of result.book.events)
+        (EndLeaves (length (H.aside shelf.old)) (shelf_of H.Shelf shelf.new)) }
 {
     let (walker, table) = opened;
     let Table {

@@ -1,5 +1,5 @@
 //! The books being read, and the desk where their commands become jobs.
-ghost use Rattle.std.specs.Prelude.{◌≡◌, ◌<◌, List, Some, Err, OnOk, IfErr};
+ghost use Rattle.std.specs.Prelude.{◌≡◌, ◌<◌, List, Some, Err, OnOk, IfErr, length};
 ghost use Rattle.std.specs.String.{string_bytes};
 ghost use Rattle.dk_io.specs.Bytes.{Books};
 ghost use Rattle.dk_model.specs.declared.code.Verdict.TheVariants.{Memory};
@@ -13,7 +13,7 @@ ghost use Rattle.book_reader.specs.Shelves.{shelf_of};
 ghost use Rattle.file_check.specs.Desks.{IsReady as IsReadyDesk, IsSound, known_at, same_bounds, seen_at};
 ghost use Rattle.file_check.specs.Halts.{end_at};
 ghost use Rattle.file_check.specs.declared.halt.Halt.TheVariants.{Fault};
-ghost use Rattle.file_check.specs.Lecterns.{EntersModule, HaltCounts, IsBegun, IsReady, Keeps, KeepsDesk, PutsCommand, Stands, StepCounts, StepsTo, halt_at};
+ghost use Rattle.file_check.specs.Lecterns.{EndLeaves, EntersModule, HaltCounts, IsBegun, IsReady, Keeps, KeepsDesk, PutsCommand, Stands, StepCounts, StepLeaves, StepsTo, halt_at};
 
 use crate::desk::Desk;
 use crate::halt::{Halt, Located, NotPut, place_of};
@@ -65,6 +65,8 @@ impl Lectern {
         ensures books { H.books shelf.new ≡ H.books shelf.old }
         ensures counts { HaltCounts (book_named (string_bytes self.old.walker.root.file))
             (shelf_of H.Shelf shelf.old) (shelf_of H.Shelf shelf.new) result }
+        ensures leaves { EndLeaves (length (H.aside shelf.old)) (shelf_of H.Shelf shelf.new)
+            (end_at self.new.walker.top.module result) }
         ensures ends { (books : Books) → H.books shelf.old ≡ Some books →
             StepsTo books self.new (shelf_of H.Shelf shelf.new) (Err result) }
     {
@@ -97,6 +99,8 @@ impl Lectern {
         ensures books { H.books shelf.new ≡ H.books shelf.old }
         ensures counts { StepCounts (book_named (string_bytes self.old.walker.root.file))
             (shelf_of H.Shelf shelf.old) (shelf_of H.Shelf shelf.new) result }
+        ensures leaves { StepLeaves self.old (shelf_of H.Shelf shelf.old) self.new
+            (shelf_of H.Shelf shelf.new) result }
         ensures stands { (books : Books) (done : List Placed) → H.books shelf.old ≡ Some books →
             Stands books done self.old (shelf_of H.Shelf shelf.old) →
             StepsTo books self.new (shelf_of H.Shelf shelf.new) result }

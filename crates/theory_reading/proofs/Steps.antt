@@ -33,7 +33,7 @@ use Rattle.book_reader.specs.declared.walker.Turn.TheVariants as turn
 use Rattle.book_reader.specs.declared.walker.WalkEnd.{WalkEnd}
 use Rattle.book_reader.specs.declared.walker.WalkEnd.TheVariants as end
 use Rattle.book_reader.specs.declared.walker.Walker.{Walker}
-use Rattle.book_reader.specs.Ends.{BeginsWalk, CausesEnd, ComesTo, EndsOf, HoldsCounts, Moves, books_open, placed}
+use Rattle.book_reader.specs.Ends.{BeginsWalk, CausesEnd, ComesTo, EndsOf, HoldsCounts, KeepsBelow, LeavesRoom, Moves, below_file, books_open, placed}
 use Rattle.book_reader.specs.Ends as books
 use Rattle.book_reader.specs.Shelved.{Setting, given_library, walk_in, whole_library, without}
 use Rattle.book_reader.specs.Shelves.{ShelfState}
@@ -260,6 +260,30 @@ put_causes file old new form line s t (Err (end.NoMemory at)) puts held = held
 put_causes file old new form line s t (Err end.Whole) puts held = absurd puts
 put_causes file old new form line s t (Err end.Unread) puts held = absurd puts
 put_causes file old new form line s t (Err (end.Unopened m at)) puts held = absurd puts
+
+pub fewer_left : (few more : ℕ) (t : ShelfState) (e : WalkEnd) → few ≤ more → LeavesRoom few t e → LeavesRoom more t e
+fewer_left few more t end.Whole le leaves = omega (arith, le, leaves)
+fewer_left few more t (end.Refused line code) le leaves = tt
+fewer_left few more t end.Unread le leaves = tt
+fewer_left few more t (end.Unopened m line) le leaves = tt
+fewer_left few more t (end.NoMemory line) le leaves = tt
+
+-- neither a command nor a book that is entered ends the file, and the walk is that of the turn
+module _ (w v new : Walker) (s t : ShelfState) (kept : below_file v t ≡ below_file w s) (walker : new ≡ v) where
+  below_kept : below_file new t ≡ below_file w s
+  below_kept = ap (λ x. below_file x t) walker ∙ kept
+
+  pub put_leaves : (old r : TheoryReader) (form : WrittenForm) (line : ℕ) (result : Result Unit WalkEnd) → Puts old form line r result → KeepsBelow w s new t result
+  put_leaves old r form line (Ok u) puts = below_kept
+  put_leaves old r form line (Err (end.Refused at code)) puts = tt
+  put_leaves old r form line (Err (end.NoMemory at)) puts = tt
+  put_leaves old r form line (Err end.Whole) puts = absurd puts
+  put_leaves old r form line (Err end.Unread) puts = absurd puts
+  put_leaves old r form line (Err (end.Unopened m at)) puts = absurd puts
+
+  pub enter_leaves : (result : Result Unit WalkEnd) → IfErr result (λ e. e ≡ end.NoMemory 1) → KeepsBelow w s new t result
+  enter_leaves (Ok u) is = below_kept
+  enter_leaves (Err e) is = subst (LeavesRoom (below_file w s) t) (sym is) tt
 
 pub causes_then : (file : List ℕ) (s t u : ShelfState) (e : WalkEnd) → HoldsCounts s t → CausesEnd file t u e → CausesEnd file s u e
 causes_then file s t u end.Whole held is = (is.0 ∙ held.0, λ n. is.1 n ∙ held.1 n)

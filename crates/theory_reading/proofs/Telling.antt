@@ -1,6 +1,6 @@
 -- How a theory's reading begins, and what is told of how it ended.
 use Rattle.std.proofs.Common.{◌≡◌, ◌≤◌, ℕ, List, [], ◌∷◌, length, map, sym, ap, subst, ◌∙◌, arith}
-use Rattle.std.specs.Prelude.{None, Result}
+use Rattle.std.specs.Prelude.{IfErr, None, OnOk, Ok, Err, Result}
 use Rattle.dk_io.specs.Bytes.{Books}
 use Rattle.dk_model.specs.Scoping.{plain_command}
 use Rattle.dk_model.specs.declared.scoped.Scoped.{Scoped}
@@ -12,15 +12,16 @@ use Rattle.theory_walk.specs.Libraries.{Key}
 use Rattle.book_reader.specs.declared.walker.Root.{Root}
 use Rattle.book_reader.specs.declared.walker.WalkEnd.{WalkEnd}
 use Rattle.book_reader.specs.declared.walker.WalkEnd.TheVariants as end
-use Rattle.book_reader.specs.Ends.{CausesEnd, books_open}
+use Rattle.book_reader.specs.Ends.{CausesEnd, LeavesFormer, LeavesRoom, books_open}
 use Rattle.book_reader.specs.Ends as books
 use Rattle.book_reader.specs.Shelved.{Setting}
 use Rattle.book_reader.specs.Shelves.{ShelfState}
 use Rattle.book_reader.specs.Walkers.{HasGiven, setting_of}
+use Rattle.book_reader.proofs.Openings.{former_kept}
 use Rattle.theory_reading.specs.declared.reader.TheoryReader.{TheoryReader}
 use Rattle.theory_reading.specs.declared.reading.ReadingEnd.{ReadingEnd}
 use Rattle.theory_reading.specs.Readers.{EndsReading, IsReady, Stands}
-use Rattle.theory_reading.specs.Reads.{CountsReading, ReadsBooks}
+use Rattle.theory_reading.specs.Reads.{CountsReading, KeepsUnopened, ReadsBooks}
 use Rattle.theory_reading.specs.Shaped.{ScopedTheory}
 use Rattle.theory_reading.specs.Told.{told_of}
 use Rattle.theory_reading.proofs.Modules.{tied_first}
@@ -76,3 +77,26 @@ told_counts file old new book cs (end.Refused line code) is = record { faults = 
 told_counts file old new book cs end.Unread is = is
 told_counts file old new book cs (end.Unopened m line) is = is
 told_counts file old new book cs (end.NoMemory line) is = record { faults = is.0; missed = is.1 }
+
+-- what is left where reading ended
+pub told_leaves : (old mid new : ShelfState) (book : Key) (cs : List Scoped) (e : WalkEnd) (result : Result (List Scoped) ReadingEnd) → result ≡ told_of book cs e → LeavesFormer old mid
+    → LeavesRoom (length mid.aside) new e → OnOk result (LeavesFormer old new)
+told_leaves old mid new book cs e result told former leaves = subst (λ (x : Result (List Scoped) ReadingEnd). OnOk x (LeavesFormer old new)) (sym told) (go e leaves)
+  where
+    go : (e : WalkEnd) → LeavesRoom (length mid.aside) new e → OnOk (told_of book cs e) (LeavesFormer old new)
+    go end.Whole leaves = former_kept old mid new former leaves
+    go (end.Refused line code) leaves = tt
+    go end.Unread leaves = tt
+    go (end.Unopened m line) leaves = tt
+    go (end.NoMemory line) leaves = tt
+
+pub told_opened : (old new : ShelfState) (book : Key) (cs : List Scoped) (e : WalkEnd) (result : Result (List Scoped) ReadingEnd) → result ≡ told_of book cs e
+    → IfErr result (KeepsUnopened old new)
+told_opened old new book cs e result told = subst (λ (x : Result (List Scoped) ReadingEnd). IfErr x (KeepsUnopened old new)) (sym told) (go e)
+  where
+    go : (e : WalkEnd) → IfErr (told_of book cs e) (KeepsUnopened old new)
+    go end.Whole = tt
+    go (end.Refused line code) = tt
+    go end.Unread = tt
+    go (end.Unopened m line) = tt
+    go (end.NoMemory line) = tt

@@ -6,6 +6,7 @@ ghost use Rattle.dk_parser.specs.RawViews.{written_form};
 ghost use Rattle.scope_terms.specs.Names.{reading};
 ghost use Rattle.scope_terms.specs.Reading.{after_entering};
 ghost use Rattle.theory_walk.specs.Walks.{Placed};
+ghost use Rattle.book_reader.specs.Ends.{KeepsBelow, LeavesRoom};
 ghost use Rattle.book_reader.specs.Rooms.{room_of_walk};
 ghost use Rattle.book_reader.specs.Shelves.{shelf_of};
 ghost use Rattle.theory_reading.specs.Faults.{IsFault};
@@ -37,6 +38,8 @@ impl TheoryReader {
         ensures keeps { Keeps self.old self.new }
         ensures few { length self.new.commands ≤ self.new.most }
         ensures books { H.books shelf.new ≡ H.books shelf.old }
+        ensures leaves { LeavesRoom (length (H.aside shelf.old)) (shelf_of H.Shelf shelf.new)
+            result }
         ensures causes { StepCauses (string_bytes self.old.walker.root.file)
             (shelf_of H.Shelf shelf.old) (shelf_of H.Shelf shelf.new) (Err result) }
         ensures ends { (books : Books) (done : List Placed) → H.books shelf.old ≡ Some books →
@@ -60,6 +63,8 @@ impl TheoryReader {
         ensures room { OnOk result
             (room_of_walk self.new.walker < room_of_walk self.old.walker) }
         ensures books { H.books shelf.new ≡ H.books shelf.old }
+        ensures leaves { KeepsBelow self.old.walker (shelf_of H.Shelf shelf.old) self.new.walker
+            (shelf_of H.Shelf shelf.new) result }
         ensures causes { StepCauses (string_bytes self.old.walker.root.file)
             (shelf_of H.Shelf shelf.old) (shelf_of H.Shelf shelf.new) result }
         ensures stands { (books : Books) (done : List Placed) → H.books shelf.old ≡ Some books →

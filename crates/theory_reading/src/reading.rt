@@ -1,12 +1,13 @@
 //! The commands of a theory, or how it ended before its end.
-ghost use Rattle.std.specs.Prelude.{◌≡◌, ◌<◌, ◌≤◌, [], Err, Some, OnErr, length};
+ghost use Rattle.std.specs.Prelude.{◌≡◌, ◌<◌, ◌≤◌, [], Err, Some, IfErr, OnErr, OnOk, length};
 ghost use Rattle.std.specs.String.{string_bytes};
 ghost use Rattle.dk_io.specs.Bytes.{Books};
 ghost use Rattle.file_report.specs.Reports.{place_of};
 ghost use Rattle.theory_walk.specs.BookNames.{book_named};
+ghost use Rattle.book_reader.specs.Ends.{LeavesFormer};
 ghost use Rattle.book_reader.specs.Shelves.{shelf_of};
 ghost use Rattle.book_reader.specs.Walkers.{setting_of};
-ghost use Rattle.theory_reading.specs.Reads.{CountsReading, ReadsBooks};
+ghost use Rattle.theory_reading.specs.Reads.{CountsReading, KeepsUnopened, ReadsBooks};
 ghost use Rattle.theory_reading.specs.Told.{told_of};
 
 use crate::names::names_in;
@@ -79,6 +80,10 @@ pub fn read_theory<H: Shelf>(
     ensures reads { (books : Books) → H.books shelf.old ≡ Some books →
         ReadsBooks (setting_of root books) (shelf_of H.Shelf shelf.new) result }
     ensures books { H.books shelf.new ≡ H.books shelf.old }
+    ensures leaves { OnOk result
+        (LeavesFormer (shelf_of H.Shelf shelf.old) (shelf_of H.Shelf shelf.new)) }
+    ensures unopened { IfErr result (KeepsUnopened
+        (shelf_of H.Shelf shelf.old) (shelf_of H.Shelf shelf.new)) }
     ensures counts { CountsReading (book_named (string_bytes root.file))
         (shelf_of H.Shelf shelf.old) (shelf_of H.Shelf shelf.new) result }
 {

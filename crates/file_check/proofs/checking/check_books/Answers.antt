@@ -7,7 +7,7 @@ use Rattle.scope_terms.specs.Reading.{after_entering, no_reading}
 use Rattle.book_reader.specs.declared.walker.Root.{Root}
 use Rattle.file_check.specs.Jobs.{modules_of}
 use Rattle.file_check.proofs.Steps.{begun_so}
-use Rattle.file_check.proofs.Reporting.{as_many_titles, counts, ends, from_opening}
+use Rattle.file_check.proofs.Reporting.{as_many_titles, counts, ends, from_opening, leaves}
 use Rattle.file_check.proofs.checking.check_books.Goals as goal
 
 pub returns-clause-titled : goal.returns-clause-titled
@@ -30,6 +30,7 @@ returns-clause-checks g c =
       report_is = told.1;
       ends = λ all is. ends c.args.asked.root c.args.asked.budget old new book.jobs book.events titles told.0 closed.legal closed.finished read told.1 all is;
       books = read.books_are;
+      leaves = leaves old mid new titles book.events told.0 told.1 c.in-Ok-begin.ensures.leaves closed.leaves;
       counts = counts c.args.asked.root c.args.asked.budget old new book.jobs book.events titles told.0 closed.legal closed.finished read told.1;
     }
 

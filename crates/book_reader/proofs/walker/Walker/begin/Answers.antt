@@ -4,7 +4,7 @@ use Rattle.dk_io.specs.Bytes.{Opens}
 use Rattle.book_reader.specs.Ends.{AreBegun}
 use Rattle.book_reader.specs.Shelves.{shelf_of}
 use Rattle.book_reader.specs.Walkers.{Open, books_in, open_of, setting_of}
-use Rattle.book_reader.proofs.Openings.{aside_one}
+use Rattle.book_reader.proofs.Openings.{aside_one, former_opened}
 use Rattle.book_reader.proofs.Turning.{among_at, begins_walk}
 use Rattle.book_reader.proofs.walker.Walker.begin.Goals as goal
 
@@ -35,3 +35,6 @@ returns-clause-walks g c = λ books told.
 
 pub returns-clause-opens : goal.returns-clause-opens
 returns-clause-opens g c = (ap (λ (l : List _). None ∷ books_in (map open_of (reverse l))) c.new-2.ensures.items, c.new-3.ensures)
+
+pub returns-clause-leaves : goal.returns-clause-leaves
+returns-clause-leaves g c = former_opened (shelf_of g.H.Shelf c.args.shelf.now) (shelf_of g.H.Shelf c.open_book.new.self) c.requires.aside c.in-Ok.ensures.aside

@@ -38,3 +38,12 @@ returns-in-Some-clause-ready g c =
 
 pub returns-in-Some-clause-room : goal.returns-in-Some-clause-room
 returns-in-Some-clause-room g c = let below = room_pushed _ _ c.in-Some.frame c.in-Some.ensures.items in omega (arith, below)
+
+pub returns-in-None-clause-leaves : goal.returns-in-None-clause-leaves
+returns-in-None-clause-leaves g c = let none = c.in-None.ensures.cases.0 in omega (arith, none)
+
+pub returns-in-Some-clause-leaves : goal.returns-in-Some-clause-leaves
+returns-in-Some-clause-leaves g c =
+    let aside = ap length c.back.ensures.taken in
+    let less = c.in-Some.ensures.cases in
+    omega (arith, less, aside, c.requires.room.all_aside)

@@ -112,6 +112,14 @@ returns-clause-ready g c =
           (subst (λ (l : List Frame). AreBegun (reverse l)) (sym c.in-Ok-reserve.ensures.items) r.below);
     }
 
+pub returns-clause-leaves : goal.returns-clause-leaves
+returns-clause-leaves g c =
+    let room = c.requires.ready.room in
+    let aside : g.H.Shelf.aside c.open_book.new.self ≡ g.H.Shelf.left c.args.shelf.now ∷ g.H.Shelf.aside c.args.shelf.now =
+    c.in-Ok-open_book.ensures.aside ∙ ap (λ b. put_aside b (g.H.Shelf.left c.args.shelf.now) (g.H.Shelf.aside c.args.shelf.now)) room.is_open in
+    let more = ap length aside in
+    omega (arith, more, c.push_reserved.ensures.len, c.in-Ok-reserve.ensures.len, room.all_aside)
+
 pub returns-clause-moves : goal.returns-clause-moves
 returns-clause-moves g c =
     let w = c.args.self.now in

@@ -1,7 +1,7 @@
 use Rattle.std.proofs.Common.{◌≤◌, ◌+◌, ℕ, List, ◌∷◌, [], ◌++◌, length, sym, ap, subst, ◌∙◌, refl, arith}
 use Rattle.std.proofs.lemmas.List.{reverse-reverse}
 use Rattle.std.proofs.lemmas.Result.{on_ok_weaker}
-use Rattle.std.specs.Prelude.{Option, reverse, vec_len}
+use Rattle.std.specs.Prelude.{◌-◌, Option, reverse, vec_len}
 use Rattle.dk_parser.specs.Modules.{modules_of}
 use Rattle.dk_parser.specs.RawViews.{written_command}
 use Rattle.dk_parser.specs.declared.raw.Raw.{Raw}
@@ -13,7 +13,7 @@ use Rattle.book_reader.proofs.Given.{memory_line, next_line_is}
 use Rattle.book_reader.proofs.Openings.{below_count}
 use Rattle.book_reader.proofs.Turning.{found}
 use Rattle.book_reader.proofs.Ending.{begins_so, faulted, memory_ended, read_failed}
-use Rattle.book_reader.proofs.Turns.{causes_then, moves_up, whole_turn}
+use Rattle.book_reader.proofs.Turns.{below_then, causes_then, moves_up, whole_turn}
 use Rattle.book_reader.proofs.Rooms.{needs_small}
 use Rattle.book_reader.proofs.walker.Walker.read.Goals as goal
 
@@ -125,3 +125,13 @@ returns-clause-room g c =
     let small = needs_small c.in-Ok-needs.needs in
     let idle = ap room_of_item c.requires.idle in
     omega (arith, less, small, idle)
+
+pub returns-in-Whole-clause-leaves : goal.returns-in-Whole-clause-leaves
+returns-in-Whole-clause-leaves g c =
+    let w = c.args.self.now in
+    below_then w (record w { top = record w.top { reader = c.next.new.self } }) c.give_up.new.self
+    (shelf_of g.H.Shelf c.args.shelf.now) (shelf_of g.H.Shelf c.next.new.shelf) (shelf_of g.H.Shelf c.give_up.new.shelf) c.give_up.result
+    (ap (λ (l : List (Option (List ℕ))). length l - vec_len w.below) c.in-Err.ensures.aside) c.give_up.ensures.leaves
+
+pub returns-clause-leaves : goal.returns-clause-leaves
+returns-clause-leaves g c = ap (λ (l : List (Option (List ℕ))). length l - vec_len c.args.self.now.below) c.in-Ok.ensures.aside

@@ -1,13 +1,14 @@
 use Rattle.std.proofs.Common.{◌≡◌, ℕ, List, ◌∷◌, [], sym, ap, ◌∙◌, refl, arith}
 use Rattle.std.proofs.lemmas.List.{append-nil}
 use Rattle.std.proofs.lemmas.Result.{on_ok_weaker}
-use Rattle.std.specs.Prelude.{reverse, take, ◌-◌}
+use Rattle.std.specs.Prelude.{reverse, take, ◌-◌, Some}
 use Rattle.dk_parser.specs.RawViews.{written_command}
 use Rattle.theory_walk.specs.Libraries.{command_step, need, put}
 use Rattle.book_reader.specs.Shelves.{shelf_of}
 use Rattle.book_reader.specs.Walkers.{Open, open_of, opens_below, opens_of, pending_of, setting_of, steps_behind}
 use Rattle.book_reader.proofs.Openings.{pending_next}
 use Rattle.book_reader.proofs.Turning.{among_at, taken}
+use Rattle.book_reader.proofs.Turns.{below_then}
 use Rattle.book_reader.specs.Rooms.{room_of_item}
 use Rattle.book_reader.proofs.walker.Walker.turn.Goals as goal
 
@@ -86,3 +87,16 @@ returns-clause-room g c =
     let before = ap room_of_item c.in-Some.ensures.value in
     let fewer = c.in-Some-pop.ensures.cases in
     on_ok_weaker c.need.result (λ less. omega (arith, less, before, fewer)) c.need.ensures.room
+
+pub returns-in_default-clause-leaves : goal.returns-in_default-clause-leaves
+returns-in_default-clause-leaves g c =
+    let w = c.args.self.now in
+    let s = shelf_of g.H.Shelf c.args.shelf.now in
+    below_then w (record w { top = record w.top { item = c.take.new.self } }) c.read.new.self s s (shelf_of g.H.Shelf c.read.new.shelf) c.read.result refl c.read.ensures.leaves
+
+pub returns-clause-leaves : goal.returns-clause-leaves
+returns-clause-leaves g c =
+    let w = c.args.self.now in
+    let s = shelf_of g.H.Shelf c.args.shelf.now in
+    below_then w (record w { top = record w.top { item = Some (record c.in-Some.item { needs = c.pop.new.self }) } }) c.need.new.self s s (shelf_of g.H.Shelf c.need.new.shelf) c.need.result refl
+    c.need.ensures.leaves

@@ -1,4 +1,5 @@
 use Rattle.std.proofs.Common.{◌≤◌, ◌∙◌, Bool, List, length, refl, ap, subst, sym, Some}
+use Rattle.std.specs.Prelude.{IfSome}
 use Rattle.dk_io.specs.Bytes.{Books}
 use Rattle.dk_model.specs.declared.limits.Limits.{Limits}
 use Rattle.board_core.specs.Machine.{MayEnd}
@@ -10,7 +11,7 @@ use Rattle.file_check.specs.declared.job.Job.{Job}
 use Rattle.file_check.specs.Desks.{known_at, seen_at}
 use Rattle.file_check.specs.Halts.{end_at}
 use Rattle.file_check.specs.Jobs.{job_of}
-use Rattle.file_check.specs.Lecterns.{EndsBooks}
+use Rattle.file_check.specs.Lecterns.{EndLeaves, EndsBooks}
 use Rattle.file_check.proofs.book_reading.BookReadingReading.read.Goals as goal
 
 pub seal-sealed-requires-clause-may_end : goal.seal-sealed-requires-clause-may_end
@@ -44,4 +45,5 @@ returns g c =
         sealed_by = sealed.end ∙ ap Some (c.end_at-end.ensures ∙ ap (λ m. end_at m why) c.into_module.ensures);
         titled = sealed.titles ∙ ap (job_titles job_of) (sym sealed.jobs);
       },
+      subst (λ e. IfSome e (EndLeaves (length (g.H.Shelf.aside c.args.self.shelf.now)) shelf)) (sym (sealed.end ∙ ap Some (c.end_at-end.ensures ∙ ap (λ m. end_at m why) c.into_module.ensures))) read.leaves,
     )

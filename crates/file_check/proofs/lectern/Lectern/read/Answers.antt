@@ -1,5 +1,7 @@
-use Rattle.std.proofs.Common.{◌∙◌, sym}
-use Rattle.file_check.proofs.Steps.{keeps_then}
+use Rattle.std.proofs.Common.{◌∙◌, ◌≤◌, length, subst, sym}
+use Rattle.book_reader.specs.Shelves.{shelf_of}
+use Rattle.file_check.specs.Halts.{end_at}
+use Rattle.file_check.proofs.Steps.{fewer_left, keeps_then}
 use Rattle.file_check.proofs.lectern.Lectern.read.Goals as goal
 
 pub turns-preserved : goal.turns-preserved
@@ -10,6 +12,7 @@ turns-preserved g c =
       own = e.own ∙ sym c.requires.own;
       keeps = keeps_then c.args.self.now c.turns.self c.step.new.self inv.keeps e.keeps;
       ready = e.ready;
+      below = subst (λ n. n ≤ length (g.H.Shelf.aside c.args.shelf.now)) (sym e.leaves) inv.below;
       books = e.books ∙ inv.books;
       counts = (e.counts.0 ∙ inv.counts.0, λ name. e.counts.1 name ∙ inv.counts.1 name);
       stands = λ all told. let h = inv.stands all told in e.stands all h.0 (inv.books ∙ told) h.1;
@@ -19,3 +22,7 @@ pub returns-in-Err-clause-ends : goal.returns-in-Err-clause-ends
 returns-in-Err-clause-ends g c = λ all told.
     let h = c.turns.invariant.stands all told in
     c.in-Err.ensures.stands all h.0 (c.turns.invariant.books ∙ told) h.1
+
+pub returns-in-Err-clause-leaves : goal.returns-in-Err-clause-leaves
+returns-in-Err-clause-leaves g c =
+    fewer_left _ _ (shelf_of g.H.Shelf c.step.new.shelf) (end_at c.step.new.self.walker.top.«module» c.in-Err.halt) c.turns.invariant.below c.in-Err.ensures.leaves

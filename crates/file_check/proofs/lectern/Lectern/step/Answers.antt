@@ -1,18 +1,20 @@
 use Rattle.std.proofs.Common.{◌≡◌, ◌<◌, ◌∙◌, refl, sym, subst}
 use Rattle.std.specs.Prelude.{Ok, Err}
 use Rattle.std.proofs.lemmas.Result.{on_ok_weaker}
+use Rattle.dk_parser.specs.RawViews.{written_form}
 use Rattle.book_reader.specs.declared.walker.Turn.{Turn}
 use Rattle.book_reader.specs.declared.walker.Walker.{Walker}
-use Rattle.book_reader.specs.Ends.{ComesTo, Moves}
+use Rattle.book_reader.specs.Ends.{ComesTo, Moves, below_file}
 use Rattle.book_reader.specs.Rooms.{room_of_walk}
 use Rattle.book_reader.specs.Shelves.{shelf_of}
 use Rattle.book_reader.specs.Walkers.{setting_of}
 use Rattle.file_check.specs.declared.halt.Halt.{Halt}
 use Rattle.file_check.specs.Desks.{known_at}
+use Rattle.file_check.specs.Halts.{end_at}
 use Rattle.file_check.specs.Jobs.{modules_of}
-use Rattle.file_check.specs.Lecterns.{EndsBooks, IsReady, StepsTo}
+use Rattle.file_check.specs.Lecterns.{EndLeaves, EndsBooks, IsReady, StepsTo}
 use Rattle.file_check.proofs.Modules.{tied_kept}
-use Rattle.file_check.proofs.Steps.{on_ok_so, put_ready, ready_entered, ready_left, stands_ended, stands_entered, stands_moved, stands_on, stands_put}
+use Rattle.file_check.proofs.Steps.{enter_leaves, on_ok_so, put_leaves, put_ready, ready_entered, ready_left, stands_ended, stands_entered, stands_moved, stands_on, stands_put, walk_leaves}
 use Rattle.file_check.proofs.lectern.Lectern.step.Goals as goal
 
 pub returns-in-On-clause-stands : goal.returns-in-On-clause-stands
@@ -108,3 +110,22 @@ returns-in-Err-clause-stands g c = λ all done told st.
     let t = shelf_of g.H.Shelf c.turn.new.shelf in
     subst (λ (h : Halt). EndsBooks (setting_of c.turn.new.self.root all) c.args.self.now.desk.budget t (known_at c.args.self.now.desk) c.turn.new.self.top.«module» h) (sym c.halt_at.ensures)
     (stands_ended all done c.args.self.now c.turn.new.self (shelf_of g.H.Shelf c.args.shelf.now) t c.in-Err.ensures.root st c.in-Err.end (c.in-Err.ensures.walks all done told st.given))
+
+-- ---- what is put aside
+
+pub returns-in-Entered-clause-leaves : goal.returns-in-Entered-clause-leaves
+returns-in-Entered-clause-leaves g c =
+    enter_leaves c.args.self.now c.enter.new.self c.turn.new.self (shelf_of g.H.Shelf c.args.shelf.now) (shelf_of g.H.Shelf c.turn.new.shelf) c.in-Ok.ensures.leaves c.enter.ensures.walker
+    c.enter.result c.enter.ensures.err
+
+pub returns-in-Command-clause-leaves : goal.returns-in-Command-clause-leaves
+returns-in-Command-clause-leaves g c =
+    put_leaves c.args.self.now c.put.new.self c.turn.new.self (shelf_of g.H.Shelf c.args.shelf.now) (shelf_of g.H.Shelf c.turn.new.shelf) c.in-Ok.ensures.leaves c.put.ensures.walker
+    c.args.self.now.desk c.put.new.self.desk (written_form c.in-Command.raw.form) _ c.put.result c.put.ensures.puts
+
+pub returns-in-Err-clause-leaves : goal.returns-in-Err-clause-leaves
+returns-in-Err-clause-leaves g c =
+    let t = shelf_of g.H.Shelf c.turn.new.shelf in
+    let book = c.turn.new.self.top.«module» in
+    let count = below_file c.args.self.now.walker (shelf_of g.H.Shelf c.args.shelf.now) in
+    subst (λ (h : Halt). EndLeaves count t (end_at book h)) (sym c.halt_at.ensures) (walk_leaves count t book c.in-Err.end c.in-Err.ensures.leaves)

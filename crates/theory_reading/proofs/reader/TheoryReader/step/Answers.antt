@@ -10,7 +10,7 @@ use Rattle.book_reader.specs.Rooms.{room_of_walk}
 use Rattle.book_reader.specs.Shelves.{shelf_of}
 use Rattle.theory_reading.specs.declared.reader.TheoryReader.{TheoryReader}
 use Rattle.theory_reading.specs.Readers.{turned}
-use Rattle.theory_reading.proofs.Steps.{on_ok_so, ready_command, ready_entered, ready_left, ready_on, stands_ended, stands_entered, stands_kept, stands_put, turned_behind}
+use Rattle.theory_reading.proofs.Steps.{enter_leaves, on_ok_so, put_leaves, ready_command, ready_entered, ready_left, ready_on, stands_ended, stands_entered, stands_kept, stands_put, turned_behind}
 use Rattle.theory_reading.proofs.reader.TheoryReader.step.Goals as goal
 
 pub returns-in-On-clause-ready : goal.returns-in-On-clause-ready
@@ -46,6 +46,11 @@ returns-in-Entered-clause-stands g c = λ all done told st.
 pub returns-in-Entered-clause-room : goal.returns-in-Entered-clause-room
 returns-in-Entered-clause-room g c =
     on_ok_weaker c.enter.result (λ e. subst (λ (w : Walker). room_of_walk w < room_of_walk c.args.self.now.walker) (sym c.enter.ensures.walker) c.in-Ok.ensures.room) c.enter.ensures.ok
+
+pub returns-in-Entered-clause-leaves : goal.returns-in-Entered-clause-leaves
+returns-in-Entered-clause-leaves g c =
+    enter_leaves c.args.self.now.walker c.turn.new.self c.enter.new.self.walker (shelf_of g.H.Shelf c.args.shelf.now) (shelf_of g.H.Shelf c.turn.new.shelf) c.in-Ok.ensures.leaves c.enter.ensures.walker
+    c.enter.result c.enter.ensures.err
 
 -- ---- a book was given up
 
@@ -87,6 +92,11 @@ returns-in-Command-clause-stands g c = λ all done told st.
 pub returns-in-Command-clause-room : goal.returns-in-Command-clause-room
 returns-in-Command-clause-room g c =
     on_ok_so c.put.result (subst (λ (w : Walker). room_of_walk w < room_of_walk c.args.self.now.walker) (sym c.put.ensures.walker) c.in-Ok.ensures.room)
+
+pub returns-in-Command-clause-leaves : goal.returns-in-Command-clause-leaves
+returns-in-Command-clause-leaves g c =
+    put_leaves c.args.self.now.walker c.turn.new.self c.put.new.self.walker (shelf_of g.H.Shelf c.args.shelf.now) (shelf_of g.H.Shelf c.turn.new.shelf) c.in-Ok.ensures.leaves c.put.ensures.walker
+    (turned c.args.self.now c.turn.new.self) c.put.new.self (written_form c.in-Command.raw.form) c.in-Command.raw.line c.put.result c.put.ensures.puts
 
 -- ---- reading ended
 
