@@ -23,7 +23,7 @@ pub from_and_then : {A B : Type 0} (P : Type 0) (o : Option A) (g : A → Option
 from_and_then P None g b e k = cc
 from_and_then P (Some a) g b e k = k a refl e
 
-from_within : (P : Type 0) (c : Tree → Tree) (o : Option Tree) (u : Tree) → within c o ≡ Some u → ((t : Tree) → o ≡ Some t → c t ≡ u → P) → P
+pub from_within : (P : Type 0) (c : Tree → Tree) (o : Option Tree) (u : Tree) → within c o ≡ Some u → ((t : Tree) → o ≡ Some t → c t ≡ u → P) → P
 from_within P c None u e k = cc
 from_within P c (Some t) u e k = k t refl (let q : c t ≡ u = cc in q)
 
@@ -41,25 +41,25 @@ whole (bare b) = refl
 whole (annotated n b) = refl
 whole (product a b) = refl
 
-same_symbol : (x : Tree) (k : ℕ) → heads_same x (symbol k) ≡ true → x ≡ symbol k
+pub same_symbol : (x : Tree) (k : ℕ) → heads_same x (symbol k) ≡ true → x ≡ symbol k
 same_symbol (symbol j) k e = ap symbol (eqb-true j k e)
 same_symbol t k e = cc
 
-same_variable : (x : Tree) (k : ℕ) → heads_same x (variable k) ≡ true → x ≡ variable k
+pub same_variable : (x : Tree) (k : ℕ) → heads_same x (variable k) ≡ true → x ≡ variable k
 same_variable (variable j) k e = ap variable (eqb-true j k e)
 same_variable t k e = cc
 
-from_both : (P : Type 0) (o q : Option (List Part)) (ps : List Part) → both_parts o q ≡ Some ps → ((xs ys : List Part) → o ≡ Some xs → q ≡ Some ys → xs ++ ys ≡ ps → P) → P
+pub from_both : (P : Type 0) (o q : Option (List Part)) (ps : List Part) → both_parts o q ≡ Some ps → ((xs ys : List Part) → o ≡ Some xs → q ≡ Some ys → xs ++ ys ≡ ps → P) → P
 from_both P (Some xs) (Some ys) ps e k = k xs ys refl refl (let i : xs ++ ys ≡ ps = cc in i)
 from_both P None q ps e k = cc
 from_both P (Some xs) None ps e k = cc
 
-stray_if : (depth k : ℕ) (xs : List ℕ) (t : Tree) (b : Bool) (ps : List Part) → mentions_others 0 depth xs t ≡ b
+pub stray_if : (depth k : ℕ) (xs : List ℕ) (t : Tree) (b : Bool) (ps : List Part) → mentions_others 0 depth xs t ≡ b
     → (if b then None else Some (variable_part k (captured depth xs t) ∷ [])) ≡ Some ps → IsInstance depth (rule_variable_pattern k xs) t ps
 stray_if depth k xs t true ps q e = cc
 stray_if depth k xs t false ps q e = let i : (variable_part k (captured depth xs t) ∷ []) ≡ ps = cc in along (IsInstance depth (rule_variable_pattern k xs) t) i (at_rule_variable q)
 
-if_true : (b : Bool) (o : Option (List Part)) (ps : List Part) → (if b then o else None) ≡ Some ps → (b ≡ true) × (o ≡ Some ps)
+pub if_true : (b : Bool) (o : Option (List Part)) (ps : List Part) → (if b then o else None) ≡ Some ps → (b ≡ true) × (o ≡ Some ps)
 if_true true o ps e = (refl, e)
 if_true false o ps e = cc
 
@@ -82,21 +82,21 @@ mutual
   all_matched_are depth (more_patterns q qs) (t ∷ ts) ps e = from_both (AreInstances depth (q ∷ pattern_list qs) (t ∷ ts) ps) (matched depth q t) (all_matched depth qs ts) ps e (λ xs ys a b i.
       along (AreInstances depth (q ∷ pattern_list qs) (t ∷ ts)) i (one_argument (matched_is depth q t xs a) (all_matched_are depth qs ts ys b)))
 
-listed : (ps : List Pattern) → pattern_list (patterns_of ps) ≡ ps
+pub listed : (ps : List Pattern) → pattern_list (patterns_of ps) ≡ ps
 listed [] = refl
 listed (p ∷ ps) = ap (λ qs. p ∷ qs) (listed ps)
 
 module _ (S : PlainSignature) where
   -- ---- places
 
-  abbrev IsSoundAt : (Tree → Option Tree) → Type 0
+  abbrev pub IsSoundAt : (Tree → Option Tree) → Type 0
   IsSoundAt F = (t u : Tree) → F t ≡ Some u → ReducesTo S t u
 
-  place_if : (b : Bool) (o q : Option Tree) (P : Type 0) (u : Tree) → (if b then o else q) ≡ Some u → (o ≡ Some u → P) → (q ≡ Some u → P) → P
+  pub place_if : (b : Bool) (o q : Option Tree) (P : Type 0) (u : Tree) → (if b then o else q) ≡ Some u → (o ≡ Some u → P) → (q ≡ Some u → P) → P
   place_if true o q P u e f g = f e
   place_if false o q P u e f g = g e
 
-  place_sound : (F : Tree → Option Tree) → IsSoundAt F → (p : ℕ) (t u : Tree) → at_place F p t ≡ Some u → ReducesTo S t u
+  pub place_sound : (F : Tree → Option Tree) → IsSoundAt F → (p : ℕ) (t u : Tree) → at_place F p t ≡ Some u → ReducesTo S t u
   place_sound F h zero t u e = h t u e
   place_sound F h (suc p) (apply f a) u e = place_if (nat_lt p (nodes f)) (within (λ g. apply g a) (at_place F p f)) (within (apply f) (at_place F (p - nodes f) a)) (ReducesTo S (apply f a) u) u e
       (λ i. from_within (ReducesTo S (apply f a) u) (λ g. apply g a) (at_place F p f) u i (λ g j q. along (ReducesTo S (apply f a)) q (reduces_in_application S [] f g a a (place_sound F h p f g j) (reduces_itself S [] a))))
@@ -114,7 +114,7 @@ module _ (S : PlainSignature) where
   place_sound F h (suc p) (variable k) u e = cc
   place_sound F h (suc p) (rule_variable k) u e = cc
 
-  contracted_sound : IsSoundAt contracted
+  pub contracted_sound : IsSoundAt contracted
   contracted_sound (apply (bare b) a) u e = let i : substitute 0 a b ≡ u = cc in along (ReducesTo S (apply (bare b) a)) i (0, one_step beta no_step)
   contracted_sound (apply star a) u e = cc
   contracted_sound (apply kind a) u e = cc
@@ -135,12 +135,12 @@ module _ (S : PlainSignature) where
 
   -- ---- rules
 
-  all_append : (ps qs : List (Tree × Tree)) → JoinAll S ps → JoinAll S qs → JoinAll S (ps ++ qs)
+  pub all_append : (ps qs : List (Tree × Tree)) → JoinAll S ps → JoinAll S qs → JoinAll S (ps ++ qs)
   all_append [] qs i j = j
   all_append (p ∷ ps) qs i j = (i.0, all_append ps qs i.1 j)
 
   -- the conditions in the order of certificates are the conditions
-  behind_joined : (s : ℕ → Option Tree) (before parts : List Part) → JoinAll S (laters before parts) → JoinAll S (guards s parts) → JoinAll S (conditions_behind s before parts)
+  pub behind_joined : (s : ℕ → Option Tree) (before parts : List Part) → JoinAll S (laters before parts) → JoinAll S (guards s parts) → JoinAll S (conditions_behind s before parts)
   behind_joined s before [] i j = tt
   behind_joined s before (variable_part k t ∷ ps) i j =
       let o : List (Tree × Tree) = later_occurrence (capture before k) t in
@@ -148,19 +148,19 @@ module _ (S : PlainSignature) where
       all_append o _ (all_before S o rest i) (behind_joined s (before ++ (variable_part k t ∷ [])) ps (all_behind S o rest i) j)
   behind_joined s before (guard_part d g t ∷ ps) i j = (j.0, behind_joined s (before ++ (guard_part d g t ∷ [])) ps i j.1)
 
-  joined_conditions : (ps : List Part) → JoinAll S (to_join ps) → JoinAll S (conditions ps)
+  pub joined_conditions : (ps : List Part) → JoinAll S (to_join ps) → JoinAll S (conditions ps)
   joined_conditions ps h = behind_joined (capture ps) [] ps (all_before S (laters [] ps) (guards (capture ps) ps) h) (all_behind S (laters [] ps) (guards (capture ps) ps) h)
 
-  fired_if : (b : Bool) (t u : Tree) → (if b then Some t else None) ≡ Some u → (b ≡ true) × (t ≡ u)
+  pub fired_if : (b : Bool) (t u : Tree) → (if b then Some t else None) ≡ Some u → (b ≡ true) × (t ≡ u)
   fired_if true t u e = (refl, cc)
   fired_if false t u e = cc
 
-  listed_at : (rs : List PlainRule) (n : ℕ) (r : PlainRule) → slice_get rs n ≡ Some r → Contains rs r
+  pub listed_at : (rs : List PlainRule) (n : ℕ) (r : PlainRule) → slice_get rs n ≡ Some r → Contains rs r
   listed_at [] n r e = cc
   listed_at (x ∷ rs) zero r e = (0, omega arith, (let q : x ≡ r = cc in q))
   listed_at (x ∷ rs) (suc n) r e = let h : Contains rs r = listed_at rs n r e in (suc h.0, omega arith, h.2)
 
-  fired_sound : (number : ℕ) (met : List (Tree × Tree) → Bool) → ((cs : List (Tree × Tree)) → met cs ≡ true → JoinAll S cs) → IsSoundAt (fired S number met)
+  pub fired_sound : (number : ℕ) (met : List (Tree × Tree) → Bool) → ((cs : List (Tree × Tree)) → met cs ≡ true → JoinAll S cs) → IsSoundAt (fired S number met)
   fired_sound number met h t u e = from_and_then (ReducesTo S t u) (head_symbol t) _ u e (λ k ek g.
       from_and_then (ReducesTo S t u) (slice_get (rules_of S k) number) _ u g (λ r er g'.
       from_and_then (ReducesTo S t u) (all_matched 0 (patterns_of r.pats) (arguments t)) (fired_with met r) u g' (λ ps ep g''.
@@ -172,17 +172,17 @@ module _ (S : PlainSignature) where
 
   -- ---- steps
 
-  same_if : (o q : Option Tree) → both_same o q ≡ true → (t : Tree) × (o ≡ Some t) × (q ≡ Some t)
+  pub same_if : (o q : Option Tree) → both_same o q ≡ true → (t : Tree) × (o ≡ Some t) × (q ≡ Some t)
   same_if (Some t) (Some u) e = (t, refl, ap Some (flip (equal_trees t u e)))
   same_if None q e = cc
   same_if (Some t) None e = cc
 
-  and_true : (a b : Bool) → (a && b) ≡ true → (a ≡ true) × (b ≡ true)
+  pub and_true : (a b : Bool) → (a && b) ≡ true → (a ≡ true) × (b ≡ true)
   and_true true b e = (refl, e)
   and_true false b e = cc
 
   mutual
-    step_sound : (x : ItemStep) (t u : Tree) → step_taken S x t ≡ Some u → ReducesTo S t u
+    pub step_sound : (x : ItemStep) (t u : Tree) → step_taken S x t ≡ Some u → ReducesTo S t u
     step_sound (beta_step p) t u e = place_sound contracted contracted_sound p t u e
     step_sound (rule_step p number js) t u e = place_sound (fired S number (all_joined S js)) (fired_sound number (all_joined S js) (λ cs h. joined_sound js cs h)) p t u e
 
@@ -190,7 +190,7 @@ module _ (S : PlainSignature) where
     steps_sound no_steps t u e = let q : t ≡ u = cc in along (ReducesTo S t) q (reduces_itself S [] t)
     steps_sound (more_steps x xs) t u e = from_and_then (ReducesTo S t u) (step_taken S x t) (steps_taken S xs) u e (λ v a b. reduces_then S [] t v u (step_sound x t v a) (steps_sound xs v u b))
 
-    joined_sound : (js : ItemJoins) (cs : List (Tree × Tree)) → all_joined S js cs ≡ true → JoinAll S cs
+    pub joined_sound : (js : ItemJoins) (cs : List (Tree × Tree)) → all_joined S js cs ≡ true → JoinAll S cs
     joined_sound no_joins [] e = tt
     joined_sound no_joins (c ∷ cs) e = cc
     joined_sound (more_joins xs ys js) [] e = cc

@@ -154,10 +154,10 @@ module _ {X Y : Type 0} (Q : (A : Type 0) → (X → JudgedIn X A) → (Y → Ju
     body_checked_related A None = answer_related tt
     body_checked_related A (Some b) = checked_related S [] [] b (erased A)
 
-    body_type_related : (b : Tree) → Q Tree (body_type E S b) (body_type E' S b)
+    pub body_type_related : (b : Tree) → Q Tree (body_type E S b) (body_type E' S b)
     body_type_related b = next_related (inferred_related S [] [] b) not_kind_related
 
-    declaration_related : (A b : Option Tree) → Q (Unit {0}) (declaration_checked E S A b) (declaration_checked E' S A b)
+    pub declaration_related : (A b : Option Tree) → Q (Unit {0}) (declaration_checked E S A b) (declaration_checked E' S A b)
     declaration_related (Some A) b = next_related (sort_of_related A) (λ t. body_checked_related A b)
     declaration_related None (Some b) = next_related (body_type_related b) (λ T. answer_related tt)
     declaration_related None None = answer_related tt
@@ -250,7 +250,7 @@ module _ {X Y : Type 0} (Q : (A : Type 0) → (X → JudgedIn X A) → (Y → Ju
 
       -- ---- commands
 
-      rules_checked_related : (rs : Result (List PlainRule) Code) → Q (Unit {0}) (rules_checked E S rs) (rules_checked E' S rs)
+      pub rules_checked_related : (rs : Result (List PlainRule) Code) → Q (Unit {0}) (rules_checked E S rs) (rules_checked E' S rs)
       rules_checked_related (Ok rs) = rules_related rs
       rules_checked_related (Err c) = refused_related c
 

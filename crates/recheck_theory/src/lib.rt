@@ -9,4 +9,5 @@ mod part;
 mod theory;
 
 pub use answer::Answer;
+pub use part::with_entry;
 pub use theory::recheck;

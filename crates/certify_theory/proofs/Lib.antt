@@ -1,0 +1,3 @@
+pub mod Lines
+mod SoFar
+mod Ends
