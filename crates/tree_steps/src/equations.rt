@@ -81,7 +81,7 @@ fn binder_of(term: &Term, other: &Term) -> Result<Option<u32>, NoMemory>
 }
 
 /// Whether the left side is a rule variable that may be bound to the right one.
-pub(crate) fn is_left(left: &Term, right: &Term) -> Result<bool, NoMemory>
+pub fn is_left(left: &Term, right: &Term) -> Result<bool, NoMemory>
     ensures { IfOk result (λ yes. yes ≡ is_left (tree left.now) (tree right.now)) }
 {
     match binder_of(left, right)? {
@@ -151,7 +151,7 @@ fn rigid_parts(
 }
 
 /// What the equation of two terms is. The left rule variable is bound where both may be.
-pub(crate) fn equation_of(
+pub fn equation_of(
     alloc: Global,
     version: &Version,
     left: &Term,

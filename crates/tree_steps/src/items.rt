@@ -25,7 +25,7 @@ pub struct ItemsLeft<'i> {
 }
 
 /// A copy of what rule variables are bound to.
-fn copied(alloc: Global, bindings: &[Option<Term>]) -> Result<Vec<Option<Term>>, NoMemory>
+pub fn copied(alloc: Global, bindings: &[Option<Term>]) -> Result<Vec<Option<Term>>, NoMemory>
     ensures { IfOk result (λ copy. plain copy ≡ map maybe_tree bindings.now) }
 {
     let mut copy = Vec::new(alloc);

@@ -14,5 +14,8 @@ mod places;
 mod solving;
 mod steps;
 
-pub use items::ItemsLeft;
+pub use equations::{Equation, equation_of, is_left};
+pub use items::{ItemsLeft, copied};
+pub use pairs::{Pair, push_copies};
+pub use solving::Solved;
 pub use steps::{joins, take_steps};

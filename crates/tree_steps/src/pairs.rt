@@ -15,7 +15,7 @@ pub struct Pair {
 }
 
 /// Puts a copy of two terms behind the pairs.
-pub(crate) fn push_copies(
+pub fn push_copies(
     alloc: Global,
     pairs: &mut LinkedList<Pair>,
     first: &Term,

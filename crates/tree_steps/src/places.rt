@@ -1,5 +1,5 @@
 //! The nodes of a term, numbered in preorder from 0: a node, then its first part, then its second.
-ghost use Rattle.std.specs.Prelude.{◌≡◌, ◌+◌, IfOk};
+ghost use Rattle.std.specs.Prelude.{◌≡◌, ◌≤◌, ◌<◌, IfOk, IfSome, None};
 ghost use Rattle.std.specs.Option.{option_copied, option_map};
 ghost use Rattle.dk_model.specs.Trees.{tree};
 ghost use Rattle.dk_model.specs.Signatures.{maybe_tree};
@@ -9,29 +9,28 @@ ghost use Rattle.tree_steps.specs.Places.{node_at, with_node};
 use dk_model::{NoMemory, Term, make_annotated, make_app, make_bare, make_product};
 use std::alloc::Global;
 
-/// A node and the nodes of its two parts.
-fn counted(first: u64, second: u64) -> Result<u64, NoMemory>
-    ensures { IfOk result (λ n. n ≡ 1 + first + second) }
+/// The number of a term's nodes, where it is at most this: no more nodes are looked at.
+#[tactic(auto, using(checked_steps::proofs::Complete::some_nodes))]
+fn nodes_within(limit: u64, term: &Term) -> Option<u64>
+    ensures count { IfSome result (λ n. n ≡ nodes (tree term.now)) }
+    ensures within { IfSome result (λ n. n ≤ limit) }
+    ensures more { result ≡ None → limit < nodes (tree term.now) }
 {
-    let Some(both) = first.checked_add(second) else {
-        return Err(NoMemory);
-    };
-    match both.checked_add(1) {
-        Some(all) => Ok(all),
-        None => Err(NoMemory),
+    if limit == 0 {
+        return None;
     }
-}
-
-/// The number of a term's nodes.
-fn nodes(term: &Term) -> Result<u64, NoMemory>
-    ensures { IfOk result (λ n. n ≡ nodes (tree term.now)) }
-{
+    let inner = limit - 1;
     match term {
-        Term::Star | Term::Kind | Term::Sym(_) | Term::Var(_) | Term::Rvar(_) => Ok(1),
-        Term::App(f, a) => counted(nodes(f)?, nodes(a)?),
-        Term::Abs(None, b) => counted(nodes(b)?, 0),
-        Term::Abs(Some(n), b) => counted(nodes(n)?, nodes(b)?),
-        Term::Prod(a, b) => counted(nodes(a)?, nodes(b)?),
+        Term::Star | Term::Kind | Term::Sym(_) | Term::Var(_) | Term::Rvar(_) => Some(1),
+        Term::Abs(None, b) => {
+            let body = nodes_within(inner, b)?;
+            Some(1 + body)
+        }
+        Term::App(a, b) | Term::Abs(Some(a), b) | Term::Prod(a, b) => {
+            let first = nodes_within(inner, a)?;
+            let second = nodes_within(inner - first, b)?;
+            Some(1 + first + second)
+        }
     }
 }
 
@@ -49,64 +48,61 @@ pub(crate) fn node_at(place: u64, term: &Term) -> Result<Option<&Term>, NoMemory
         Term::Star | Term::Kind | Term::Sym(_) | Term::Var(_) | Term::Rvar(_) => Ok(None),
         Term::Abs(None, b) => node_at(inner, b),
         Term::App(a, b) | Term::Abs(Some(a), b) | Term::Prod(a, b) => {
-            let first = nodes(a)?;
-            if inner < first {
-                node_at(inner, a)
-            } else {
-                node_at(inner - first, b)
-            }
+            let Some(first) = nodes_within(inner, a) else {
+                return node_at(inner, a);
+            };
+            node_at(inner - first, b)
         }
     }
 }
 
-/// The term with another one in the place of the node of this number.
+/// The term with another one in the place of the node of this number. Its other parts stay as they lie.
 #[tactic(auto, using(crate::proofs::Placing::with_root))]
-fn with_node(alloc: Global, place: u64, term: &Term, node: Term) -> Result<Term, NoMemory>
-    ensures { IfOk result (λ t. tree t ≡ with_node place (tree term.now) (tree node)) }
+fn with_node(alloc: Global, place: u64, term: Term, node: Term) -> Result<Term, NoMemory>
+    ensures { IfOk result (λ t. tree t ≡ with_node place (tree term) (tree node)) }
 {
     if place == 0 {
         return Ok(node);
     }
     let inner = place - 1;
     match term {
-        Term::Star | Term::Kind | Term::Sym(_) | Term::Var(_) | Term::Rvar(_) => term.copy(alloc),
-        Term::App(f, a) => {
-            let first = nodes(f)?;
-            if inner < first {
-                make_app(alloc, with_node(alloc, inner, f, node)?, a.copy(alloc)?)
-            } else {
-                make_app(
-                    alloc,
-                    f.copy(alloc)?,
-                    with_node(alloc, inner - first, a, node)?,
-                )
+        Term::App(f, a) => match nodes_within(inner, &f) {
+            None => {
+                let f = with_node(alloc, inner, Box::into_inner(f), node)?;
+                make_app(alloc, f, Box::into_inner(a))
             }
-        }
-        Term::Abs(None, b) => make_bare(alloc, with_node(alloc, inner, b, node)?),
-        Term::Abs(Some(n), b) => {
-            let first = nodes(n)?;
-            if inner < first {
-                make_annotated(alloc, with_node(alloc, inner, n, node)?, b.copy(alloc)?)
-            } else {
-                make_annotated(
-                    alloc,
-                    n.copy(alloc)?,
-                    with_node(alloc, inner - first, b, node)?,
-                )
+            Some(first) => {
+                let a = with_node(alloc, inner - first, Box::into_inner(a), node)?;
+                make_app(alloc, Box::into_inner(f), a)
             }
-        }
-        Term::Prod(a, b) => {
-            let first = nodes(a)?;
-            if inner < first {
-                make_product(alloc, with_node(alloc, inner, a, node)?, b.copy(alloc)?)
-            } else {
-                make_product(
-                    alloc,
-                    a.copy(alloc)?,
-                    with_node(alloc, inner - first, b, node)?,
-                )
+        },
+        Term::Abs(annotation, b) => match annotation {
+            None => {
+                let b = with_node(alloc, inner, Box::into_inner(b), node)?;
+                make_bare(alloc, b)
             }
-        }
+            Some(n) => match nodes_within(inner, &n) {
+                None => {
+                    let n = with_node(alloc, inner, Box::into_inner(n), node)?;
+                    make_annotated(alloc, n, Box::into_inner(b))
+                }
+                Some(first) => {
+                    let b = with_node(alloc, inner - first, Box::into_inner(b), node)?;
+                    make_annotated(alloc, Box::into_inner(n), b)
+                }
+            },
+        },
+        Term::Prod(a, b) => match nodes_within(inner, &a) {
+            None => {
+                let a = with_node(alloc, inner, Box::into_inner(a), node)?;
+                make_product(alloc, a, Box::into_inner(b))
+            }
+            Some(first) => {
+                let b = with_node(alloc, inner - first, Box::into_inner(b), node)?;
+                make_product(alloc, Box::into_inner(a), b)
+            }
+        },
+        leaf => Ok(leaf),
     }
 }
 
@@ -114,11 +110,11 @@ fn with_node(alloc: Global, place: u64, term: &Term, node: Term) -> Result<Term,
 pub(crate) fn placed(
     alloc: Global,
     place: u64,
-    term: &Term,
+    term: Term,
     node: Option<Term>,
 ) -> Result<Option<Term>, NoMemory>
     ensures { IfOk result (λ t. maybe_tree t
-        ≡ within (with_node place (tree term.now)) (maybe_tree node)) }
+        ≡ within (with_node place (tree term)) (maybe_tree node)) }
 {
     match node {
         Some(node) => Ok(Some(with_node(alloc, place, term, node)?)),

@@ -108,7 +108,7 @@ impl<'v> Steps<'v> {
     {
         let mut term = term.copy(self.alloc)?;
         for step in steps {
-            match self.step_taken(step, &term)? {
+            match self.step_taken(step, term)? {
                 Some(next) => term = next,
                 None => return Ok(None),
             }
@@ -118,12 +118,12 @@ impl<'v> Steps<'v> {
 
     /// The term after a step, where the step can be taken.
     #[cycle(steps)]
-    fn step_taken(self, step: &Step, term: &Term) -> Result<Option<Term>, NoMemory>
+    fn step_taken(self, step: &Step, term: Term) -> Result<Option<Term>, NoMemory>
         ensures { IfOk result (λ t. maybe_tree t
-            ≡ step_taken (entries_of self.entry.version.now) (plain_step step.now) (tree term.now)) }
+            ≡ step_taken (entries_of self.entry.version.now) (plain_step step.now) (tree term)) }
     {
         match step {
-            Step::Beta(place) => match node_at(*place, term)? {
+            Step::Beta(place) => match node_at(*place, &term)? {
                 Some(node) => {
                     let node = contracted(self.alloc, node)?;
                     placed(self.alloc, *place, term, node)
@@ -134,7 +134,7 @@ impl<'v> Steps<'v> {
                 place,
                 number,
                 joins,
-            } => match node_at(*place, term)? {
+            } => match node_at(*place, &term)? {
                 Some(node) => {
                     let node = self.fired(*number, joins.as_slice(), node)?;
                     placed(self.alloc, *place, term, node)
