@@ -13,12 +13,10 @@ use Rattle.dk_model.specs.Captures.{Captures}
 use Rattle.dk_model.specs.Selection.{RowTrial, Selected, select_from, row_taken}
 use Rattle.dk_model.specs.Evaluation.{whnf_of, comparison_of, normal_of}
 use Rattle.dk_model.specs.Equations.{selection_of}
-use Rattle.dk_model.specs.declared.term.Term.{Term}
 use Rattle.dk_model.proofs.Turns.{selection_is}
-use Rattle.tree_evaluation.specs.declared.matrix.Row.{Row}
-use Rattle.tree_evaluation.specs.declared.matrix.Column.{Column}
+use Rattle.told_steps.specs.Ends.{column_of}
+use Rattle.told_steps.specs.declared.end.End.{End}
 use Rattle.tree_evaluation.specs.Answers.{by_value, with_value}
-use Rattle.tree_evaluation.specs.Views.{column, row}
 use Rattle.tree_evaluation.proofs.Lists.{spliced, cut_there, cut_end}
 
 module _ (S : PlainSignature) where
@@ -67,30 +65,30 @@ module _ (S : PlainSignature) where
   by_column None i n rs cs e = rw (e, by_value) refl
   by_column (Some c) i n rs cs e = rw (e, by_value) refl
 
-  module _ (cs : List Column) (rs : List PlainRow) (i n : ℕ) where
-    none_there : slice_get cs i ≡ None → by_value S i rs (map column cs) n ≡ Some (None, n)
-    none_there e = by_column None i n rs (map column cs) (slice_get-map column cs i ∙ ap (option_map column) e)
+  module _ (cs : List End) (rs : List PlainRow) (i n : ℕ) where
+    none_there : slice_get cs i ≡ None → by_value S i rs (map column_of cs) n ≡ Some (None, n)
+    none_there e = by_column None i n rs (map column_of cs) (slice_get-map column_of cs i ∙ ap (option_map column_of) e)
 
-    pub past_columns : length cs ≤ i → by_value S i rs (map column cs) n ≡ Some (None, n)
+    pub past_columns : length cs ≤ i → by_value S i rs (map column_of cs) n ≡ Some (None, n)
     past_columns le = none_there (slice_get_past cs i le)
 
-    pub no_column : drop i cs ≡ [] → by_value S i rs (map column cs) n ≡ Some (None, n)
+    pub no_column : drop i cs ≡ [] → by_value S i rs (map column_of cs) n ≡ Some (None, n)
     no_column e = none_there (cut_end i cs e)
 
-    at_value : (x : Column) → slice_get cs i ≡ Some x → by_value S i rs (map column cs) n ≡ bind (whnf_of S n (tree x.term)) (with_value S i rs (map column cs) (column x))
-    at_value x e = by_column (Some (column x)) i n rs (map column cs) (slice_get-map column cs i ∙ ap (option_map column) e)
+    at_value : (x : End) → slice_get cs i ≡ Some x → by_value S i rs (map column_of cs) n ≡ bind (whnf_of S n (tree x.told.form)) (with_value S i rs (map column_of cs) (column_of x))
+    at_value x e = by_column (Some (column_of x)) i n rs (map column_of cs) (slice_get-map column_of cs i ∙ ap (option_map column_of) e)
 
-    pub value_ends : (x : Column) (behind : List Column) → drop i cs ≡ x ∷ behind → whnf_of S n (tree x.term) ≡ None → by_value S i rs (map column cs) n ≡ None
-    value_ends x behind e q = at_value x (cut_there i cs behind x e) ∙ ap (λ y. bind y (with_value S i rs (map column cs) (column x))) q
+    pub value_ends : (x : End) (behind : List End) → drop i cs ≡ x ∷ behind → whnf_of S n (tree x.told.form) ≡ None → by_value S i rs (map column_of cs) n ≡ None
+    value_ends x behind e q = at_value x (cut_there i cs behind x e) ∙ ap (λ y. bind y (with_value S i rs (map column_of cs) (column_of x))) q
 
-    pub value_goes : (x y : Column) (v : Tree) (m : ℕ) (before behind parts all : List Column) (rs' : List PlainRow) → slice_get cs i ≡ Some x → before ≡ take i cs → behind ≡ drop (i + 1) cs
-        → whnf_of S n (tree x.term) ≡ Some (v, m) → column y ≡ record { depth = x.depth; term = v } → map column parts ≡ opened_columns x.depth v
-        → all ≡ before ++ y ∷ parts ++ behind → rs' ≡ refined_rows v (length parts) i rs → by_value S i rs (map column cs) n ≡ selection_of S m (map column all) rs'
+    pub value_goes : (x y : End) (v : Tree) (m : ℕ) (before behind parts all : List End) (rs' : List PlainRow) → slice_get cs i ≡ Some x → before ≡ take i cs → behind ≡ drop (i + 1) cs
+        → whnf_of S n (tree x.told.form) ≡ Some (v, m) → column_of y ≡ record { depth = x.depth; term = v } → map column_of parts ≡ opened_columns x.depth v
+        → all ≡ before ++ y ∷ parts ++ behind → rs' ≡ refined_rows v (length parts) i rs → by_value S i rs (map column_of cs) n ≡ selection_of S m (map column_of all) rs'
     value_goes x y v m before behind parts all rs' e front rest q same opened joined refined =
-        at_value x e ∙ ap (λ z. bind z (with_value S i rs (map column cs) (column x))) q ∙ flip (
-        ap (λ (l : List Column). selection_of S m (map column l) rs') (joined ∙ ap (λ (l : List Column). l ++ (y ∷ parts) ++ behind) front ∙ ap (λ (l : List Column). take i cs ++ (y ∷ parts) ++ l) rest)
-        ∙ ap (λ (l : List PlainColumn). selection_of S m l rs') (spliced column i cs (y ∷ parts)
-        ∙ ap (λ (c : PlainColumn). take i (map column cs) ++ (c ∷ map column parts) ++ drop (i + 1) (map column cs)) same
-        ∙ ap (λ (l : List PlainColumn). take i (map column cs) ++ (record { depth = x.depth; term = v } ∷ l) ++ drop (i + 1) (map column cs)) opened)
-        ∙ ap (selection_of S m (take i (map column cs) ++ (record { depth = x.depth; term = v } ∷ opened_columns x.depth v) ++ drop (i + 1) (map column cs)))
-        (refined ∙ ap (λ (j : ℕ). refined_rows v j i rs) (flip (length-map parts column) ∙ ap length opened)))
+        at_value x e ∙ ap (λ z. bind z (with_value S i rs (map column_of cs) (column_of x))) q ∙ flip (
+        ap (λ (l : List End). selection_of S m (map column_of l) rs') (joined ∙ ap (λ (l : List End). l ++ (y ∷ parts) ++ behind) front ∙ ap (λ (l : List End). take i cs ++ (y ∷ parts) ++ l) rest)
+        ∙ ap (λ (l : List PlainColumn). selection_of S m l rs') (spliced column_of i cs (y ∷ parts)
+        ∙ ap (λ (c : PlainColumn). take i (map column_of cs) ++ (c ∷ map column_of parts) ++ drop (i + 1) (map column_of cs)) same
+        ∙ ap (λ (l : List PlainColumn). take i (map column_of cs) ++ (record { depth = x.depth; term = v } ∷ l) ++ drop (i + 1) (map column_of cs)) opened)
+        ∙ ap (selection_of S m (take i (map column_of cs) ++ (record { depth = x.depth; term = v } ∷ opened_columns x.depth v) ++ drop (i + 1) (map column_of cs)))
+        (refined ∙ ap (λ (j : ℕ). refined_rows v j i rs) (flip (length-map parts column_of) ∙ ap length opened)))

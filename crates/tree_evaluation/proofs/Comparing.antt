@@ -3,7 +3,8 @@ use Rattle.std.proofs.Common.{List, [], ◌∷◌, ◌++◌, ◌≡◌, ℕ, tru
 use Rattle.dk_model.specs.Trees.{Tree, apply, product, bare}
 use Rattle.dk_model.specs.Signatures.{PlainSignature}
 use Rattle.dk_model.specs.Units.{Units, bind}
-use Rattle.dk_model.specs.Spines.{pairs_of}
+use Rattle.dk_model.specs.Spines.{pairs_of, body_of}
+use Rattle.told_steps.proofs.Folding.{bare_is}
 use Rattle.dk_model.specs.Parts.{each_same}
 use Rattle.dk_model.specs.Evaluation.{comparison_of}
 use Rattle.dk_model.specs.Equations.{heads_compared}
@@ -18,8 +19,15 @@ module _ (S : PlainSignature) where
   alone (Some (true, m)) = refl
   alone (Some (false, m)) = refl
 
-  pub bodies : (t u : Tree) (n : ℕ) → heads_compared S (bare t) (bare u) n ≡ comparison_of S n t u
+  bodies : (t u : Tree) (n : ℕ) → heads_compared S (bare t) (bare u) n ≡ comparison_of S n t u
   bodies t u n = alone (comparison_of S n t u)
+
+  pub bodies_due : (t u b c : Tree) (n : ℕ) → t ≡ bare b → u ≡ bare c → heads_compared S t u n ≡ comparison_of S n b c
+  bodies_due t u b c n e q = ap (λ (x : Tree). heads_compared S x u n) e ∙ ap (λ (y : Tree). heads_compared S (bare b) y n) q ∙ bodies b c n
+
+  -- an abstraction without annotation, by its body
+  pub with_body : (t b : Tree) → body_of t ≡ Some b → t ≡ bare b
+  with_body t b e = bare_is t b e
 
   behind_more : (a b : Tree) (ps : List (Tree × Tree)) (x : Units Bool) → ((n : ℕ) → each_same (comparison_of S) (ps ++ ((a, b) ∷ [])) n ≡ behind a b (each_same (comparison_of S) ps n))
       → bind x (λ alike n. if alike then each_same (comparison_of S) (ps ++ ((a, b) ∷ [])) n else Some (false, n))

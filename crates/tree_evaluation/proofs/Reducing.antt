@@ -1,28 +1,52 @@
--- The reducer over trees: it keeps nothing, and a term stands for itself.
-use Rattle.std.proofs.Common.{ℕ, ◌≡◌, List, [], ◌∷◌, map, ap, Bool, Result, Ok, Err, refl}
+-- The reducer over trees: it keeps nothing, and a term stands for itself. And what an evaluation that tells its steps gives.
+use Rattle.std.proofs.Common.{ℕ, ◌≡◌, List, [], ◌∷◌, map, ap, Bool, Option, Result, Ok, Err, refl}
+use Rattle.std.specs.Prelude.{is_some}
 use Rattle.dk_model.specs.Trees.{Tree, tree}
+use Rattle.dk_model.specs.Signatures.{PlainSignature}
 use Rattle.dk_model.specs.Units.{Units}
 use Rattle.dk_model.specs.declared.term.Term.{Term}
 use Rattle.dk_model.specs.declared.stop.Stop.{Stop}
 use Rattle.dk_model.specs.declared.stop.Stop.TheVariants.{Ended, NoMemory}
 use Rattle.signature_log.specs.Reducers.{Keeps, Gives, GivesAnswer}
+use Rattle.certificate_items.specs.Views.{plain_steps}
+use Rattle.certificate_items.specs.declared.item.Join.{Join}
+use Rattle.tree_typing.specs.Given.{Gives as Answered}
+use Rattle.told_steps.specs.Told.{Meet}
+use Rattle.told_steps.specs.Meetings.{MeetIn, MeetBy}
+use Rattle.told_steps.specs.declared.told.Told.{Told}
+use Rattle.told_steps.specs.declared.meeting.Meeting.{Meeting}
 use Rattle.tree_evaluation.specs.declared.trees.Trees.{Trees}
-use Rattle.tree_evaluation.specs.Answers.{Answers}
+use Rattle.tree_evaluation.specs.Answers.{Answers, form_told}
 use Rattle.tree_evaluation.specs.Views.{owned, denoted}
 
 pub trees_keep : (old new : Trees) → Keeps owned denoted old new
 trees_keep old new = record { own = λ t o. tt; same = λ t o. refl }
 
-pub trees_give : (due : Units Tree) (r : Trees) (result : Result Term Stop) (left : ℕ) → Answers tree due result left → Gives owned denoted due r result left
-trees_give due r (Ok t) left h = (h, tt)
-trees_give due r (Err Ended) left h = h
-trees_give due r (Err NoMemory) left h = tt
+pub form_given : (due : Units Tree) (r : Trees) (told : Told) (left : ℕ) → Answers form_told due (Ok told) left → Gives owned denoted due r (Ok told.form) left
+form_given due r told left h = (h, tt)
 
-pub trees_answer : (due : Units Bool) (result : Result Bool Stop) (left : ℕ) → Answers (λ b. b) due result left → GivesAnswer due result left
-trees_answer due (Ok b) left h = h
-trees_answer due (Err Ended) left h = h
-trees_answer due (Err NoMemory) left h = tt
+pub no_form_given : (due : Units Tree) (r : Trees) (stop : Stop) (left : ℕ) → Answers form_told due (Err stop) left → Gives owned denoted due r (Err stop) left
+no_form_given due r Ended left h = h
+no_form_given due r NoMemory left h = tt
+
+pub no_answer_given : (due : Units Bool) (stop : Stop) (left : ℕ) → Answers {A = Option Meeting} is_some due (Err stop) left → GivesAnswer due (Err stop) left
+no_answer_given due Ended left h = h
+no_answer_given due NoMemory left h = tt
 
 pub same_trees : (r : Trees) (ts : List Term) → map tree ts ≡ map (denoted r) ts
 same_trees r [] = refl
 same_trees r (t ∷ ts) = ap (λ (us : List Tree). tree t ∷ us) (same_trees r ts)
+
+-- with the steps
+
+pub terms_told : (due : Units Tree) (result : Result Told Stop) (left : ℕ) → Answers form_told due result left → Answered (λ (told : Told). tree told.form) due result left
+terms_told due (Ok told) left h = h
+terms_told due (Err Ended) left h = h.0
+terms_told due (Err NoMemory) left h = tt
+
+pub none_told : (due : Units Bool) (stop : Stop) (left : ℕ) → Answers {A = Option Meeting} is_some due (Err stop) left → Answered {A = Option Join} is_some due (Err stop) left
+none_told due Ended left h = h.0
+none_told due NoMemory left h = tt
+
+pub joined_told : (S : PlainSignature) (t u : Tree) (met : Meeting) (join : Join) → MeetBy met join → MeetIn S t u met → Meet S t (plain_steps join.first) u (plain_steps join.second)
+joined_told S t u met join by m = by S t u m

@@ -1,5 +1,5 @@
 -- The steps of an evaluation: what is due at a call is what is due at the call that it goes on with.
-use Rattle.std.proofs.Common.{◌≡◌, ℕ, zero, suc, List, Some, None, Bool, true, false, refl, ap, ◌∙◌, if◌then◌else◌}
+use Rattle.std.proofs.Common.{◌≡◌, ℕ, suc, List, Some, None, true, false, ap, ◌∙◌}
 use Rattle.dk_model.specs.Trees.{Tree}
 use Rattle.dk_model.specs.Substitution.{equal}
 use Rattle.dk_model.specs.Signatures.{PlainSignature}

@@ -9,7 +9,7 @@ use Rattle.dk_model.specs.Captures.{Captures, filled}
 use Rattle.dk_model.specs.Selection.{Selected}
 use Rattle.dk_model.specs.Evaluation.{whnf_of, comparison_of, columns, rows}
 use Rattle.dk_model.specs.Equations.{selection_of, after_selection}
-use Rattle.dk_model.specs.declared.term.Term.{Term}
+use Rattle.told_steps.specs.declared.told.Told.{Told}
 use Rattle.dk_model.specs.declared.stop.Stop.{Stop}
 use Rattle.dk_model.specs.declared.stop.Stop.TheVariants.{Ended, NoMemory}
 
@@ -19,9 +19,13 @@ Answers view due (Ok a) left = due ≡ Some (view a, left)
 Answers view due (Err Ended) left = (due ≡ None) × (left ≡ 0)
 Answers view due (Err NoMemory) left = Unit {0}
 
+-- the term that was told
+abbrev pub form_told : Told → Tree
+form_told told = tree told.form
+
 -- where the weak head form `due` of `t` leads: to that of another term, or `t` stands
-abbrev pub Leads : PlainSignature → Tree → Units Tree → Result (Option Term) Stop → ℕ → Type 0
-Leads S t due (Ok (Some next)) left = due ≡ whnf_of S left (tree next)
+abbrev pub Leads : PlainSignature → Tree → Units Tree → Result (Option Told) Stop → ℕ → Type 0
+Leads S t due (Ok (Some next)) left = due ≡ whnf_of S left (form_told next)
 Leads S t due (Ok None) left = due ≡ Some (t, left)
 Leads S t due (Err Ended) left = (due ≡ None) × (left ≡ 0)
 Leads S t due (Err NoMemory) left = Unit {0}

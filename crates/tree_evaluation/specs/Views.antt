@@ -15,12 +15,14 @@ use Rattle.shared_term.specs.declared.stored.Stored.{Stored}
 pub use Rattle.tree_terms.specs.Rules.{stored_pattern, rule}
 use Rattle.tree_evaluation.specs.declared.matrix.Cell.{Cell}
 use Rattle.tree_evaluation.specs.declared.matrix.Cell.TheVariants.{Blank, Pattern as Asks}
-use Rattle.tree_evaluation.specs.declared.matrix.Column.{Column}
 use Rattle.tree_evaluation.specs.declared.matrix.Row.{Row}
+use Rattle.told_steps.specs.Ends.{column_of, columns_of}
+use Rattle.tree_evaluation.specs.declared.select.Captured.{Captured}
 use Rattle.tree_evaluation.specs.declared.select.Selected.{Selected}
 use Rattle.tree_evaluation.specs.declared.select.PartTrial.{PartTrial}
 use Rattle.tree_evaluation.specs.declared.select.CellTrial.{CellTrial}
 use Rattle.tree_evaluation.specs.declared.select.RowTrial.{RowTrial}
+use Rattle.tree_evaluation.specs.declared.telling.Telling.{Telling}
 use Rattle.tree_evaluation.specs.declared.trees.Trees.{Trees}
 
 -- every term is one of the reducer's
@@ -30,6 +32,10 @@ owned r t = Unit {0}
 -- and stands for itself
 abbrev pub denoted : Trees → Term → Tree
 denoted r t = tree t
+
+-- the units that an evaluation has left
+abbrev pub units_left : Telling → ℕ
+units_left telling = telling.left
 
 -- the matrix
 
@@ -42,9 +48,6 @@ plain_cell (Asks p) = pattern_cell p.now
 
 abbrev pub plain_cells : List Cell → List PlainCell
 plain_cells cs = map plain_cell cs
-
-abbrev pub column : Column → PlainColumn
-column c = record { depth = c.depth; term = tree c.term }
 
 -- a column at this depth
 abbrev pub at_depth : ℕ → Tree → PlainColumn
@@ -67,17 +70,17 @@ refined_row value count i r =
 abbrev pub captures_of : Vec (Option Term) Global → Captures
 captures_of cs = map maybe_tree cs.items
 
-abbrev pub capturing : Option (Vec (Option Term) Global) → Option Captures
-capturing o = option_map captures_of o
+abbrev pub capturing : Option Captured → Option Captures
+capturing o = option_map (λ c. captures_of c.captures) o
 
 abbrev pub part_trial : PartTrial → PlainPartTrial
-part_trial t = record { term = tree t.term; fits = t.fits }
+part_trial t = record { term = tree t.told.form; fits = t.fits }
 
 abbrev pub cell_trial : CellTrial → PlainCellTrial
-cell_trial t = record { captures = capturing t.captures; column = column t.column }
+cell_trial t = record { captures = capturing t.captured; column = column_of t.column }
 
 abbrev pub row_trial : RowTrial → PlainRowTrial
-row_trial t = record { captures = capturing t.captures; columns = map column t.columns }
+row_trial t = record { captures = capturing t.captured; columns = columns_of t.columns }
 
 abbrev pub plain_selected : Selected → PlainSelected
 plain_selected t = record { captures = captures_of t.captures; rule = rule t.rule }

@@ -4,12 +4,16 @@ ghost use Rattle.std.specs.Option.{option_map};
 ghost use Rattle.dk_model.specs.Trees.{tree, symbol as symbol_tree, variable as variable_tree};
 ghost use Rattle.dk_model.specs.Spines.{head, arguments};
 ghost use Rattle.dk_model.specs.Matrix.{blank, is_rigid, rigid_at, cell_at, first_cells, opened_columns, refined_cells, refined_rows, heads_same, width, rows_for};
-ghost use Rattle.tree_evaluation.specs.Views.{pattern_cell, plain_cell, plain_cells, column, at_depth, row as row_of, rule as rule_of, refined_row, cells_if};
+ghost use Rattle.told_steps.specs.Ends.{column_of, columns_of};
+ghost use Rattle.told_steps.specs.Parts.{AlwaysLeadsTo};
+ghost use Rattle.tree_evaluation.specs.Views.{pattern_cell, plain_cell, plain_cells, at_depth, row as row_of, rule as rule_of, refined_row, cells_if};
+ghost use Rattle.tree_evaluation.specs.Tellings.{AreFirstRows, AreRefined, AreUnmoved};
 
 use dk_model::{NoMemory, Pat, Term};
 use shared_term::Stored;
 use std::alloc::Global;
 use std::collections::LinkedList;
+use told_steps::{End, unmoved};
 use tree_terms::{SymbolRule, arguments, body_of, is_applied};
 
 /// What a row asks of a column.
@@ -21,19 +25,14 @@ pub enum Cell<'v> {
     Pattern(&'v Pat<Stored>),
 }
 
-/// A part of the arguments.
-#[derive(Drop)]
-pub struct Column {
-    /// How many variables a pattern binds there.
-    pub depth: u64,
-    pub term: Term,
-}
-
 /// A rule with what it still asks of each column.
 #[derive(Drop)]
 pub struct Row<'v> {
     pub cells: Vec<Cell<'v>>,
     pub rule: SymbolRule<'v>,
+    /// Its place, from 0, among what it was made of: a first row among the rules, a refined one
+    /// among the rows before it.
+    pub from: usize,
 }
 
 /// How many columns the rules of at most `count` patterns need.
@@ -57,27 +56,34 @@ pub fn rows_for<'v>(
     width: usize,
     rules: &[SymbolRule<'v>],
 ) -> Result<Vec<Row<'v>>, NoMemory>
-    ensures { IfOk result (λ rows. map row_of rows.items
+    ensures rows { IfOk result (λ rows. map row_of rows.items
         ≡ rows_for count width (map rule_of rules.now)) }
+    ensures from { IfOk result (λ rows. AreFirstRows width count rules.now rows.items) }
 {
     let mut rows = Vec::new(alloc);
-    for rule in rules {
+    for (from, rule) in rules.iter().enumerate() {
         if rule.pattern_count() <= count {
-            rows.push(row_for(alloc, width, *rule)?)?;
+            rows.push(row_for(alloc, width, *rule, from)?)?;
         }
     }
     Ok(rows)
 }
 
 /// A rule's patterns, and nothing for the columns that are left of the `width`.
-fn row_for<'v>(alloc: Global, width: usize, rule: SymbolRule<'v>) -> Result<Row<'v>, NoMemory>
+fn row_for<'v>(
+    alloc: Global,
+    width: usize,
+    rule: SymbolRule<'v>,
+    from: usize,
+) -> Result<Row<'v>, NoMemory>
     ensures cells { IfOk result (λ r. (row_of r).cells ≡ first_cells width (rule_of rule.entry)) }
     ensures rule { IfOk result (λ r. r.rule ≡ rule.entry) }
+    ensures from { IfOk result (λ r. r.from ≡ from) }
 {
     let mut cells = cells_of(alloc, rule.patterns())?;
     let mut behind = blanks(alloc, width.saturating_sub(rule.pattern_count()))?;
     cells.append(&mut behind)?;
-    Ok(Row { cells, rule })
+    Ok(Row { cells, rule, from })
 }
 
 /// A cell for each pattern.
@@ -115,7 +121,7 @@ fn behind_cell<'v>(
     Ok(cells)
 }
 
-fn is_rigid(cell: Cell) -> bool
+pub fn is_rigid(cell: Cell) -> bool
     ensures { result ≡ is_rigid (plain_cell cell.entry) }
 {
     match cell {
@@ -148,36 +154,40 @@ pub fn rigid_at(cells: &[Cell]) -> Option<usize>
     }
 }
 
+/// A column that was not evaluated yet.
+fn unmoved_column(alloc: Global, depth: u64, term: &Term) -> Result<End, NoMemory>
+    ensures column { IfOk result (λ c. column_of c ≡ at_depth depth (tree term.now)) }
+    ensures leads { IfOk result (λ c. AlwaysLeadsTo (tree c.told.form) c.told) }
+{
+    let told = unmoved(alloc, term.copy(alloc)?);
+    Ok(End { depth, told })
+}
+
 /// A column at this depth for each term.
-pub fn columns_of(alloc: Global, depth: u64, terms: &[Term]) -> Result<LinkedList<Column>, NoMemory>
-    ensures { IfOk result (λ cs. map column cs ≡ map (at_depth depth) (map tree terms.now)) }
+pub fn columns_of(alloc: Global, depth: u64, terms: &[Term]) -> Result<LinkedList<End>, NoMemory>
+    ensures columns { IfOk result (λ cs. columns_of cs
+        ≡ map (at_depth depth) (map tree terms.now)) }
+    ensures leads { IfOk result AreUnmoved }
 {
     let mut columns = LinkedList::new(alloc);
     for term in terms {
-        columns.push_back(Column {
-            depth,
-            term: term.copy(alloc)?,
-        })?;
+        columns.push_back(unmoved_column(alloc, depth, term)?)?;
     }
     Ok(columns)
 }
 
 /// The columns that a value opens: its body under one more variable, or its arguments.
-pub fn opened_columns(
-    alloc: Global,
-    depth: u64,
-    value: &Term,
-) -> Result<LinkedList<Column>, NoMemory>
-    ensures { IfOk result (λ cs. map column cs ≡ opened_columns depth (tree value.now)) }
+pub fn opened_columns(alloc: Global, depth: u64, value: &Term) -> Result<LinkedList<End>, NoMemory>
+    ensures columns { IfOk result (λ cs. columns_of cs ≡ opened_columns depth (tree value.now)) }
+    ensures leads { IfOk result AreUnmoved }
 {
     match value {
         Term::Abs(None, body) => {
             let Some(depth) = depth.checked_add(1) else {
                 return Err(NoMemory);
             };
-            let term = body.copy(alloc)?;
             let mut columns = LinkedList::new(alloc);
-            columns.push_front(Column { depth, term })?;
+            columns.push_front(unmoved_column(alloc, depth, body)?)?;
             Ok(columns)
         }
         _ => columns_of(alloc, depth, arguments(alloc, value)?.as_slice()),
@@ -185,7 +195,7 @@ pub fn opened_columns(
 }
 
 /// Cuts the columns before a place, and gives those from there on.
-pub fn cut(columns: &mut LinkedList<Column>, at: usize) -> Result<LinkedList<Column>, NoMemory>
+pub fn cut(columns: &mut LinkedList<End>, at: usize) -> Result<LinkedList<End>, NoMemory>
     requires { at ≤ length columns.old }
     ensures before { OnOk result (columns.new ≡ take at columns.old) }
     ensures behind { IfOk result (λ behind. behind ≡ drop at columns.old) }
@@ -195,11 +205,11 @@ pub fn cut(columns: &mut LinkedList<Column>, at: usize) -> Result<LinkedList<Col
 
 /// Columns in one list: those before a value, the value, its parts and those behind it.
 pub fn joined(
-    before: LinkedList<Column>,
-    value: Column,
-    parts: LinkedList<Column>,
-    behind: LinkedList<Column>,
-) -> Result<LinkedList<Column>, NoMemory>
+    before: LinkedList<End>,
+    value: End,
+    parts: LinkedList<End>,
+    behind: LinkedList<End>,
+) -> Result<LinkedList<End>, NoMemory>
     ensures { IfOk result (λ all. all ≡ before ++ value ∷ parts ++ behind) }
 {
     let mut all = before;
@@ -212,7 +222,7 @@ pub fn joined(
 }
 
 /// The cell at a place, or nothing.
-fn cell_at<'v>(cells: &[Cell<'v>], at: usize) -> Cell<'v>
+pub fn cell_at<'v>(cells: &[Cell<'v>], at: usize) -> Cell<'v>
     ensures { plain_cell result ≡ cell_at (plain_cells cells.now) at }
 {
     match cells {
@@ -346,9 +356,12 @@ fn refined_row<'v>(
     count: usize,
     at: usize,
     row: &Row<'v>,
+    from: usize,
 ) -> Result<Option<Row<'v>>, NoMemory>
-    ensures { IfOk result (λ refined. option_map row_of refined
+    ensures row { IfOk result (λ refined. option_map row_of refined
         ≡ refined_row (tree value.now) count at (row_of row.now)) }
+    ensures from { IfOk result (λ refined. IfSome refined (λ r. r.from ≡ from)) }
+    ensures rule { IfOk result (λ refined. IfSome refined (λ r. r.rule ≡ row.now.rule)) }
 {
     let cells = row.cells.as_slice();
     let Some(parts) = refined_cells(alloc, value, count, cell_at(cells, at))? else {
@@ -358,6 +371,7 @@ fn refined_row<'v>(
     Ok(Some(Row {
         cells,
         rule: row.rule,
+        from,
     }))
 }
 
@@ -369,12 +383,13 @@ pub fn refined_rows<'v>(
     at: usize,
     rows: &[Row<'v>],
 ) -> Result<Vec<Row<'v>>, NoMemory>
-    ensures { IfOk result (λ kept. map row_of kept.items
+    ensures rows { IfOk result (λ kept. map row_of kept.items
         ≡ refined_rows (tree value.now) count at (map row_of rows.now)) }
+    ensures from { IfOk result (λ kept. AreRefined (tree value.now) count at rows.now kept.items) }
 {
     let mut kept = Vec::new(alloc);
-    for row in rows {
-        if let Some(row) = refined_row(alloc, value, count, at, row)? {
+    for (from, row) in rows.iter().enumerate() {
+        if let Some(row) = refined_row(alloc, value, count, at, row, from)? {
             kept.push(row)?;
         }
     }

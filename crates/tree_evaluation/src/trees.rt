@@ -1,5 +1,5 @@
 //! The evaluator over boxed trees as a value, for what is written over any reducer.
-#![tactic(auto, using(crate::proofs::Reducing::trees_keep, crate::proofs::Reducing::trees_give, crate::proofs::Reducing::trees_answer, crate::proofs::Reducing::same_trees))]
+#![tactic(auto, using(crate::proofs::Reducing::trees_keep, crate::proofs::Reducing::form_given, crate::proofs::Reducing::no_form_given, crate::proofs::Reducing::no_answer_given, crate::proofs::Reducing::same_trees))]
 
 ghost use Rattle.std.specs.Prelude.{IfOk};
 ghost use Rattle.dk_model.specs.Signatures.{PlainSignature};
@@ -42,15 +42,15 @@ impl Reducer for Trees {
     }
 
     fn whnf(&mut self, v: &Version, t: &Term, left: &mut u64) -> Result<Term, Stop> {
-        Evaluation::new(self.alloc, v).whnf(t, left)
+        Ok(Evaluation::new(self.alloc, v).whnf(t, left)?.form)
     }
 
     fn same(&mut self, v: &Version, t: &Term, u: &Term, left: &mut u64) -> Result<bool, Stop> {
-        Evaluation::new(self.alloc, v).same(t, u, left)
+        Ok(Evaluation::new(self.alloc, v).same(t, u, left)?.is_some())
     }
 
     fn normal(&mut self, v: &Version, t: &Term, left: &mut u64) -> Result<Term, Stop> {
-        Evaluation::new(self.alloc, v).normal(t, left)
+        Ok(Evaluation::new(self.alloc, v).normal(t, left)?.form)
     }
 
     fn open(&mut self, t: Term) -> Result<NodeOf<Term>, NoMemory> {

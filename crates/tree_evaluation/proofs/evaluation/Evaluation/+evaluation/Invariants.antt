@@ -2,6 +2,8 @@ use Rattle.std.proofs.Common.{◌≡◌, ◌≤◌, ◌+◌, ◌*◌}
 use Rattle.dk_model.specs.Trees.{tree}
 use Rattle.signature_log.specs.Versions.{entries_of}
 use Rattle.dk_model.specs.Evaluation.{whnf_of}
+use Rattle.told_steps.specs.Parts.{LeadsTo}
+use Rattle.tree_evaluation.specs.Answers.{form_told}
 use Rattle.tree_evaluation.proofs.evaluation.Evaluation.+evaluation.Given as goal
 
 -- each call goes one level further in, or is of a lower rank
@@ -56,11 +58,12 @@ decreases-guard_holds l = 3 * l.self.depth + 1
 
 -- the turns of a weak head form
 
-abbrev pub invariant-whnf-loop-term : goal.invariant-whnf-loop-term
-invariant-whnf-loop-term l = record {
-  same : whnf_of (entries_of l.self.version.now) l.left (tree l.term) ≡ whnf_of (entries_of l.fn.self.version.now) l.fn.left (tree l.fn.term);
+abbrev pub invariant-whnf-loop-told : goal.invariant-whnf-loop-told
+invariant-whnf-loop-told l = record {
+  same : whnf_of (entries_of l.self.version.now) l.left (form_told l.told) ≡ whnf_of (entries_of l.fn.self.version.now) l.fn.left (tree l.fn.term);
   less : l.left ≤ l.fn.left;
+  leads : LeadsTo (entries_of l.self.version.now) (tree l.fn.term) l.told;
 }
 
-abbrev pub decreases-whnf-loop-term : goal.decreases-whnf-loop-term
-decreases-whnf-loop-term l = l.left
+abbrev pub decreases-whnf-loop-told : goal.decreases-whnf-loop-told
+decreases-whnf-loop-told l = l.left

@@ -1,7 +1,7 @@
 use Rattle.std.proofs.Common.{◌≡◌, None}
 use Rattle.std.specs.Prelude.{replicate}
 use Rattle.tree_evaluation.specs.Views.{captures_of}
-use Rattle.tree_evaluation.proofs.select.no_captures.Given as goal
+use Rattle.tree_evaluation.proofs.select.nothing_captured.Given as goal
 
 abbrev pub invariant-loop-i : goal.invariant-loop-i
 invariant-loop-i l = captures_of l.captures ≡ replicate l._i None

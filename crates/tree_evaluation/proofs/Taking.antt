@@ -1,0 +1,245 @@
+-- What cells, guards and rows take from their columns, and what is captured by them.
+use Rattle.std.specs.Prelude.{length, replicate, IfSome, Bool, true, false, not}
+use Rattle.std.proofs.Common.{List, [], ◌∷◌, ◌++◌, append_assoc, map, ℕ, ◌≡◌, ◌<◌, Option, Some, None, refl, ap, ◌∙◌, sym as flip, subst as along}
+use Rattle.std.proofs.lemmas.List.{map-set, length-map}
+use Rattle.dk_model.specs.Trees.{Tree, tree}
+use Rattle.dk_model.specs.Substitution.{shift}
+use Rattle.dk_model.specs.Signatures.{PlainSignature, maybe_tree, rule_variable_pattern, wildcard_pattern, guard_pattern, symbol_pattern, variable_pattern, abstraction_pattern}
+use Rattle.dk_model.specs.Matrix.{Cell, blank, cell, is_rigid, rigid_at}
+use Rattle.dk_model.specs.Matrix.{Column as PlainColumn}
+use Rattle.dk_model.specs.Captures.{Captures, capture_at, mentions_others, captured, filled}
+use Rattle.dk_model.specs.Units.{Units}
+use Rattle.dk_model.specs.Selection.{cell_captures}
+use Rattle.dk_model.specs.declared.term.Term.{Term}
+use Rattle.dk_model.specs.declared.signature.Pat.{Pat, Rvar, Any, Guard, Sym', Var', Abs'}
+use Rattle.shared_term.specs.declared.stored.Stored.{Stored}
+use Rattle.typing_model.specs.Steps.{Part, variable_part, at_wildcard, at_guard, at_rule_variable, capture, instantiated}
+use Rattle.typing_model.proofs.Evaluation.{filled_instantiated}
+use Rattle.typing_model.proofs.Loose.{parts_at, parts_of}
+use Rattle.typing_model.proofs.Rows.{rigid_here, rigid_behind}
+use Rattle.checked_steps.specs.Matching.{laters, guards}
+use Rattle.checked_steps.specs.Taken.{both_same, steps_taken, all_joined}
+use Rattle.certificate_items.specs.Views.{plain_steps, plain_joins}
+use Rattle.certificate_items.specs.declared.item.Join.{Join}
+use Rattle.told_steps.specs.Parts.{LeadsTo, LeadsOn}
+use Rattle.told_steps.specs.Meetings.{MeetIn, MeetBy}
+use Rattle.told_steps.specs.Ends.{AreEnds, column_of, columns_of}
+use Rattle.told_steps.specs.declared.told.Told.{Told}
+use Rattle.told_steps.specs.declared.end.End.{End}
+use Rattle.told_steps.specs.declared.meeting.Meeting.{Meeting}
+use Rattle.tree_evaluation.specs.declared.select.Captured.{Captured}
+use Rattle.tree_evaluation.specs.declared.select.PartTrial.{PartTrial}
+use Rattle.tree_evaluation.specs.declared.select.CellTrial.{CellTrial}
+use Rattle.tree_evaluation.specs.declared.select.RowTrial.{RowTrial}
+use Rattle.tree_evaluation.specs.Answers.{guard_of}
+use Rattle.tree_evaluation.specs.Views.{captures_of, pattern_cell}
+use Rattle.tree_evaluation.specs.Selecting.{StillLead, StillLeads, HasParts, PartTold, RecordTold, CapturesNew, CellCaptures, CellTold, RowCaptures, RowTold, GuardTold, GuardsTold, RowTaken, TakesAll}
+use Rattle.tree_evaluation.proofs.Capturing.{joins_append, guards_append, has_none, has_no_more, has_guard, has_new, has_same}
+
+module _ (S : PlainSignature) where
+  -- ---- columns
+
+  pub still_one : (d : ℕ) (before after : Told) → ((t : Tree) → LeadsTo S t before → LeadsTo S t after)
+      → (bases : List PlainColumn) → AreEnds S bases ((record { depth = d; told = before }) ∷ []) → AreEnds S bases ((record { depth = d; told = after }) ∷ [])
+  still_one d before after f [] a = absurd a
+  still_one d before after f (b ∷ []) a = (a.0, f b.term a.1, tt)
+  still_one d before after f (b ∷ c ∷ bs) a = absurd a.2
+
+  still_next : (e g : End) (es gs : List End) → StillLeads S e g → StillLead S es gs → (bases : List PlainColumn) → AreEnds S bases (e ∷ es) → AreEnds S bases (g ∷ gs)
+  still_next e g es gs f h [] a = absurd a
+  still_next e g es gs f h (b ∷ bs) a = let here : AreEnds S (b ∷ []) (g ∷ []) = f (b ∷ []) (a.0, a.1, tt) in (here.0, here.1, h bs a.2)
+
+  -- ---- a part
+
+  pub part_stands : (d : ℕ) (xs : List ℕ) (told : Told) → mentions_others 0 d xs (tree told.form) ≡ false → PartTold S d xs told (record { told = told; fits = true })
+  part_stands d xs told e = (λ t l. l, λ q. e)
+
+  not_true : (x y : Bool) → y ≡ not x → y ≡ true → x ≡ false
+  not_true true y e q = let i : false ≡ true = flip e ∙ q in cc
+  not_true false y e q = refl
+
+  pub part_normal : (d : ℕ) (xs : List ℕ) (told normal after : Told) (fits : Bool) → LeadsTo S (tree told.form) normal → LeadsOn told normal after → tree after.form ≡ tree normal.form
+      → fits ≡ not (mentions_others 0 d xs (tree normal.form)) → PartTold S d xs told (record { told = after; fits = fits })
+  part_normal d xs told normal after fits l on e q = (
+    λ t a. on S t a l,
+    λ i. ap (mentions_others 0 d xs) e ∙ not_true (mentions_others 0 d xs (tree normal.form)) fits q i,
+  )
+
+  -- ---- captures
+
+  pub recorded_first : (before after : Captured) (k : ℕ) (part : Term) → CapturesNew before k part after → capture_at (captures_of before.captures) k ≡ None → RecordTold S before k (tree part) after
+  recorded_first before after k part new e = λ parts h.
+      let l : k < length (map maybe_tree before.captures.items) = along (λ (n : ℕ). k < n) (flip (length-map before.captures.items maybe_tree)) new.2 in
+      along (λ (js : List Join). HasParts S (parts ++ (variable_part k (tree part) ∷ [])) (captures_of after.captures) js) (flip new.1)
+      (along (λ (cs : Captures). HasParts S (parts ++ (variable_part k (tree part) ∷ [])) cs before.joins)
+      (flip (ap (map maybe_tree) new.0 ∙ map-set maybe_tree before.captures.items k (Some part)))
+      (has_new S parts (captures_of before.captures) before.joins h k (tree part) l e))
+
+  pub recorded_met : (before after : Captured) (k : ℕ) (t u : Tree) (met : Meeting) (join : Join) → capture_at (captures_of before.captures) k ≡ Some u → MeetIn S u t met → MeetBy met join
+      → after.captures ≡ before.captures → after.joins ≡ before.joins ++ (join ∷ []) → RecordTold S before k t after
+  recorded_met before after k t u met join e m by c j = λ parts h.
+      along (λ (js : List Join). HasParts S (parts ++ (variable_part k t ∷ [])) (captures_of after.captures) js) (flip j)
+      (along (λ (cs : Captures). HasParts S (parts ++ (variable_part k t ∷ [])) cs (before.joins ++ (join ∷ []))) (flip (ap captures_of c))
+      (has_same S parts (captures_of before.captures) before.joins h k t u join e (by S u t m)))
+
+  -- ---- a cell
+
+  abbrev pub IsNoVariable : Cell → Type 0
+  IsNoVariable (cell (rule_variable_pattern k xs)) = ⊥
+  IsNoVariable c = Unit {0}
+
+  pub no_variable : (p : Pat Stored) → ((k : ℕ) (xs : List ℕ) → p ≡ Rvar k xs → ⊥) → IsNoVariable (pattern_cell p)
+  no_variable (Rvar k xs) n = n k xs refl
+  no_variable Any n = tt
+  no_variable (Guard g) n = tt
+  no_variable (Sym' k shape ps) n = tt
+  no_variable (Var' k shape ps) n = tt
+  no_variable (Abs' shape p) n = tt
+
+  pub cell_due : (N : ℕ → Tree → Units Tree) (C : ℕ → Tree → Tree → Units Bool) (c : Cell) (column : PlainColumn) (n : ℕ) (cs : Captures) → IsNoVariable c
+      → cell_captures N C c column n cs ≡ Some (record { captures = Some cs; column = column }, n)
+  cell_due N C (cell (rule_variable_pattern k xs)) column n cs i = absurd i
+  cell_due N C blank column n cs i = refl
+  cell_due N C (cell wildcard_pattern) column n cs i = refl
+  cell_due N C (cell (guard_pattern g)) column n cs i = refl
+  cell_due N C (cell (symbol_pattern k ps)) column n cs i = refl
+  cell_due N C (cell (variable_pattern k ps)) column n cs i = refl
+  cell_due N C (cell (abstraction_pattern p)) column n cs i = refl
+
+  pub other_cell : (c : Cell) (column : End) (captured : Captured) → IsNoVariable c → CellTold S c column captured (record { captured = Some captured; column = column })
+  other_cell (cell (rule_variable_pattern k xs)) column captured n = absurd n
+  other_cell blank column captured n = λ r. (λ bases a. a, (refl, λ parts h. has_no_more S parts (captures_of captured.captures) captured.joins h))
+  other_cell (cell wildcard_pattern) column captured n = λ r. (λ bases a. a, (at_wildcard, λ parts h. has_no_more S parts (captures_of captured.captures) captured.joins h))
+  other_cell (cell (guard_pattern g)) column captured n = λ r. (λ bases a. a, (at_guard, λ parts h. has_guard S parts (captures_of captured.captures) captured.joins h column.depth g (tree column.told.form)))
+  other_cell (cell (symbol_pattern k ps)) column captured n = λ r. cc
+  other_cell (cell (variable_pattern k ps)) column captured n = λ r. cc
+  other_cell (cell (abstraction_pattern p)) column captured n = λ r. cc
+
+  module _ (k : ℕ) (xs : List ℕ) (d : ℕ) (told : Told) (before : Captured) (part : PartTrial) (p : PartTold S d xs told part) where
+    pub part_unfit : CellTold S (cell (rule_variable_pattern k xs)) (record { depth = d; told = told }) before (record { captured = None; column = record { depth = d; told = part.told } })
+    part_unfit = λ r. (still_one d told part.told p.0, tt)
+
+    part_kept : part.fits ≡ true → (after : Option Captured) → IfSome after (RecordTold S before k (captured d xs (tree part.told.form)))
+        → IfSome after (CellCaptures S (cell (rule_variable_pattern k xs)) (column_of (record { depth = d; told = part.told })) before)
+    part_kept fits None h = tt
+    part_kept fits (Some after) h = (at_rule_variable (p.1 fits), h)
+
+    pub part_recorded : part.fits ≡ true → (t : Tree) → t ≡ captured d xs (tree part.told.form) → (after : Option Captured) → IfSome after (RecordTold S before k t)
+        → CellTold S (cell (rule_variable_pattern k xs)) (record { depth = d; told = told }) before (record { captured = after; column = record { depth = d; told = part.told } })
+    part_recorded fits t e after h = λ r. (still_one d told part.told p.0, part_kept fits after (along (λ (u : Tree). IfSome after (RecordTold S before k u)) e h))
+
+  -- ---- a row's cells
+
+  pub no_cells : (columns : List End) (captured : Captured) → RowTold S [] columns captured (record { captured = Some captured; columns = columns })
+  no_cells columns captured = λ r. (λ bases a. a, (refl, λ parts h. has_no_more S parts (captures_of captured.captures) captured.joins h))
+
+  pub no_columns : (cells : List Cell) (captured : Captured) → RowTold S cells [] captured (record { captured = Some captured; columns = [] })
+  no_columns [] captured = no_cells [] captured
+  no_columns (c ∷ cells) captured = λ r. (λ bases a. a, (refl, λ parts h. has_no_more S parts (captures_of captured.captures) captured.joins h))
+
+  module _ (c : Cell) (cells : List Cell) (column : End) (columns : List End) (before : Captured) (here : CellTrial) (told : CellTold S c column before here) where
+    pub cell_fails : (trial : RowTrial) → trial.captured ≡ None → trial.columns ≡ here.column ∷ columns → RowTold S (c ∷ cells) (column ∷ columns) before trial
+    cell_fails trial e q = λ r.
+        let first : StillLeads S column here.column × IfSome here.captured (CellCaptures S c (column_of here.column) before) = told (rigid_here (is_rigid c) _ r) in (
+          along (λ (es : List End). StillLead S (column ∷ columns) es) (flip q) (still_next column here.column columns columns first.0 (λ bases a. a)),
+          along (λ (o : Option Captured). IfSome o (RowCaptures S (c ∷ cells) (columns_of trial.columns) before)) (flip e) tt,
+        )
+
+    more_captured : (middle : Captured) (rest : RowTrial) → CellCaptures S c (column_of here.column) before middle
+        → (after : Option Captured) → IfSome after (RowCaptures S cells (columns_of rest.columns) middle)
+        → IfSome after (RowCaptures S (c ∷ cells) (columns_of (here.column ∷ rest.columns)) before)
+    more_captured middle rest f None g = tt
+    more_captured middle rest f (Some after) g =
+        let xs : List Part = parts_at c (column_of here.column) in let ys : List Part = parts_of cells (columns_of rest.columns) in (
+          (xs, ys, f.0, g.0, refl),
+          λ parts h. along (λ (ps : List Part). HasParts S ps (captures_of after.captures) after.joins) (append_assoc parts xs ys) (g.1 (parts ++ xs) (f.1 parts h)),
+        )
+
+    pub cell_goes : (middle : Captured) (rest trial : RowTrial) → here.captured ≡ Some middle → RowTold S cells columns middle rest
+        → trial ≡ record { captured = rest.captured; columns = here.column ∷ rest.columns } → RowTold S (c ∷ cells) (column ∷ columns) before trial
+    cell_goes middle rest trial e more q = λ r.
+        let first : StillLeads S column here.column × IfSome here.captured (CellCaptures S c (column_of here.column) before) = told (rigid_here (is_rigid c) _ r) in
+        let second : StillLead S columns rest.columns × IfSome rest.captured (RowCaptures S cells (columns_of rest.columns) middle) = more (rigid_behind (is_rigid c) (rigid_at cells) r) in
+        let taken : CellCaptures S c (column_of here.column) before middle = along (λ (o : Option Captured). IfSome o (CellCaptures S c (column_of here.column) before)) e first.1 in
+        along (λ (it : RowTrial). StillLead S (column ∷ columns) it.columns × IfSome it.captured (RowCaptures S (c ∷ cells) (columns_of it.columns) before)) (flip q)
+        (still_next column here.column columns rest.columns first.0 second.0, more_captured middle rest taken rest.captured second.1)
+
+  -- ---- guards
+
+  abbrev pub IsNoGuard : Cell → Type 0
+  IsNoGuard (cell (guard_pattern g)) = ⊥
+  IsNoGuard c = Unit {0}
+
+  pub no_guard : (p : Pat Stored) → ((g : Stored) → p ≡ Guard g → ⊥) → IsNoGuard (pattern_cell p)
+  no_guard (Guard g) n = n g refl
+  no_guard (Rvar k xs) n = tt
+  no_guard Any n = tt
+  no_guard (Sym' k shape ps) n = tt
+  no_guard (Var' k shape ps) n = tt
+  no_guard (Abs' shape p) n = tt
+
+  pub guard_due : (c : Cell) (column : PlainColumn) (n : ℕ) (cs : Captures) → IsNoGuard c → guard_of S c column n cs ≡ Some (true, n)
+  guard_due (cell (guard_pattern g)) column n cs i = absurd i
+  guard_due (cell (rule_variable_pattern k xs)) column n cs i = refl
+  guard_due blank column n cs i = refl
+  guard_due (cell wildcard_pattern) column n cs i = refl
+  guard_due (cell (symbol_pattern k ps)) column n cs i = refl
+  guard_due (cell (variable_pattern k ps)) column n cs i = refl
+  guard_due (cell (abstraction_pattern p)) column n cs i = refl
+
+  pub other_guard : (c : Cell) (column : End) (captures : Captures) → IsNoGuard c → GuardTold S c column captures []
+  other_guard (cell (guard_pattern g)) column captures n = absurd n
+  other_guard (cell (rule_variable_pattern k xs)) column captures n = λ s e. refl
+  other_guard blank column captures n = λ s e. refl
+  other_guard (cell wildcard_pattern) column captures n = λ s e. refl
+  other_guard (cell (symbol_pattern k ps)) column captures n = λ s e. refl
+  other_guard (cell (variable_pattern k ps)) column captures n = λ s e. refl
+  other_guard (cell (abstraction_pattern p)) column captures n = λ s e. refl
+
+  pub guard_joined : (g u : Tree) (column : End) (captures : Captures) (met : Meeting) (join : Join) (joins : List Join) → u ≡ shift 0 column.depth (filled captures 0 g)
+      → MeetIn S (tree column.told.form) u met → MeetBy met join → joins ≡ join ∷ [] → GuardTold S (cell (guard_pattern g)) column captures joins
+  guard_joined g u column captures met join joins e m by j = λ s a.
+      let is : u ≡ shift 0 column.depth (instantiated s 0 g) = e ∙ ap (shift 0 column.depth) (filled_instantiated captures s a 0 g) in
+      let here : both_same (steps_taken S (plain_steps join.first) (tree column.told.form)) (steps_taken S (plain_steps join.second) (shift 0 column.depth (instantiated s 0 g))) ≡ true =
+      by S (tree column.told.form) (shift 0 column.depth (instantiated s 0 g)) (along (λ (v : Tree). MeetIn S (tree column.told.form) v met) is m) in
+      ap (λ (js : List Join). all_joined S (plain_joins js) ((tree column.told.form, shift 0 column.depth (instantiated s 0 g)) ∷ [])) j ∙ rw here refl
+
+  pub no_cell_guards : (columns : List End) (captures : Captures) → GuardsTold S [] columns captures []
+  no_cell_guards columns captures = λ s e. refl
+
+  pub no_column_guards : (cells : List Cell) (captures : Captures) → GuardsTold S cells [] captures []
+  no_column_guards [] captures = λ s e. refl
+  no_column_guards (c ∷ cells) captures = λ s e. refl
+
+  pub guards_joined : (c : Cell) (cells : List Cell) (column : End) (columns : List End) (captures : Captures) (here behind joins : List Join) → GuardTold S c column captures here
+      → GuardsTold S cells columns captures behind → joins ≡ here ++ behind → GuardsTold S (c ∷ cells) (column ∷ columns) captures joins
+  guards_joined c cells column columns captures here behind joins h b j = λ s e.
+      let xs : List Part = parts_at c (column_of column) in let ys : List Part = parts_of cells (columns_of columns) in
+      ap (λ (js : List Join). all_joined S (plain_joins js) (guards s (xs ++ ys))) j ∙ ap (all_joined S (plain_joins (here ++ behind))) (guards_append s xs ys)
+      ∙ joins_append S here behind (guards s xs) (guards s ys) (h s e) (b s e)
+
+  -- ---- a row
+
+  module _ (cells : List Cell) (columns : List End) (n : ℕ) (none : Captured) (c : captures_of none.captures ≡ replicate n None) (j : none.joins ≡ []) (trial : RowTrial)
+      (told : RowTold S cells columns none trial) where
+    pub row_fails : (after : RowTrial) → after.captured ≡ None → after.columns ≡ trial.columns → RowTaken S cells columns after
+    row_fails after e q = λ r bases a.
+        (along (AreEnds S bases) (flip q) ((told r).0 bases a), along (λ (o : Option Captured). IfSome o (TakesAll S bases cells after.columns)) (flip e) tt)
+
+    pub row_takes : (captured after : Captured) (joins : List Join) → trial.captured ≡ Some captured → GuardsTold S cells trial.columns (captures_of captured.captures) joins
+        → after.captures ≡ captured.captures → after.joins ≡ captured.joins ++ joins → RowTaken S cells columns (record { captured = Some after; columns = trial.columns })
+    row_takes captured after joins e g d i = λ r bases a.
+        let all : List Part = parts_of cells (columns_of trial.columns) in
+        let t : RowCaptures S cells (columns_of trial.columns) none captured = along (λ (o : Option Captured). IfSome o (RowCaptures S cells (columns_of trial.columns) none)) e (told r).1 in
+        let has : HasParts S all (captures_of captured.captures) captured.joins = t.1 [] (has_none S n (captures_of none.captures) none.joins c j) in
+        let same : captures_of after.captures ≡ captures_of captured.captures = ap captures_of d in (
+          (told r).0 bases a,
+          record {
+            parts = all;
+            leads = (told r).0 bases a;
+            takes = t.0;
+            captured = λ k. ap (λ (cs : Captures). capture_at cs k) same ∙ has.agrees k;
+            joined = ap (λ (js : List Join). all_joined S (plain_joins js) (laters [] all ++ guards (capture all) all)) i
+                ∙ joins_append S captured.joins joins (laters [] all) (guards (capture all) all) has.joined (g (capture all) has.agrees);
+          },
+        )
