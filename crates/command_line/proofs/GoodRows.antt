@@ -17,7 +17,7 @@ use Rattle.clap.specs.declared.parser.matches.ValueSource.{ValueSource}
 use Rattle.clap.specs.declared.parser.matches.ValueSource.TheVariants.{DefaultValue}
 use Rattle.clap.specs.declared.error.kind.ErrorKind.TheVariants.{InvalidValue, MissingRequiredArgument}
 use Rattle.clap.specs.declared.builder.value_parser.ValueParser.{ValueParser}
-use Rattle.command_line.specs.Words.{budget, budgets, count, file, name, quiet, script, theorem_counts, worker_counts, workers}
+use Rattle.command_line.specs.Words.{budget, budgets, certificate, count, file, name, quiet, script, theorem_counts, worker_counts, workers}
 use Rattle.command_line.specs.Requests.{number_of}
 use Rattle.command_line.proofs.FaultlessWalk.{UseKeeps, no_first, no_second, some_kind}
 
@@ -34,6 +34,7 @@ IsGood r = (bytes_eq r.id (codes "file") ≡ true → is_some (slice_get r.value
     × (bytes_eq r.id (codes "count") ≡ true → (r.reading ≡ AsWritten) × IsNumber theorem_counts (slice_get r.values 0))
     × (bytes_eq r.id (codes "name") ≡ true → is_some (slice_get r.values 0) ≡ true)
     × (bytes_eq r.id (codes "script") ≡ true → is_some (slice_get r.values 0) ≡ true)
+    × (bytes_eq r.id (codes "certificate") ≡ true → is_some (slice_get r.values 0) ≡ true)
 
 abbrev pub AreGood : List Row → Type 0
 AreGood [] = ⊤
@@ -69,6 +70,7 @@ more_good s values r g = (
     (λ is. ((g.3 is).0, still_number theorem_counts r.values values (g.3 is).1)),
     (λ is. still_some r.values values (g.4 is)),
     (λ is. still_some r.values values (g.5 is)),
+    (λ is. still_some r.values values (g.6 is)),
   ),
   tt,
 )
@@ -98,7 +100,7 @@ use_budget (v ∷ vs) rows g e =
     let set : set_fault false (filled budget) (v ∷ vs) rows ≡ [] = no_second (range_kinds 1 1 (length (v ∷ vs))) _ e in
     let values : values_fault (filled budget) (v ∷ vs) ≡ [] = no_second (repeat_fault false (codes "budget") rows) _ set in
     let taken = passed budgets v (no_first (value_kinds false budgets v) _ values) in
-    values_good _ _ _ (v ∷ vs) ((λ is. absurd (true≢false (sym is))), (λ is. (refl, taken)), (λ is. absurd (true≢false (sym is))), (λ is. absurd (true≢false (sym is))), (λ is. absurd (true≢false (sym is))), (λ is. absurd (true≢false (sym is)))) _ (without_good _ rows g)
+    values_good _ _ _ (v ∷ vs) ((λ is. absurd (true≢false (sym is))), (λ is. (refl, taken)), (λ is. absurd (true≢false (sym is))), (λ is. absurd (true≢false (sym is))), (λ is. absurd (true≢false (sym is))), (λ is. absurd (true≢false (sym is))), (λ is. absurd (true≢false (sym is)))) _ (without_good _ rows g)
 
 pub use_workers : UseKeeps AreGood false (Some (filled workers))
 use_workers [] rows g e = absurd (some_kind InvalidValue [] e)
@@ -106,32 +108,38 @@ use_workers (v ∷ vs) rows g e =
     let set : set_fault false (filled workers) (v ∷ vs) rows ≡ [] = no_second (range_kinds 1 1 (length (v ∷ vs))) _ e in
     let values : values_fault (filled workers) (v ∷ vs) ≡ [] = no_second (repeat_fault false (codes "workers") rows) _ set in
     let taken = passed worker_counts v (no_first (value_kinds false worker_counts v) _ values) in
-    values_good _ _ _ (v ∷ vs) ((λ is. absurd (true≢false (sym is))), (λ is. absurd (true≢false (sym is))), (λ is. (refl, taken)), (λ is. absurd (true≢false (sym is))), (λ is. absurd (true≢false (sym is))), (λ is. absurd (true≢false (sym is)))) _ (without_good _ rows g)
+    values_good _ _ _ (v ∷ vs) ((λ is. absurd (true≢false (sym is))), (λ is. absurd (true≢false (sym is))), (λ is. (refl, taken)), (λ is. absurd (true≢false (sym is))), (λ is. absurd (true≢false (sym is))), (λ is. absurd (true≢false (sym is))), (λ is. absurd (true≢false (sym is)))) _ (without_good _ rows g)
 
 pub use_quiet : UseKeeps AreGood false (Some (filled quiet))
 use_quiet values rows g e =
-    values_good _ _ _ _ ((λ is. absurd (true≢false (sym is))), (λ is. absurd (true≢false (sym is))), (λ is. absurd (true≢false (sym is))), (λ is. absurd (true≢false (sym is))), (λ is. absurd (true≢false (sym is))), (λ is. absurd (true≢false (sym is)))) _ (without_good _ rows g)
+    values_good _ _ _ _ ((λ is. absurd (true≢false (sym is))), (λ is. absurd (true≢false (sym is))), (λ is. absurd (true≢false (sym is))), (λ is. absurd (true≢false (sym is))), (λ is. absurd (true≢false (sym is))), (λ is. absurd (true≢false (sym is))), (λ is. absurd (true≢false (sym is)))) _ (without_good _ rows g)
 
 pub use_file : UseKeeps AreGood false (Some (record (filled file) { index = Some 1 }))
 use_file [] rows g e = absurd (some_kind InvalidValue [] e)
 use_file (v ∷ vs) rows g e =
-    values_good _ _ _ (v ∷ vs) ((λ is. refl), (λ is. absurd (true≢false (sym is))), (λ is. absurd (true≢false (sym is))), (λ is. absurd (true≢false (sym is))), (λ is. absurd (true≢false (sym is))), (λ is. absurd (true≢false (sym is)))) _ (without_good _ rows g)
+    values_good _ _ _ (v ∷ vs) ((λ is. refl), (λ is. absurd (true≢false (sym is))), (λ is. absurd (true≢false (sym is))), (λ is. absurd (true≢false (sym is))), (λ is. absurd (true≢false (sym is))), (λ is. absurd (true≢false (sym is))), (λ is. absurd (true≢false (sym is)))) _ (without_good _ rows g)
 
 pub use_name : UseKeeps AreGood false (Some (record (filled name) { index = Some 1 }))
 use_name [] rows g e = absurd (some_kind InvalidValue [] e)
 use_name (v ∷ vs) rows g e =
-    values_good _ _ _ (v ∷ vs) ((λ is. absurd (true≢false (sym is))), (λ is. absurd (true≢false (sym is))), (λ is. absurd (true≢false (sym is))), (λ is. absurd (true≢false (sym is))), (λ is. refl), (λ is. absurd (true≢false (sym is)))) _ (without_good _ rows g)
+    values_good _ _ _ (v ∷ vs) ((λ is. absurd (true≢false (sym is))), (λ is. absurd (true≢false (sym is))), (λ is. absurd (true≢false (sym is))), (λ is. absurd (true≢false (sym is))), (λ is. refl), (λ is. absurd (true≢false (sym is))), (λ is. absurd (true≢false (sym is)))) _ (without_good _ rows g)
 
 pub use_script : UseKeeps AreGood false (Some (record (filled script) { index = Some 1 }))
 use_script [] rows g e = absurd (some_kind InvalidValue [] e)
 use_script (v ∷ vs) rows g e =
-    values_good _ _ _ (v ∷ vs) ((λ is. absurd (true≢false (sym is))), (λ is. absurd (true≢false (sym is))), (λ is. absurd (true≢false (sym is))), (λ is. absurd (true≢false (sym is))), (λ is. absurd (true≢false (sym is))), (λ is. refl)) _ (without_good _ rows g)
+    values_good _ _ _ (v ∷ vs) ((λ is. absurd (true≢false (sym is))), (λ is. absurd (true≢false (sym is))), (λ is. absurd (true≢false (sym is))), (λ is. absurd (true≢false (sym is))), (λ is. absurd (true≢false (sym is))), (λ is. refl), (λ is. absurd (true≢false (sym is)))) _ (without_good _ rows g)
+
+-- CERT behind FILE
+pub use_certificate : UseKeeps AreGood false (Some (record (filled certificate) { index = Some 2 }))
+use_certificate [] rows g e = absurd (some_kind InvalidValue [] e)
+use_certificate (v ∷ vs) rows g e =
+    values_good _ _ _ (v ∷ vs) ((λ is. absurd (true≢false (sym is))), (λ is. absurd (true≢false (sym is))), (λ is. absurd (true≢false (sym is))), (λ is. absurd (true≢false (sym is))), (λ is. absurd (true≢false (sym is))), (λ is. absurd (true≢false (sym is))), (λ is. refl)) _ (without_good _ rows g)
 
 -- FILE behind NAME
 pub use_second_file : UseKeeps AreGood false (Some (record (filled file) { index = Some 2 }))
 use_second_file [] rows g e = absurd (some_kind InvalidValue [] e)
 use_second_file (v ∷ vs) rows g e =
-    values_good _ _ _ (v ∷ vs) ((λ is. refl), (λ is. absurd (true≢false (sym is))), (λ is. absurd (true≢false (sym is))), (λ is. absurd (true≢false (sym is))), (λ is. absurd (true≢false (sym is))), (λ is. absurd (true≢false (sym is)))) _ (without_good _ rows g)
+    values_good _ _ _ (v ∷ vs) ((λ is. refl), (λ is. absurd (true≢false (sym is))), (λ is. absurd (true≢false (sym is))), (λ is. absurd (true≢false (sym is))), (λ is. absurd (true≢false (sym is))), (λ is. absurd (true≢false (sym is))), (λ is. absurd (true≢false (sym is)))) _ (without_good _ rows g)
 
 pub use_count : UseKeeps AreGood false (Some (record (filled count) { index = Some 1 }))
 use_count [] rows g e = absurd (some_kind InvalidValue [] e)
@@ -139,7 +147,7 @@ use_count (v ∷ vs) rows g e =
     let set : set_fault false (record (filled count) { index = Some 1 }) (v ∷ vs) rows ≡ [] = no_second (range_kinds 1 1 (length (v ∷ vs))) _ e in
     let values : values_fault (record (filled count) { index = Some 1 }) (v ∷ vs) ≡ [] = no_second (repeat_fault false (codes "count") rows) _ set in
     let taken = passed theorem_counts v (no_first (value_kinds false theorem_counts v) _ values) in
-    values_good _ _ _ (v ∷ vs) ((λ is. absurd (true≢false (sym is))), (λ is. absurd (true≢false (sym is))), (λ is. absurd (true≢false (sym is))), (λ is. (refl, taken)), (λ is. absurd (true≢false (sym is))), (λ is. absurd (true≢false (sym is)))) _ (without_good _ rows g)
+    values_good _ _ _ (v ∷ vs) ((λ is. absurd (true≢false (sym is))), (λ is. absurd (true≢false (sym is))), (λ is. absurd (true≢false (sym is))), (λ is. (refl, taken)), (λ is. absurd (true≢false (sym is))), (λ is. absurd (true≢false (sym is))), (λ is. absurd (true≢false (sym is)))) _ (without_good _ rows g)
 
 pub use_help : UseKeeps AreGood false (Some (filled help_rule))
 use_help values rows g e = g
@@ -151,21 +159,21 @@ default_workers rows g = go (has_row (codes "workers") rows)
   where
     go : (b : Bool) → AreGood (cond b rows (default_rows (codes "workers") AsWritten (codes "4" ∷ []) rows))
     go true = g
-    go false = values_good _ _ _ _ ((λ is. absurd (true≢false (sym is))), (λ is. absurd (true≢false (sym is))), (λ is. (refl, refl)), (λ is. absurd (true≢false (sym is))), (λ is. absurd (true≢false (sym is))), (λ is. absurd (true≢false (sym is)))) rows g
+    go false = values_good _ _ _ _ ((λ is. absurd (true≢false (sym is))), (λ is. absurd (true≢false (sym is))), (λ is. (refl, refl)), (λ is. absurd (true≢false (sym is))), (λ is. absurd (true≢false (sym is))), (λ is. absurd (true≢false (sym is))), (λ is. absurd (true≢false (sym is)))) rows g
 
 pub default_budget : (rows : List Row) → AreGood rows → AreGood (with_default rows (filled budget))
 default_budget rows g = go (has_row (codes "budget") rows)
   where
     go : (b : Bool) → AreGood (cond b rows (default_rows (codes "budget") AsWritten (codes "1000000000" ∷ []) rows))
     go true = g
-    go false = values_good _ _ _ _ ((λ is. absurd (true≢false (sym is))), (λ is. (refl, refl)), (λ is. absurd (true≢false (sym is))), (λ is. absurd (true≢false (sym is))), (λ is. absurd (true≢false (sym is))), (λ is. absurd (true≢false (sym is)))) rows g
+    go false = values_good _ _ _ _ ((λ is. absurd (true≢false (sym is))), (λ is. (refl, refl)), (λ is. absurd (true≢false (sym is))), (λ is. absurd (true≢false (sym is))), (λ is. absurd (true≢false (sym is))), (λ is. absurd (true≢false (sym is))), (λ is. absurd (true≢false (sym is)))) rows g
 
 pub default_quiet : (rows : List Row) → AreGood rows → AreGood (with_default rows (filled quiet))
 default_quiet rows g = go (has_row (codes "quiet") rows)
   where
     go : (b : Bool) → AreGood (cond b rows (default_rows (codes "quiet") AsWritten (codes "false" ∷ []) rows))
     go true = g
-    go false = values_good _ _ _ _ ((λ is. absurd (true≢false (sym is))), (λ is. absurd (true≢false (sym is))), (λ is. absurd (true≢false (sym is))), (λ is. absurd (true≢false (sym is))), (λ is. absurd (true≢false (sym is))), (λ is. absurd (true≢false (sym is)))) rows g
+    go false = values_good _ _ _ _ ((λ is. absurd (true≢false (sym is))), (λ is. absurd (true≢false (sym is))), (λ is. absurd (true≢false (sym is))), (λ is. absurd (true≢false (sym is))), (λ is. absurd (true≢false (sym is))), (λ is. absurd (true≢false (sym is))), (λ is. absurd (true≢false (sym is)))) rows g
 
 -- an argument without a default leaves the rows
 pub no_default : (a : Rule) (rows : List Row) → a.defaults ≡ [] → with_default rows a ≡ rows
@@ -273,3 +281,8 @@ number_given numbers o r e how h =
 pub required_given : (given : Bool) → check_kinds false false (not given || false) ≡ [] → given ≡ true
 required_given true e = refl
 required_given false e = absurd (some_kind MissingRequiredArgument [] e)
+
+-- both words that are required were given
+pub both_given : (a b : Bool) → check_kinds false false (not a || (not b || false)) ≡ [] → (a ≡ true) × (b ≡ true)
+both_given true b e = (refl, required_given b e)
+both_given false b e = absurd (true≢false (sym (required_given false e)))

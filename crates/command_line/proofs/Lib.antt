@@ -1,9 +1,11 @@
+pub mod CertifyRows
 pub mod CheckRows
 pub mod FaultlessWalk
 pub mod GoodRows
 pub mod MakeRows
 pub mod PruneRows
 pub mod ReadValues
+pub mod RecheckRows
 pub mod ReplayRows
 pub mod RequestParts
 pub mod TakenWords

@@ -1,8 +1,7 @@
 -- The rows of `prune` ask something.
-use Rattle.std.proofs.Common.{◌≡◌, ◌∙◌, ◌||◌, ap, ℕ, Bool, not, true, false, [], ◌∷◌, List, Option, Some, None, refl, sym, subst, cond, codes, is_some, true≢false}
+use Rattle.std.proofs.Common.{◌≡◌, ◌∙◌, ap, ℕ, Bool, true, false, [], ◌∷◌, List, Option, Some, None, refl, sym, subst, cond, codes, is_some, true≢false}
 use Rattle.std.specs.List.{find, fold}
 use Rattle.std.specs.Option.{option_and_then, option_map}
-use Rattle.clap.specs.Kinds.{check_kinds}
 use Rattle.clap.specs.Faults.{defaults_fault, level_fault, settle_fault, walk_fault}
 use Rattle.clap.specs.Simple.{Shape, filled, help_rule, new_shape}
 use Rattle.clap.specs.Takes.{is_given}
@@ -10,7 +9,7 @@ use Rattle.clap.specs.Walk.{Row, Rule, Text, finished, has_row, nothing_held, ro
 use Rattle.command_line.proofs.FaultlessWalk.{UseKeeps, no_first, no_second, settled_keeps, walk_keeps}
 use Rattle.command_line.specs.Words.{budget, budgets, file, name}
 use Rattle.command_line.specs.Requests.{PruneRequest, budget_in, file_in, name_in, prune_in}
-use Rattle.command_line.proofs.GoodRows.{AreGood, budget_row, default_budget, file_given, found_good, given_row, no_default, number_given, required_given, use_budget, use_help, use_name, use_second_file}
+use Rattle.command_line.proofs.GoodRows.{AreGood, both_given, budget_row, default_budget, file_given, found_good, given_row, no_default, number_given, use_budget, use_help, use_name, use_second_file}
 
 -- `prune` as clap builds it
 abbrev pub prune_rules : List Rule
@@ -69,11 +68,6 @@ rows_ask rows g budget name_is file_is =
     let b = found_good (codes "budget") rows budget g in
     let is_budget = b.3.1 b.2 in
     all_some rows (file_given _ n.0 n.1 (n.3.4 n.2)) (file_given _ f.0 f.1 (f.3.0 f.2)) (number_given budgets _ b.0 b.1 is_budget.0 is_budget.1)
-
--- both words that are required were given
-both_given : (a b : Bool) → check_kinds false false (not a || (not b || false)) ≡ [] → (a ≡ true) × (b ≡ true)
-both_given true b e = (refl, required_given b e)
-both_given false b e = absurd (true≢false (sym (required_given false e)))
 
 -- words after `prune` in which clap finds no fault ask something
 pub prune_asks : (words : List Text) → level_fault built_prune [] nothing_held words false [] ≡ [] → is_some (prune_in (rows_after prune_rules [] words)) ≡ true

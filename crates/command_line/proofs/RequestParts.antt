@@ -5,7 +5,7 @@ use Rattle.clap.specs.Kinds.{IsAmong, Kinds}
 use Rattle.clap.specs.Words.{Row, Text, fault_of, is_simple, subcommand_of}
 use Rattle.clap.specs.declared.error.kind.ErrorKind.{ErrorKind}
 use Rattle.command_line.specs.Words.{program}
-use Rattle.command_line.specs.Requests.{CheckRequest, MakeRequest, PruneRequest, ReplayRequest, budget_in, check_in, count_in, file_in, make_in, name_in, prune_in, quiet_in, replay_in, request_in, request_of, script_in, workers_in}
+use Rattle.command_line.specs.Requests.{CertifyRequest, CheckRequest, MakeRequest, PruneRequest, RecheckRequest, ReplayRequest, budget_in, certificate_in, certify_in, check_in, count_in, file_in, make_in, name_in, prune_in, quiet_in, recheck_in, replay_in, request_in, request_of, script_in, workers_in}
 
 -- a request by its first part, a second, as the number of workers, and the budget
 module _ {F W Q : Type 0} (made : F → W → ℕ → Q) where
@@ -38,6 +38,21 @@ module _ {F W Q : Type 0} (made : F → W → ℕ → Q) where
       ap (λ o. all_parts o ws bs) first
       ∙ ap (λ o. all_parts (Some f) o bs) workers
       ∙ ap (λ o. all_parts (Some f) (Some w) o) budget
+
+-- a request by two parts
+module _ {F W Q : Type 0} (made : F → W → Q) where
+  abbrev two_parts : Option F → Option W → Option Q
+  two_parts f w = option_and_then (λ (f : F). option_map (made f) w) f
+
+  no_second_part : (f : Option F) (w : Option W) → w ≡ None → two_parts f w ≡ None
+  no_second_part f w e = ap (λ w. two_parts f w) e ∙ go f
+    where
+      go : (o : Option F) → two_parts o None ≡ None
+      go None = refl
+      go (Some f) = refl
+
+  two_given : (fs : Option F) (ws : Option W) (f : F) (w : W) → fs ≡ Some f → ws ≡ Some w → two_parts fs ws ≡ Some (made f w)
+  two_given fs ws f w first second = ap (λ o. two_parts o ws) first ∙ ap (λ o. two_parts (Some f) o) second
 
 abbrev checking : List Row → Text → ℕ → ℕ → CheckRequest
 checking rows f w b = record { file = f; workers = w; budget = b; quiet = quiet_in rows }
@@ -75,6 +90,34 @@ pub make_all : (rows : List Row) (n w b : ℕ) → count_in rows ≡ Some n → 
     → make_in rows ≡ Some (record { count = n; workers = w; budget = b })
 make_all rows n w b count workers budget = all_given making (count_in rows) (workers_in rows) (budget_in rows) n w b count workers budget
 
+-- ---- what `certify` asks
+
+abbrev certifying : Text → ℕ → CertifyRequest
+certifying f b = record { file = f; budget = b }
+
+pub certify_no_file : (rows : List Row) → file_in rows ≡ None → certify_in rows ≡ None
+certify_no_file rows e = ap (λ o. two_parts certifying o (budget_in rows)) e
+
+pub certify_no_budget : (rows : List Row) → budget_in rows ≡ None → certify_in rows ≡ None
+certify_no_budget rows e = no_second_part certifying (file_in rows) (budget_in rows) e
+
+pub certify_all : (rows : List Row) (f : Text) (b : ℕ) → file_in rows ≡ Some f → budget_in rows ≡ Some b → certify_in rows ≡ Some (record { file = f; budget = b })
+certify_all rows f b file budget = two_given certifying (file_in rows) (budget_in rows) f b file budget
+
+-- ---- what `recheck` asks
+
+abbrev rechecking : Text → Text → RecheckRequest
+rechecking f c = record { file = f; certificate = c }
+
+pub recheck_no_file : (rows : List Row) → file_in rows ≡ None → recheck_in rows ≡ None
+recheck_no_file rows e = ap (λ o. two_parts rechecking o (certificate_in rows)) e
+
+pub recheck_no_certificate : (rows : List Row) → certificate_in rows ≡ None → recheck_in rows ≡ None
+recheck_no_certificate rows e = no_second_part rechecking (file_in rows) (certificate_in rows) e
+
+pub recheck_all : (rows : List Row) (f c : Text) → file_in rows ≡ Some f → certificate_in rows ≡ Some c → recheck_in rows ≡ Some (record { file = f; certificate = c })
+recheck_all rows f c file certificate = two_given rechecking (file_in rows) (certificate_in rows) f c file certificate
+
 -- ---- what `prune` asks
 
 abbrev pruning : Text → Text → ℕ → PruneRequest
@@ -98,21 +141,14 @@ prune_all rows n f b name file budget = all_given pruning (name_in rows) (file_i
 abbrev replaying : Text → ℕ → ReplayRequest
 replaying s b = record { script = s; budget = b }
 
-abbrev both_parts : Option Text → Option ℕ → Option ReplayRequest
-both_parts s b = option_and_then (λ (s : Text). option_map (λ (b : ℕ). replaying s b) b) s
-
 pub replay_no_script : (rows : List Row) → script_in rows ≡ None → replay_in rows ≡ None
-replay_no_script rows e = ap (λ o. both_parts o (budget_in rows)) e
+replay_no_script rows e = ap (λ o. two_parts replaying o (budget_in rows)) e
 
 pub replay_no_budget : (rows : List Row) → budget_in rows ≡ None → replay_in rows ≡ None
-replay_no_budget rows e = ap (λ b. both_parts (script_in rows) b) e ∙ go (script_in rows)
-  where
-    go : (o : Option Text) → both_parts o None ≡ None
-    go None = refl
-    go (Some s) = refl
+replay_no_budget rows e = no_second_part replaying (script_in rows) (budget_in rows) e
 
 pub replay_all : (rows : List Row) (s : Text) (b : ℕ) → script_in rows ≡ Some s → budget_in rows ≡ Some b → replay_in rows ≡ Some (record { script = s; budget = b })
-replay_all rows s b script budget = ap (λ o. both_parts o (budget_in rows)) script ∙ ap (λ o. both_parts (Some s) o) budget
+replay_all rows s b script budget = two_given replaying (script_in rows) (budget_in rows) s b script budget
 
 -- ---- the words
 

@@ -23,6 +23,16 @@ pub record MakeRequest : Type 0 where
   pub workers : ℕ
   pub budget : ℕ
 
+-- write the certificate of the file of this name, each command checked with this budget
+pub record CertifyRequest : Type 0 where
+  pub file : List ℕ
+  pub budget : ℕ
+
+-- check the file of this name by the certificate of that name
+pub record RecheckRequest : Type 0 where
+  pub file : List ℕ
+  pub certificate : List ℕ
+
 -- write the commands on which this name rests in the file of that name, each command checked with this budget
 pub record PruneRequest : Type 0 where
   pub name : List ℕ
@@ -37,6 +47,8 @@ pub record ReplayRequest : Type 0 where
 pub data Request : Type 0 where
   to_check : CheckRequest → Request
   to_make : MakeRequest → Request
+  to_certify : CertifyRequest → Request
+  to_recheck : RecheckRequest → Request
   to_prune : PruneRequest → Request
   to_replay : ReplayRequest → Request
 
@@ -48,9 +60,12 @@ number_of numbers text =
 abbrev pub is_true : Text → Bool
 is_true text = bytes_eq text (codes "true")
 
--- what clap found for FILE, NAME, SCRIPT, N, `--workers`, `--budget` and `--quiet`, their defaults included
+-- what clap found for FILE, CERT, NAME, SCRIPT, N, `--workers`, `--budget` and `--quiet`, their defaults included
 abbrev pub file_in : List Row → Option Text
 file_in rows = first_of (codes "file") rows
+
+abbrev pub certificate_in : List Row → Option Text
+certificate_in rows = first_of (codes "certificate") rows
 
 abbrev pub name_in : List Row → Option Text
 name_in rows = first_of (codes "name") rows
@@ -70,7 +85,7 @@ budget_in rows = option_and_then (number_of budgets) (one_of (codes "budget") ro
 abbrev pub quiet_in : List Row → Bool
 quiet_in rows = option_map_or is_true (one_of (codes "quiet") rows) false
 
--- those of `check` together, those of `make`, those of `prune`, and those of `replay`
+-- those of each subcommand together
 abbrev pub check_in : List Row → Option CheckRequest
 check_in rows = option_and_then (λ file. option_and_then (λ workers. option_map (λ budget.
     record { file = file; workers = workers; budget = budget; quiet = quiet_in rows })
@@ -80,6 +95,12 @@ abbrev pub make_in : List Row → Option MakeRequest
 make_in rows = option_and_then (λ count. option_and_then (λ workers. option_map (λ budget.
     record { count = count; workers = workers; budget = budget })
     (budget_in rows)) (workers_in rows)) (count_in rows)
+
+abbrev pub certify_in : List Row → Option CertifyRequest
+certify_in rows = option_and_then (λ file. option_map (λ budget. record { file = file; budget = budget }) (budget_in rows)) (file_in rows)
+
+abbrev pub recheck_in : List Row → Option RecheckRequest
+recheck_in rows = option_and_then (λ file. option_map (λ certificate. record { file = file; certificate = certificate }) (certificate_in rows)) (file_in rows)
 
 abbrev pub prune_in : List Row → Option PruneRequest
 prune_in rows = option_and_then (λ name. option_and_then (λ file. option_map (λ budget.
@@ -94,6 +115,8 @@ abbrev pub request_in : Text × List Row → Option Request
 request_in found =
     if bytes_eq found.0 (codes "make") then option_map to_make (make_in found.1)
     else if bytes_eq found.0 (codes "check") then option_map to_check (check_in found.1)
+    else if bytes_eq found.0 (codes "certify") then option_map to_certify (certify_in found.1)
+    else if bytes_eq found.0 (codes "recheck") then option_map to_recheck (recheck_in found.1)
     else if bytes_eq found.0 (codes "prune") then option_map to_prune (prune_in found.1)
     else if bytes_eq found.0 (codes "replay") then option_map to_replay (replay_in found.1)
     else None

@@ -59,6 +59,18 @@ count = record (new_rule (codes "count")) {
 abbrev pub make : App
 make = with_rule (with_rule (with_rule (new_app (codes "make")) workers) budget) count
 
+-- `certify [--budget B] FILE`
+abbrev pub certify : App
+certify = with_rule (with_rule (new_app (codes "certify")) budget) file
+
+-- CERT
+abbrev pub certificate : Rule
+certificate = record (new_rule (codes "certificate")) { required = true }
+
+-- `recheck FILE CERT`
+abbrev pub recheck : App
+recheck = with_rule (with_rule (new_app (codes "recheck")) file) certificate
+
 -- NAME
 abbrev pub name : Rule
 name = record (new_rule (codes "name")) { required = true }
@@ -81,6 +93,12 @@ needing a = record a {
   top = record a.top { subcommand_required = true; disable_help_subcommand = true };
 }
 
+-- its subcommands, a few at a time
+abbrev pub checking : App
+checking = with_subcommand (with_subcommand (needing (new_app (codes "dk_check"))) check.top) make.top
+
+abbrev pub rechecking : App
+rechecking = with_subcommand (with_subcommand checking certify.top) recheck.top
+
 unfoldable pub program : App
-program =
-    with_subcommand (with_subcommand (with_subcommand (with_subcommand (needing (new_app (codes "dk_check"))) check.top) make.top) prune.top) replay.top
+program = with_subcommand (with_subcommand rechecking prune.top) replay.top

@@ -2,7 +2,7 @@
 ghost use Rattle.std.specs.Prelude.{◌≡◌, IfOk, map, false};
 ghost use Rattle.std.specs.String.{string_bytes};
 ghost use Rattle.clap.specs.Words.{FailsBy, HasMatchesOf, app_of, fault_of, rule_of, with_subcommand};
-ghost use Rattle.command_line.specs.Words.{budget, check, count, make, program, prune, replay, workers};
+ghost use Rattle.command_line.specs.Words.{budget, certify, check, count, make, program, prune, recheck, replay, workers};
 
 use clap::builder::ValueParser;
 use clap::{Arg, ArgAction, ArgMatches, Command, Error};
@@ -78,6 +78,26 @@ fn with_make<'a>(alloc: Global, top: Command<'a>) -> Result<Command<'a>, AllocEr
     top.subcommand(make)
 }
 
+// The command with `certify` as a subcommand.
+fn with_certify<'a>(alloc: Global, top: Command<'a>) -> Result<Command<'a>, AllocError>
+    ensures { IfOk result (λ c. app_of c ≡ with_subcommand (app_of top.entry) certify.top) }
+{
+    let budget = budget_argument(alloc);
+    let file = Arg::new(alloc, "file").required(true);
+    let certify = Command::new(alloc, "certify").arg(budget)?.arg(file)?;
+    top.subcommand(certify)
+}
+
+// The command with `recheck` as a subcommand.
+fn with_recheck<'a>(alloc: Global, top: Command<'a>) -> Result<Command<'a>, AllocError>
+    ensures { IfOk result (λ c. app_of c ≡ with_subcommand (app_of top.entry) recheck.top) }
+{
+    let file = Arg::new(alloc, "file").required(true);
+    let certificate = Arg::new(alloc, "certificate").required(true);
+    let recheck = Command::new(alloc, "recheck").arg(file)?.arg(certificate)?;
+    top.subcommand(recheck)
+}
+
 // The command with `prune` as a subcommand.
 fn with_prune<'a>(alloc: Global, top: Command<'a>) -> Result<Command<'a>, AllocError>
     ensures { IfOk result (λ c. app_of c ≡ with_subcommand (app_of top.entry) prune.top) }
@@ -110,7 +130,9 @@ fn program<'a>(alloc: Global) -> Result<Command<'a>, AllocError>
         .disable_help_subcommand(true);
     let checking = with_check(alloc, alone)?;
     let making = with_make(alloc, checking)?;
-    let pruning = with_prune(alloc, making)?;
+    let certifying = with_certify(alloc, making)?;
+    let rechecking = with_recheck(alloc, certifying)?;
+    let pruning = with_prune(alloc, rechecking)?;
     with_replay(alloc, pruning)
 }
 

@@ -8,5 +8,8 @@ mod command;
 mod request;
 mod usage;
 
-pub use request::{CheckRequest, MakeRequest, PruneRequest, ReplayRequest, Request, read_request};
+pub use request::{
+    CertifyRequest, CheckRequest, MakeRequest, PruneRequest, RecheckRequest, ReplayRequest,
+    Request, read_request,
+};
 pub use usage::usage_text;

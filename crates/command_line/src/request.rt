@@ -2,8 +2,8 @@
 ghost use Rattle.std.specs.Prelude.{◌≡◌, ◌↔◌, IfOk, IfSome, IsSome, map, option_and_then, option_map};
 ghost use Rattle.std.specs.String.{string_bytes};
 ghost use Rattle.clap.specs.Words.{found_of, rows_of, subcommand_rows_of};
-ghost use Rattle.command_line.specs.Requests.{budget_in, check_in, count_in, make_in, prune_in, quiet_in, replay_in, request_in, request_of, workers_in};
-ghost use Rattle.command_line.specs.Views.{IsBudget, IsInBounds, IsTaken, IsTheoremCount, IsWorkerCount, plain_check, plain_make, plain_prune, plain_replay, plain_request};
+ghost use Rattle.command_line.specs.Requests.{budget_in, certify_in, check_in, count_in, make_in, prune_in, quiet_in, recheck_in, replay_in, request_in, request_of, workers_in};
+ghost use Rattle.command_line.specs.Views.{IsBudget, IsInBounds, IsTaken, IsTheoremCount, IsWorkerCount, plain_certify, plain_check, plain_make, plain_prune, plain_recheck, plain_replay, plain_request};
 
 use crate::command::{LARGEST_BUDGET, MOST_THEOREMS, MOST_WORKERS, found_in};
 use clap::ArgMatches;
@@ -16,6 +16,8 @@ use std::alloc::Global;
 pub enum Request<'a> {
     Check(CheckRequest<'a>),
     Make(MakeRequest),
+    Certify(CertifyRequest<'a>),
+    Recheck(RecheckRequest<'a>),
     Prune(PruneRequest<'a>),
     Replay(ReplayRequest<'a>),
 }
@@ -42,6 +44,24 @@ pub struct MakeRequest {
     pub workers: u32,
     /// The units that the check of each command may take.
     pub budget: u64,
+}
+
+/// Write the certificate of a file.
+#[derive(Clone, Copy, Debug)]
+pub struct CertifyRequest<'a> {
+    /// The name of the file, as the words give it.
+    pub file: &'a str,
+    /// The units that the check of each command may take.
+    pub budget: u64,
+}
+
+/// Check a file by its certificate.
+#[derive(Clone, Copy, Debug)]
+pub struct RecheckRequest<'a> {
+    /// The name of the file, as the words give it.
+    pub file: &'a str,
+    /// The name of the certificate, as the words give it.
+    pub certificate: &'a str,
 }
 
 /// Write the commands of a file on which a name rests.
@@ -110,6 +130,16 @@ fn request_in<'a>(name: &str, found: &ArgMatches<'a>) -> Option<Request<'a>>
             Some(request) => Some(Request::Check(request)),
             None => None,
         }
+    } else if name == "certify" {
+        match certify_in(found) {
+            Some(request) => Some(Request::Certify(request)),
+            None => None,
+        }
+    } else if name == "recheck" {
+        match recheck_in(found) {
+            Some(request) => Some(Request::Recheck(request)),
+            None => None,
+        }
     } else if name == "prune" {
         match prune_in(found) {
             Some(request) => Some(Request::Prune(request)),
@@ -156,6 +186,23 @@ fn make_in(make: &ArgMatches<'_>) -> Option<MakeRequest>
         workers,
         budget,
     })
+}
+
+fn certify_in<'a>(certify: &ArgMatches<'a>) -> Option<CertifyRequest<'a>>
+    ensures value { option_map plain_certify result ≡ certify_in (rows_of (found_of certify.now)) }
+    ensures budget { IfSome result (λ q. IsBudget q.budget) }
+{
+    let file = certify.get_str("file")?;
+    let budget = budget_in(certify)?;
+    Some(CertifyRequest { file, budget })
+}
+
+fn recheck_in<'a>(recheck: &ArgMatches<'a>) -> Option<RecheckRequest<'a>>
+    ensures { option_map plain_recheck result ≡ recheck_in (rows_of (found_of recheck.now)) }
+{
+    let file = recheck.get_str("file")?;
+    let certificate = recheck.get_str("certificate")?;
+    Some(RecheckRequest { file, certificate })
 }
 
 fn prune_in<'a>(prune: &ArgMatches<'a>) -> Option<PruneRequest<'a>>

@@ -1,5 +1,5 @@
 //! What a call of the program does, over any shelf and sink.
-ghost use Rattle.std.specs.Prelude.{◌≡◌, ◌<◌, [], IfErr, IfOk, map};
+ghost use Rattle.std.specs.Prelude.{◌≡◌, ◌<◌, [], IfErr, IfOk, false, map};
 ghost use Rattle.std.specs.String.{string_bytes};
 ghost use Rattle.command_line.specs.Requests.{request_of};
 ghost use Rattle.dk_model.specs.Limits.{standard};
@@ -15,8 +15,9 @@ use std::io::ErrorKind;
 use std::sync::Wait;
 use std::thread::Threads;
 
-/// Asks `run` for these words and answers its status. The shelf has no book put aside. Where the words couldn't be had, the kind of the error decides, and
-/// nothing is read or written.
+/// Asks `run` for these words and answers its status. The shelf has no book open and none put
+/// aside. Where the words couldn't be had, the kind of the error decides, and nothing is read or
+/// written.
 pub fn answer_call<R: Threads + Wait + Sync, H: Shelf, K: Sink>(
     rt: &R,
     alloc: Global,
@@ -25,6 +26,7 @@ pub fn answer_call<R: Threads + Wait + Sync, H: Shelf, K: Sink>(
     sink: &mut K,
 ) -> u8
     requires shelf { H.aside shelf.old ≡ [] }
+    requires closed { H.is_open shelf.old ≡ false }
     ensures given { IfOk words.now (λ w. Runs standard (request_of (map string_bytes w.items))
         (shelf_of H.Shelf shelf.old) (shelf_of H.Shelf shelf.new)
         (sink_of K.Sink sink.old) (sink_of K.Sink sink.new) result) }

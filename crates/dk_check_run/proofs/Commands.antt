@@ -1,76 +1,42 @@
 -- The clauses of `run` about each command, from the one clause.
 use Rattle.std.proofs.Common.{◌≡◌, ◌≢◌, ◌⊎◌, inl, inr, ℕ, List, refl, sym, ap, subst, ◌∙◌, arith}
-use Rattle.std.specs.Prelude.{Option, None, Some}
+use Rattle.std.specs.Prelude.{Option, Some}
 use Rattle.dk_io.specs.Bytes.{Books, added}
 use Rattle.dk_io.specs.Causes.{Rose}
 use Rattle.dk_model.specs.declared.limits.Limits.{Limits}
-use Rattle.command_line.specs.Requests.{CheckRequest, MakeRequest, PruneRequest, ReplayRequest, Request, to_check, to_make, to_prune, to_replay}
+use Rattle.command_line.specs.Requests.{CertifyRequest, CheckRequest, MakeRequest, PruneRequest, RecheckRequest, ReplayRequest, Request, to_certify, to_check, to_make, to_prune, to_recheck, to_replay}
 use Rattle.verdict_book.specs.Report.{FileReport, status_of}
 use Rattle.verdict_book.specs.declared.outcome.Outcome.{Outcome}
 use Rattle.verdict_book.specs.declared.outcome.Outcome.TheVariants.{Unopened, Unread}
 use Rattle.theory_walk.specs.BookNames.{book_named}
 use Rattle.theory_walk.specs.Libraries.{Key}
-use Rattle.book_reader.specs.Shelved.{Setting, whole_library, without}
 use Rattle.book_reader.specs.Shelves.{ShelfState}
-use Rattle.file_check.specs.Failures.{of_opening}
-use Rattle.dk_check_run.specs.Books.{IsOfBooks, asked_setting, report_for, report_made}
+use Rattle.dk_check_run.specs.Books.{report_made}
 use Rattle.dk_check_run.specs.Run.{AsksFor, HasShelfFault, IsBookDue, IsDecided, OpensNothing, ReportsFile, ReportsTheory, SinkState, memory_at_once, of_a_module, of_a_read, of_the_file, summary, text_of, text_with}
+use Rattle.dk_check_run.specs.Certify as certify
+use Rattle.dk_check_run.specs.Certify.{AsksToCertify, CertifiesFile, HasCertifyFault, IsOpeningDue, IsRecheckedWhole}
 use Rattle.dk_check_run.specs.Check as check
 use Rattle.dk_check_run.specs.Make as make
 use Rattle.dk_check_run.specs.Prune as prune
 use Rattle.dk_check_run.specs.Prune.{AsksToPrune, HasFileFault, PrunesFile, by_opening, by_read}
+use Rattle.dk_check_run.specs.Recheck as recheck
+use Rattle.dk_check_run.specs.Recheck.{AsksToRecheck, HasRecheckFault, IsModuleDue, IsRecheckDerived, RechecksFile}
 use Rattle.dk_check_run.specs.Replay as replay
 use Rattle.dk_check_run.specs.Replay.{AsksToReplay, HasScriptFault, ReplaysScript, by_opening as script_unopened, by_read as script_unread}
 use Rattle.dk_check_run.specs.Rows.{Cause, Shows, memory, of_no_command, of_no_words, of_command}
 use Rattle.dk_check_run.specs.Table.{Runs, RunsCommand, rows_of}
+use Rattle.accepted_theory.specs.Laws.{ReportedAreRead}
+use Rattle.certify_theory.specs.Laws.{CertifiedIsRechecked}
 use Rattle.prune_file.specs.Laws.{AcceptedIsReported, PrunedStandsAlone}
+use Rattle.dk_check_run.proofs.CertifyStatuses.{certify_failed, certify_missed, certify_own, rechecks_whole}
+use Rattle.dk_check_run.proofs.CheckStatuses.{check_own, failed_due}
 use Rattle.dk_check_run.proofs.General.{is_status, none_some, some_same, stands}
 use Rattle.dk_check_run.proofs.PruneStatuses.{decided_not3, prune_failed, prune_own, stopped_not3}
+use Rattle.recheck_theory.specs.Laws.{RecheckedHaveDerivations}
+use Rattle.dk_check_run.proofs.RecheckStatuses.{recheck_failed, recheck_missed, recheck_own, rechecks_derived}
 use Rattle.dk_check_run.proofs.ReplayStatuses.{replay_failed, replay_own}
 
 -- ---- `check`
-
--- what is so of the books that the shelf tells
-told : (limits : Limits) (q : CheckRequest) (books : Books) (held : Option Books) (P : Setting → Type 0) → held ≡ Some books → IsOfBooks limits q held P → P (asked_setting limits q books)
-told limits q books held P is of = subst (λ b. IsOfBooks limits q b P) is of
-
--- at 0, 1 and 6 the row is the books' own
-module _ (limits : Limits) (q : CheckRequest) (held : Books) (old new : ShelfState) (is : old.books ≡ Some held) where
-  abbrev pub IsOwn : ℕ → List ℕ → Type 0
-  IsOwn status text = (status ≡ status_of (report_for limits q held).outcome) × (text ≡ text_of q (report_for limits q held))
-
-  own_at : (r : FileReport) → report_for limits q held ≡ r → IsOwn (status_of r.outcome) (text_of q r)
-  own_at r is = (ap (λ (x : FileReport). status_of x.outcome) (sym is), ap (text_of q) (sym is))
-
-  pub check_own : (cause : Cause) (status : ℕ) (text : List ℕ) → check.IsDue limits q old new cause status text → Shows cause status old new → status ≢ 3 → status ≢ 4 → IsOwn status text
-  check_own cause status text (check.of_the_books r of) shows not3 not4 = own_at r (told limits q held old.books (λ s. check.IsReport q r s (whole_library s)) is of)
-  check_own cause status text (check.of_the_given r number place v failure outcome_is counted of) shows not3 not4 =
-      own_at r (told limits q held old.books (λ s. check.IsReport q r s (whole_library s) × check.IsOfGiven new failure s (check.IsReport q r s)) is of).0
-  check_own cause status text (check.of_a_failed_read r number place unread_is of) shows not3 not4 = absurd (not3 shows.0)
-  check_own cause status text (check.of_a_failed_opening leaves) shows not3 not4 = absurd (not3 refl)
-  check_own cause status text (check.of_a_missing_module r name missing_is of) shows not3 not4 = absurd (not3 shows.0)
-  check_own cause status text (check.of_memory lines number place of) shows not3 not4 = absurd (not4 refl)
-  check_own cause status text check.of_no_memory shows not3 not4 = absurd (not4 refl)
-
-  -- a module whose failed opening is told was due
-  missing_due : (r : FileReport) (name : List ℕ) → r.outcome ≡ Unopened name
-      → IsOfBooks limits q old.books (λ s. check.IsReport q r s (without (Some name) (whole_library s)) × check.IsOfGiven new (of_opening name) s (check.IsReport q r s))
-      → IsBookDue limits q held (Some name)
-  missing_due r name missing_is of =
-      ap (λ (x : FileReport). x.outcome)
-      (told limits q held old.books (λ s. check.IsReport q r s (without (Some name) (whole_library s)) × check.IsOfGiven new (of_opening name) s (check.IsReport q r s)) is of).0
-      ∙ missing_is
-
-  -- at 3 a read failed, or the opening of a book that was due
-  pub failed_due : (cause : Cause) (status : ℕ) (text : List ℕ) → check.IsDue limits q old new cause status text → Shows cause status old new → status ≡ 3
-      → Rose old.faults new.faults ⊎ ((book : Key) × IsBookDue limits q held book × Rose (old.missed (book_named q.file book)) (new.missed (book_named q.file book)))
-  failed_due cause status text (check.of_the_books r of) shows three = decided_not3 shows.0 three
-  failed_due cause status text (check.of_the_given r number place v failure outcome_is counted of) shows three = stopped_not3 shows.0 three
-  failed_due cause status text (check.of_a_failed_read r number place unread_is of) shows three = inl shows.1
-  failed_due cause status text (check.of_a_failed_opening leaves) shows three = inr (None, refl, shows.1)
-  failed_due cause status text (check.of_a_missing_module r name missing_is of) shows three = inr (Some name, missing_due r name missing_is of, shows.1)
-  failed_due cause status text (check.of_memory lines number place of) shows three = absurd (omega (arith, three))
-  failed_due cause status text check.of_no_memory shows three = absurd (omega (arith, three))
 
 -- a row of `check` with status 3
 module _ (limits : Limits) (q : CheckRequest) (old new : ShelfState) (before after : SinkState) where
@@ -78,7 +44,7 @@ module _ (limits : Limits) (q : CheckRequest) (old new : ShelfState) (before aft
   texts : (r : FileReport) (o : Outcome) → r.outcome ≡ o → after.taken ≡ added before.taken (text_of q r) → after.taken ≡ added before.taken (text_with q r.lines o)
   texts r o is taken = taken ∙ ap (λ x. added before.taken (text_with q r.lines x)) is
 
-  check_failed : (cause : Cause) (status : ℕ) (text : List ℕ) → check.IsDue limits q old new cause status text → Shows cause status old new → status ≡ 3 → after.taken ≡ added before.taken text
+  check_failed : (cause : Cause) (status : ℕ) (text : List ℕ) → check.IsDue limits q (text_with q) old new cause status text → Shows cause status old new → status ≡ 3 → after.taken ≡ added before.taken text
       → HasShelfFault q old new before.taken after.taken
   check_failed cause status text (check.of_the_books r of) shows three taken = decided_not3 shows.0 three
   check_failed cause status text (check.of_the_given r number place v failure outcome_is counted of) shows three taken = stopped_not3 shows.0 three
@@ -106,6 +72,8 @@ make_not3 limits q old new cause status text make.of_no_memory shows three = abs
 at_once : (limits : Limits) (c : Request) (s : ShelfState) → rows_of limits c s s memory 4 memory_at_once
 at_once limits (to_check q) s = check.of_no_memory
 at_once limits (to_make q) s = (refl, make.of_no_memory)
+at_once limits (to_certify q) s = certify.of_the_check memory 4 memory_at_once (λ e. absurd (omega (arith, e))) check.of_no_memory
+at_once limits (to_recheck q) s = recheck.of_no_memory
 at_once limits (to_prune q) s = prune.of_no_memory
 at_once limits (to_replay q) s = replay.of_no_memory
 
@@ -130,7 +98,7 @@ module _ (limits : Limits) (request : Option Request) (old new : ShelfState) (be
   own a q books asks not3 not4 not5 =
       let r = asked a (to_check q) asks.asked in
       let s = is_status r.writes not5 in
-      let o = check_own limits q books old new asks.told_are r.cause r.status r.text r.row r.shows (λ e. not3 (s ∙ e)) (λ e. not4 (s ∙ e)) in
+      let o = check_own limits q (text_with q) books old new asks.told_are r.cause r.status r.text r.row r.shows (λ e. not3 (s ∙ e)) (λ e. not4 (s ∙ e)) in
       record { status = s ∙ o.0; text = r.writes.whole not5 ∙ ap (added before.taken) o.1 }
 
   pub decided : Answered → (q : CheckRequest) (books : Books) → AsksFor request old.books q books → IsDecided result → ReportsFile limits q books before.taken after.taken result
@@ -153,14 +121,28 @@ module _ (limits : Limits) (request : Option Request) (old new : ShelfState) (be
       let e = stands r.writes three (λ f. absurd (omega (arith, f))) in
       replay_failed limits q old new before after r.cause r.status r.text r.row r.shows e (r.writes.whole (λ five. absurd (omega (arith, three, five))))
 
+  certify_fault : (q : CertifyRequest) → RunsCommand limits (to_certify q) old new before after result → result ≡ 3 → HasCertifyFault q old new before.taken after.taken
+  certify_fault q r three =
+      let e = stands r.writes three (λ f. absurd (omega (arith, f))) in
+      certify_failed limits q old new before after r.cause r.status r.text r.row r.shows e (r.writes.whole (λ five. absurd (omega (arith, three, five))))
+
+  recheck_fault : (q : RecheckRequest) → RunsCommand limits (to_recheck q) old new before after result → result ≡ 3 → HasRecheckFault q old new before.taken after.taken
+  recheck_fault q r three =
+      let e = stands r.writes three (λ f. absurd (omega (arith, f))) in
+      recheck_failed limits q old new before after r.cause r.status r.text r.row r.shows e (r.writes.whole (λ five. absurd (omega (arith, three, five))))
+
   pub shelf_failed : Answered → result ≡ 3 → ((q : CheckRequest) × (request ≡ Some (to_check q)) × HasShelfFault q old new before.taken after.taken)
+      ⊎ (((q : CertifyRequest) × (request ≡ Some (to_certify q)) × HasCertifyFault q old new before.taken after.taken)
+      ⊎ (((q : RecheckRequest) × (request ≡ Some (to_recheck q)) × HasRecheckFault q old new before.taken after.taken)
       ⊎ (((q : PruneRequest) × (request ≡ Some (to_prune q)) × HasFileFault q old new before.taken after.taken)
-      ⊎ ((q : ReplayRequest) × (request ≡ Some (to_replay q)) × HasScriptFault limits q old new before.taken after.taken))
+      ⊎ ((q : ReplayRequest) × (request ≡ Some (to_replay q)) × HasScriptFault limits q old new before.taken after.taken))))
   shelf_failed (of_no_command none same w) three = let e = stands w three (λ f. absurd (omega (arith, f))) in absurd (omega (arith, e))
   shelf_failed (of_no_words same w) three = let e = stands w three (λ f. absurd (omega (arith, f))) in absurd (omega (arith, e))
   shelf_failed (of_command (to_check q) is r) three = inl (q, is, fault q r three)
-  shelf_failed (of_command (to_prune q) is r) three = inr (inl (q, is, prune_fault q r three))
-  shelf_failed (of_command (to_replay q) is r) three = inr (inr (q, is, replay_fault q r three))
+  shelf_failed (of_command (to_certify q) is r) three = inr (inl (q, is, certify_fault q r three))
+  shelf_failed (of_command (to_recheck q) is r) three = inr (inr (inl (q, is, recheck_fault q r three)))
+  shelf_failed (of_command (to_prune q) is r) three = inr (inr (inr (inl (q, is, prune_fault q r three))))
+  shelf_failed (of_command (to_replay q) is r) three = inr (inr (inr (inr (q, is, replay_fault q r three))))
   shelf_failed (of_command (to_make q) is r) three =
       absurd (make_not3 limits q old new r.cause r.status r.text r.row.1 r.shows (stands r.writes three (λ f. absurd (omega (arith, f)))))
 
@@ -170,7 +152,7 @@ module _ (limits : Limits) (request : Option Request) (old new : ShelfState) (be
   headline a q books asks not_missed not_failed not_cut not4 =
       let r = asked a (to_check q) asks.asked in
       own a q books asks
-      (λ three. elim (failed_due limits q books old new asks.told_are r.cause r.status r.text r.row r.shows (stands r.writes three (λ f. absurd (omega (arith, f))))) [
+      (λ three. elim (failed_due limits q (text_with q) books old new asks.told_are r.cause r.status r.text r.row r.shows (stands r.writes three (λ f. absurd (omega (arith, f))))) [
         | inl rose ↦ not_failed rose
         | inr m ↦ not_missed m.0 m.1 m.2
       ])
@@ -195,8 +177,71 @@ module _ (limits : Limits) (request : Option Request) (old new : ShelfState) (be
   untouched (of_no_words same w) nothing = same
   untouched (of_command (to_check q) is r) nothing = let none : OpensNothing (Some (to_check q)) = subst OpensNothing is nothing in absurd none
   untouched (of_command (to_make q) is r) nothing = r.row.0
+  untouched (of_command (to_certify q) is r) nothing = let none : OpensNothing (Some (to_certify q)) = subst OpensNothing is nothing in absurd none
+  untouched (of_command (to_recheck q) is r) nothing = let none : OpensNothing (Some (to_recheck q)) = subst OpensNothing is nothing in absurd none
   untouched (of_command (to_prune q) is r) nothing = let none : OpensNothing (Some (to_prune q)) = subst OpensNothing is nothing in absurd none
   untouched (of_command (to_replay q) is r) nothing = let none : OpensNothing (Some (to_replay q)) = subst OpensNothing is nothing in absurd none
+
+  -- ---- `certify`
+
+  certified_at : Answered → (q : CertifyRequest) (books : Books) → AsksToCertify request old.books q books → result ≢ 3 → result ≢ 4 → result ≢ 5 → CertifiesFile limits q books before.taken after.taken result
+  certified_at a q books asks not3 not4 not5 =
+      let r = asked a (to_certify q) asks.asked in
+      let s = is_status r.writes not5 in
+      subst (CertifiesFile limits q books before.taken after.taken) (sym s)
+      (certify_own limits q old new before after books asks.told_are r.cause r.status r.text r.row r.shows (λ e. not3 (s ∙ e)) (λ e. not4 (s ∙ e)) (r.writes.whole not5))
+
+  pub certify_decided : Answered → (q : CertifyRequest) (books : Books) → AsksToCertify request old.books q books → IsDecided result → CertifiesFile limits q books before.taken after.taken result
+  certify_decided a q books asks (inl e) = certified_at a q books asks (λ f. absurd (omega (arith, e, f))) (λ f. absurd (omega (arith, e, f))) (λ f. absurd (omega (arith, e, f)))
+  certify_decided a q books asks (inr (inl e)) = certified_at a q books asks (λ f. absurd (omega (arith, e, f))) (λ f. absurd (omega (arith, e, f))) (λ f. absurd (omega (arith, e, f)))
+  certify_decided a q books asks (inr (inr e)) = certified_at a q books asks (λ f. absurd (omega (arith, e, f))) (λ f. absurd (omega (arith, e, f))) (λ f. absurd (omega (arith, e, f)))
+
+  pub certified_rechecked : ReportedAreRead → CertifiedIsRechecked → Answered → (q : CertifyRequest) (books : Books) → AsksToCertify request old.books q books → result ≡ 0 → IsRecheckedWhole limits q books before.taken after.taken
+  certified_rechecked read law a q books asks zero = rechecks_whole read law limits q books before.taken after.taken result (certify_decided a q books asks (inl zero)) zero
+
+  pub certifies : Answered → (q : CertifyRequest) (books : Books) → AsksToCertify request old.books q books
+      → ((book : Key) → IsOpeningDue limits q books book → ¬ (Rose (old.missed (book_named q.file book)) (new.missed (book_named q.file book))))
+      → ¬ (Rose old.faults new.faults) → ¬ (Rose before.faults after.faults) → result ≢ 4 → CertifiesFile limits q books before.taken after.taken result
+  certifies a q books asks not_missed not_failed not_cut not4 =
+      let r = asked a (to_certify q) asks.asked in
+      certified_at a q books asks
+      (λ three. elim (certify_missed limits q old new before after books asks.told_are r.cause r.status r.text r.row r.shows (stands r.writes three (λ f. absurd (omega (arith, f))))) [
+        | inl rose ↦ not_failed rose
+        | inr m ↦ not_missed m.0 m.1 m.2
+      ])
+      not4 (λ five. not_cut (r.writes.failed five))
+
+  -- ---- `recheck`
+
+  rechecked_at : Answered → (q : RecheckRequest) (books : Books) → AsksToRecheck request old.books q books → result ≢ 3 → result ≢ 4 → result ≢ 5 → RechecksFile limits q books before.taken after.taken result
+  rechecked_at a q books asks not3 not4 not5 =
+      let r = asked a (to_recheck q) asks.asked in
+      let s = is_status r.writes not5 in
+      subst (RechecksFile limits q books before.taken after.taken) (sym s)
+      (recheck_own limits q old new before after books asks.told_are r.cause r.status r.text r.row r.shows (λ e. not3 (s ∙ e)) (λ e. not4 (s ∙ e)) (r.writes.whole not5))
+
+  pub recheck_decided : Answered → (q : RecheckRequest) (books : Books) → AsksToRecheck request old.books q books → IsDecided result → RechecksFile limits q books before.taken after.taken result
+  recheck_decided a q books asks (inl e) = rechecked_at a q books asks (λ f. absurd (omega (arith, e, f))) (λ f. absurd (omega (arith, e, f))) (λ f. absurd (omega (arith, e, f)))
+  recheck_decided a q books asks (inr (inl e)) = rechecked_at a q books asks (λ f. absurd (omega (arith, e, f))) (λ f. absurd (omega (arith, e, f))) (λ f. absurd (omega (arith, e, f)))
+  recheck_decided a q books asks (inr (inr e)) = rechecked_at a q books asks (λ f. absurd (omega (arith, e, f))) (λ f. absurd (omega (arith, e, f))) (λ f. absurd (omega (arith, e, f)))
+
+  pub recheck_derived : RecheckedHaveDerivations → Answered → (q : RecheckRequest) (books : Books) → AsksToRecheck request old.books q books → result ≡ 0 → IsRecheckDerived limits q books
+  recheck_derived law a q books asks zero = rechecks_derived law limits q books before.taken after.taken result (recheck_decided a q books asks (inl zero)) zero
+
+  pub rechecks : Answered → (q : RecheckRequest) (books : Books) → AsksToRecheck request old.books q books → ¬ (Rose (old.missed q.file) (new.missed q.file))
+      → ((m : List ℕ) → IsModuleDue limits q books m → ¬ (Rose (old.missed (book_named q.file (Some m))) (new.missed (book_named q.file (Some m)))))
+      → ¬ (Rose (old.missed q.certificate) (new.missed q.certificate)) → ¬ (Rose old.faults new.faults)
+      → ¬ (Rose before.faults after.faults) → result ≢ 4 → RechecksFile limits q books before.taken after.taken result
+  rechecks a q books asks not_file not_module not_certificate not_failed not_cut not4 =
+      let r = asked a (to_recheck q) asks.asked in
+      rechecked_at a q books asks
+      (λ three. elim (recheck_missed limits q old new before after books asks.told_are r.cause r.status r.text r.row r.shows (stands r.writes three (λ f. absurd (omega (arith, f))))) [
+        | inl rose ↦ not_failed rose
+        | inr (inl rose) ↦ not_file rose
+        | inr (inr (inl m)) ↦ not_module m.0 m.1 m.2
+        | inr (inr (inr rose)) ↦ not_certificate rose
+      ])
+      not4 (λ five. not_cut (r.writes.failed five))
 
   -- ---- `replay`
 

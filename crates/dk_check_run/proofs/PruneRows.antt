@@ -48,7 +48,7 @@ use Rattle.dk_check_run.proofs.Settings.{fold_is, root_setting}
 
 -- ---- books
 
-no_more : (xs : List ℕ) → xs ++ [] ≡ xs
+pub no_more : (xs : List ℕ) → xs ++ [] ≡ xs
 no_more [] = refl
 no_more (x ∷ xs) = ap (λ (ys : List ℕ). x ∷ ys) (no_more xs)
 

@@ -1,13 +1,11 @@
 -- What the taking of a script comes to is a row of `replay`.
-use Rattle.std.proofs.Common.{◌≡◌, ◌≢◌, ◌⊎◌, ◌≤◌, ◌+◌, inl, inr, ℕ, List, [], ◌∷◌, ◌++◌, length, take, refl, sym, ap, subst, ◌∙◌, arith}
+use Rattle.std.proofs.Common.{◌≡◌, ◌≢◌, ◌+◌, inl, inr, ℕ, List, ◌++◌, length, take, refl, sym, ap, subst, ◌∙◌, arith}
 use Rattle.std.specs.Prelude.{Option, Some, None}
-use Rattle.dk_io.specs.Bytes.{AddsSome, Books, Opens, added, book_of}
+use Rattle.dk_io.specs.Bytes.{Books, Opens, added}
 use Rattle.dk_io.specs.Causes.{Rose}
 use Rattle.dk_io.proofs.Adds.{added-added}
 use Rattle.std.proofs.Math.Seq.{take-append-add}
-use Rattle.std.proofs.lemmas.List.{take-append-le, take_min}
 use Rattle.dk_io.proofs.Gather.{adds_longer}
-use Rattle.dk_lexer.specs.Tokens.{input_limit}
 use Rattle.dk_model.specs.declared.limits.Limits.{Limits}
 use Rattle.command_line.specs.Requests.{ReplayRequest, to_replay}
 use Rattle.book_reader.specs.Shelves.{HasHeld, ShelfState}

@@ -1,7 +1,7 @@
 -- What the rows of `replay` say, each by the status.
-use Rattle.std.proofs.Common.{◌≡◌, ◌≢◌, ◌+◌, ◌++◌, ℕ, List, length, refl, ap, subst, ◌∙◌, arith}
+use Rattle.std.proofs.Common.{◌≡◌, ◌≢◌, ℕ, List, refl, subst, arith}
 use Rattle.std.specs.Prelude.{Some}
-use Rattle.dk_io.specs.Bytes.{Books, added, book_of}
+use Rattle.dk_io.specs.Bytes.{Books, added}
 use Rattle.dk_model.specs.declared.limits.Limits.{Limits}
 use Rattle.command_line.specs.Requests.{ReplayRequest}
 use Rattle.book_reader.specs.Shelves.{ShelfState}

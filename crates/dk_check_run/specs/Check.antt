@@ -1,4 +1,4 @@
--- Trusted: the rows of `check`.
+-- Trusted: the rows of `check`, and of whatever else is checked so.
 use Rattle.std.specs.Prelude.{◌≡◌, ◌⊎◌, ◌≤◌, ◌+◌, ℕ, List, ◌∷◌, length, take, Some}
 use Rattle.dk_model.specs.declared.limits.Limits.{Limits}
 use Rattle.dk_model.specs.declared.code.Verdict.{Verdict}
@@ -6,6 +6,7 @@ use Rattle.dk_model.specs.declared.code.Verdict.TheVariants as verdict
 use Rattle.command_line.specs.Requests.{CheckRequest}
 use Rattle.board_core.specs.declared.event.Place.{Place}
 use Rattle.verdict_book.specs.Report.{FileReport, PlainShown, status_of}
+use Rattle.verdict_book.specs.declared.outcome.Outcome.{Outcome}
 use Rattle.verdict_book.specs.declared.outcome.Outcome.TheVariants.{Stopped, Unopened, Unread}
 use Rattle.theory_walk.specs.BookNames.{book_named}
 use Rattle.theory_walk.specs.Libraries.{Library}
@@ -15,7 +16,7 @@ use Rattle.book_reader.specs.Shelved.{AreLeft, Given, IsDueAt, MemoryDue, Settin
 use Rattle.book_reader.specs.Shelves.{HasHeld, ShelfState}
 use Rattle.file_check.specs.Failures.{Counted, Failure, given_till, of_opening, of_read}
 use Rattle.dk_check_run.specs.Books.{IsOfBooks, report_in}
-use Rattle.dk_check_run.specs.Run.{LeavesBooks, memory_at_once, text_of, text_with}
+use Rattle.dk_check_run.specs.Run.{LeavesBooks, memory_at_once}
 use Rattle.dk_check_run.specs.Run as line
 use Rattle.dk_check_run.specs.Rows.{Cause, books, given, unread, unopened, memory}
 
@@ -36,29 +37,30 @@ pub record IsCutByMemory (q : CheckRequest) (s : Setting) (may_be : ℕ → Spot
   pub place_is : place ≡ place_of spot
   pub due : may_be (length lines) spot
 
-pub data IsDue (limits : Limits) (q : CheckRequest) (old new : ShelfState) : Cause → ℕ → List ℕ → Type 0 where
+-- where this is written of a report, of its lines and its outcome
+pub data IsDue (limits : Limits) (q : CheckRequest) (put : List PlainShown → Outcome → List ℕ) (old new : ShelfState) : Cause → ℕ → List ℕ → Type 0 where
   -- the report of the whole books
   of_the_books : (r : FileReport) → IsOfBooks limits q old.books (λ s. IsReport q r s (whole_library s))
-      → IsDue limits q old new books (status_of r.outcome) (text_of q r)
+      → IsDue limits q put old new books (status_of r.outcome) (put r.lines r.outcome)
   -- a call of the shelf failed, and the report ends at a command that was given before: that of the whole books too
   of_the_given : (r : FileReport) → (number : ℕ) → (place : Place) → (v : Verdict) → (failure : Failure) → r.outcome ≡ Stopped number place v
       → Counted (book_named q.file) old new failure
       → IsOfBooks limits q old.books (λ s. IsReport q r s (whole_library s) × IsOfGiven new failure s (IsReport q r s))
-      → IsDue limits q old new given (status_of r.outcome) (text_of q r)
+      → IsDue limits q put old new given (status_of r.outcome) (put r.lines r.outcome)
   -- a read failed, and the report of what was given before ends at the command that was due
   of_a_failed_read : (r : FileReport) → (number : ℕ) → (place : Place) → r.outcome ≡ Unread number place
       → IsOfBooks limits q old.books (λ s. IsOfGiven new of_read s (IsReport q r s))
-      → IsDue limits q old new unread (status_of r.outcome) (text_of q r)
+      → IsDue limits q put old new unread (status_of r.outcome) (put r.lines r.outcome)
   -- the file couldn't be opened
-  of_a_failed_opening : LeavesBooks old new → IsDue limits q old new (unopened q.file) 3 (line.unopened q.file)
+  of_a_failed_opening : LeavesBooks old new → IsDue limits q put old new (unopened q.file) 3 (line.unopened q.file)
   -- a module couldn't be, and without it the report of what was given before ends there; so does that of the whole books
   of_a_missing_module : (r : FileReport) → (name : List ℕ) → r.outcome ≡ Unopened name
       → IsOfBooks limits q old.books (λ s. IsReport q r s (without (Some name) (whole_library s)) × IsOfGiven new (of_opening name) s (IsReport q r s))
-      → IsDue limits q old new (unopened (book_named q.file (Some name))) (status_of r.outcome) (text_of q r)
+      → IsDue limits q put old new (unopened (book_named q.file (Some name))) (status_of r.outcome) (put r.lines r.outcome)
   -- memory ended at a command; where a call failed, at one whose lines and place what was given before tells
   of_memory : (lines : List PlainShown) → (number : ℕ) → (place : Place)
       → IsOfBooks limits q old.books (λ s. IsCutByMemory q s (MemoryDue s) (whole_library s) lines number place
       × (HasHeld old new ⊎ ((failure : Failure) × Counted (book_named q.file) old new failure
       × IsOfGiven new failure s (λ lib. IsCutByMemory q s (IsDueAt (walk_in s lib)) lib lines number place))))
-      → IsDue limits q old new memory 4 (text_with q lines (Stopped number place verdict.Memory))
-  of_no_memory : IsDue limits q old new memory 4 memory_at_once
+      → IsDue limits q put old new memory 4 (put lines (Stopped number place verdict.Memory))
+  of_no_memory : IsDue limits q put old new memory 4 memory_at_once

@@ -1,5 +1,5 @@
 -- For proofs: a book that was given from a shelf and lies in memory.
-use Rattle.std.specs.Prelude.{◌≡◌, ◌==◌, ◌⊎◌, ℕ, List, [], ◌∷◌, ◌++◌, drop, unwrap_or, if◌then◌else◌, Option, None, Some}
+use Rattle.std.specs.Prelude.{◌≡◌, ◌==◌, ◌⊎◌, ◌≤◌, ◌<◌, ℕ, List, [], ◌∷◌, ◌++◌, drop, length, unwrap_or, if◌then◌else◌, Option, None, Some}
 use Rattle.dk_io.specs.Bytes.{Books}
 use Rattle.dk_io.specs.Causes.{Rose}
 use Rattle.dk_model.specs.declared.limits.Limits.{Limits}
@@ -33,6 +33,12 @@ pub record GivesBook (old new : ShelfState) (bytes : List ℕ) (how : Giving) : 
   pub ends : EndsGiving how old new
   pub books : new.books ≡ old.books
   pub aside : new.aside ≡ old.aside
+
+-- only a book that is too long gives more bytes than so many
+abbrev pub FitsGiving : ℕ → List ℕ → Giving → Type 0
+FitsGiving most bytes giving.Whole = length bytes ≤ most
+FitsGiving most bytes giving.Failed = length bytes ≤ most
+FitsGiving most bytes giving.TooLong = most < length bytes
 
 -- ---- the shelf in memory
 

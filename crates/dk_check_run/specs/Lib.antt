@@ -1,10 +1,14 @@
 pub mod Books
+pub mod Certify
+pub mod Certifying
 pub mod Check
 pub mod Clauses
 pub mod Derivations
 pub mod Held
 pub mod Make
 pub mod Prune
+pub mod Recheck
+pub mod Rechecking
 pub mod Replay
 pub mod Roots
 pub mod Rows

@@ -5,7 +5,7 @@ use Rattle.dk_io.specs.Causes.{Rose}
 use Rattle.dk_io.specs.declared.sink.Sink.{Ghosts as Sink}
 use Rattle.dk_model.specs.declared.limits.Limits.{Limits}
 use Rattle.dk_model.specs.declared.code.Verdict.TheVariants as verdict
-use Rattle.command_line.specs.Requests.{CheckRequest, MakeRequest, Request, to_check, to_make, to_prune, to_replay}
+use Rattle.command_line.specs.Requests.{CheckRequest, MakeRequest, Request, to_certify, to_check, to_make, to_prune, to_recheck, to_replay}
 use Rattle.board_core.specs.declared.event.Place.{Place}
 use Rattle.verdict_book.specs.Report.{FileReport, PlainShown, concat, last_line, nowhere, report_of, status_of}
 use Rattle.verdict_book.specs.declared.outcome.Outcome.{Outcome}
@@ -89,6 +89,8 @@ abbrev pub OpensNothing : Option Request → Type 0
 OpensNothing None = Unit {0}
 OpensNothing (Some (to_check q)) = ⊥
 OpensNothing (Some (to_make q)) = Unit {0}
+OpensNothing (Some (to_certify q)) = ⊥
+OpensNothing (Some (to_recheck q)) = ⊥
 OpensNothing (Some (to_prune q)) = ⊥
 OpensNothing (Some (to_replay q)) = ⊥
 

@@ -12,12 +12,15 @@ ghost use Rattle.verdict_book.specs.Stops.{StopsAtFault};
 ghost use Rattle.theory_walk.specs.BookNames.{folder_of};
 ghost use Rattle.book_reader.specs.Shelves.{ShelfState, shelf_of};
 ghost use Rattle.dk_check_run.specs.Books.{standard_modules};
+ghost use Rattle.dk_check_run.specs.Certify.{IsClosedFor};
 ghost use Rattle.dk_check_run.specs.Roots.{IsRootOf};
 ghost use Rattle.dk_check_run.specs.Run.{Writes, made_line, memory_at_once, sink_of, text_of, unopened};
 ghost use Rattle.dk_check_run.specs.Summaries.{is_at_once, text_by};
 ghost use Rattle.dk_check_run.specs.Table.{Runs, RunsCommand};
 
+use crate::certifying::certify_book;
 use crate::pruning::prune_book;
+use crate::rechecking::recheck_book;
 use crate::replaying::replay_book;
 use board_core::Gate;
 use book_reader::{Root, own_module};
@@ -78,7 +81,7 @@ pub fn put_unopened<K: Sink>(sink: &mut K, file: &str) -> u8
 }
 
 // The part of a file's name up to and with its last slash, or nothing.
-fn folder_of(file: &str) -> &str
+pub fn folder_of(file: &str) -> &str
     ensures { result.now ≡ folder_of file.now }
 {
     match file.rfind('/') {
@@ -107,7 +110,7 @@ fn put_report<K: Sink>(sink: &mut K, checked: &CheckedBook, request: &CheckReque
 
 // How many files may be open, and how many modules opened besides the file.
 #[tactic(auto, unfolding(crate::specs::Books::standard_modules))]
-fn standard_modules() -> ModuleLimits
+pub fn standard_modules() -> ModuleLimits
     ensures value { result ≡ standard_modules }
     ensures files { (0 < result.files) × (result.files ≤ 64) }
 {
@@ -257,6 +260,7 @@ pub fn run_with<R: Threads + Wait + Sync, H: Shelf, K: Sink, G: Gate + Sync>(
 ) -> u8
     requires limit { limits.commands < 4294967294 }
     requires shelf { H.aside shelf.old ≡ [] }
+    requires closed { IsClosedFor (request_of (map string_bytes words.now)) (H.is_open shelf.old) }
     ensures { Runs limits (request_of (map string_bytes words.now))
         (shelf_of H.Shelf shelf.old) (shelf_of H.Shelf shelf.new)
         (sink_of K.Sink sink.old) (sink_of K.Sink sink.new) result }
@@ -269,6 +273,8 @@ pub fn run_with<R: Threads + Wait + Sync, H: Shelf, K: Sink, G: Gate + Sync>(
     match request {
         Request::Check(request) => check_file(rt, alloc, limits, shelf, sink, gate, &request),
         Request::Make(request) => check_theory(rt, alloc, limits, sink, gate, &request),
+        Request::Certify(request) => certify_book(rt, alloc, limits, shelf, sink, gate, &request),
+        Request::Recheck(request) => recheck_book(alloc, limits, shelf, sink, &request),
         Request::Prune(request) => prune_book(rt, alloc, limits, shelf, sink, gate, &request),
         Request::Replay(request) => replay_book(alloc, limits, shelf, sink, &request),
     }

@@ -3,7 +3,7 @@ ghost use Rattle.std.specs.Prelude.{◌≡◌, ◌≤◌, ◌<◌, ◌++◌, [],
 ghost use Rattle.dk_io.specs.Bytes.{Opens, TakesFront, put_aside};
 ghost use Rattle.dk_io.specs.Causes.{HasCause, HasCauseAt, MayRise, MayRiseAll};
 ghost use Rattle.book_reader.specs.Shelves.{shelf_of};
-ghost use Rattle.dk_check_run.specs.Held.{GivesBook};
+ghost use Rattle.dk_check_run.specs.Held.{FitsGiving, GivesBook};
 
 use dk_io::{Failed, Shelf};
 use dk_model::NoMemory;
@@ -29,8 +29,9 @@ pub struct Given {
 
 /// Takes the book that is open, up to one byte more than so many.
 pub fn take_book<H: Shelf>(alloc: Global, most: u32, shelf: &mut H) -> Result<Given, NoMemory>
-    ensures { IfOk result (λ given.
+    ensures gives { IfOk result (λ given.
         GivesBook (shelf_of H.Shelf shelf.old) (shelf_of H.Shelf shelf.new) given.bytes.items given.how) }
+    ensures fits { IfOk result (λ given. FitsGiving most given.bytes.items given.how) }
 {
     let mut bytes = Vec::new(alloc);
     let mut buf = [0u8; 4096];

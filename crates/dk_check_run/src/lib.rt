@@ -2,9 +2,11 @@
 #![tactic(auto)]
 
 mod answering;
+mod certifying;
 mod gate;
 mod held;
 mod pruning;
+mod rechecking;
 mod replaying;
 mod top;
 
@@ -15,6 +17,8 @@ pub use gate::NoGate;
 pub use top::run;
 pub use verdict_book::status;
 
+#[cfg(test)]
+mod certify_tests;
 #[cfg(test)]
 mod failure_tests;
 #[cfg(test)]
@@ -29,6 +33,8 @@ mod module_tests;
 mod prune_tests;
 #[cfg(test)]
 mod query_rows;
+#[cfg(test)]
+mod recheck_tests;
 #[cfg(test)]
 mod replay_tests;
 #[cfg(test)]

@@ -11,9 +11,9 @@ const THEOREM: &str = "a : Type. b : Type. x : a. y : b. thm t : a := x.";
 
 const RULE: &str = "a : Type. def f : Type. x : a. [] f --> a. y : f. z : a.";
 
-const TWO: &str = "a : Type.\nb : Type.\n";
+pub(crate) const TWO: &str = "a : Type.\nb : Type.\n";
 
-const WRONG: &str = "a : Type. b : Type. x : a. thm t : b := x.\n";
+pub(crate) const WRONG: &str = "a : Type. b : Type. x : a. thm t : b := x.\n";
 
 // The words, the file, the status and what is written.
 const ROWS: [(&str, &str, u8, &str); 13] = [
@@ -117,7 +117,7 @@ fn first_call<R: Threads + Wait + Sync>(rt: &R, alloc: Global) -> Result<Option<
 }
 
 /// The first write of a byte whose failure isn't answered by 5, with the bytes before it taken.
-fn first_write<R: Threads + Wait + Sync>(
+pub(crate) fn first_write<R: Threads + Wait + Sync>(
     rt: &R,
     alloc: Global,
     words: &str,

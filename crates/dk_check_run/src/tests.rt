@@ -1,5 +1,5 @@
 //! Whole reports: what the program is asked, and what it answers.
-ghost use Rattle.std.specs.Prelude.{◌≡◌, ◌<◌, [], IfOk};
+ghost use Rattle.std.specs.Prelude.{◌≡◌, ◌<◌, [], IfOk, false};
 
 use crate::file_rows::{ASKED, FILES, LONG, MADE};
 use crate::module_rows::Books;
@@ -55,7 +55,8 @@ pub(crate) fn book(alloc: Global, name: &str, text: &[u8]) -> Result<Book, NoMem
 
 fn shelf_of(alloc: Global, row: &Row<'_>) -> Result<MemShelf, NoMemory>
     requires { 0 < row.now.piece }
-    ensures { IfOk result (λ s. s.aside ≡ []) }
+    ensures aside { IfOk result (λ s. s.aside ≡ []) }
+    ensures closed { IfOk result (λ s. s.is_open ≡ false) }
 {
     let mut books = Vec::new(alloc);
     for (name, text) in row.books {
