@@ -10,9 +10,10 @@ mod place;
 mod token;
 mod words;
 
+pub use class::{Class, classify};
 pub use fed::Fed;
 pub use laws::{front_law, pieces_law, place_law};
 pub use lexer::{Exhausted, Lexer};
 pub use place::Place;
 pub use token::{Sign, Token, TokenKind};
-pub use words::is_plain_name;
+pub use words::{command_after, is_plain_name, is_wildcard, kind_of};

@@ -1,0 +1,9 @@
+pub mod Views
+pub mod Quotes
+pub mod Comments
+pub mod Settled
+pub mod Reading
+pub mod Bounds
+pub mod Places
+pub mod Steps
+pub mod Lexers
