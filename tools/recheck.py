@@ -39,9 +39,10 @@ class Certificate:
         self.advance()
 
     def advance(self):
-        """Reads the next line; None at the end, and for a line without its LF or past the limit."""
+        """Reads the next line; None at the end, and for a line without its LF or past the limit, whose front counts where it begins."""
         line = self.file.readline()
         self.count += len(line)
+        self.front = line[: max(0, len(line) - max(0, self.count - MOST_BYTES))]
         self.line = line[:-1] if line.endswith(b"\n") and self.count <= MOST_BYTES else None
         self.over = line == b""
 
@@ -55,7 +56,7 @@ class Certificate:
         return values
 
     def begins(self, *letters):
-        return self.line is not None and any(self.line.startswith(x.encode() + b" ") for x in letters)
+        return any(self.front.startswith(x.encode() + b" ") for x in letters)
 
 
 class Node:
