@@ -13,7 +13,7 @@ use Rattle.theory_walk.specs.BookReadings.{book_reading, book_tail, due_line, re
 use Rattle.theory_walk.specs.Libraries.{BookReading, BookStep, BookTail, Key, Library, fault, need, opened, steps_in, unopened, unread, whole}
 use Rattle.theory_walk.specs.Lines.{IsNextLine}
 use Rattle.theory_walk.specs.Walks.{End, Placed, Reached, Spot, Walk, ends, goes_on, needs_in, not_opened, refused_at, standing_of, stopped, unread_at, walk_new, walk_opened, with_commands}
-use Rattle.file_reader.specs.Progress.{IsBehind, IsUnread, reading}
+use Rattle.file_reader.specs.Progress.{IsBehind, IsUnread, ending_at, reading}
 use Rattle.book_reader.specs.Ends.{BeginsWalk, walk_with}
 use Rattle.book_reader.specs.Shelved.{AreLeft, Given, IsCut, MemoryDue, Setting, cut_behind, given_library, same_key, walk_in, whole_library, without}
 use Rattle.book_reader.specs.Shelves.{ShelfState}
@@ -238,7 +238,7 @@ module _ (s : Setting) where
   givens_of [] (d ∷ ds) lefts are = []
   givens_of (o ∷ os) [] lefts are = []
   givens_of (o ∷ os) (d ∷ ds) [] are = []
-  givens_of (o ∷ os) (d ∷ ds) (l ∷ lefts) are = record { book = o.book; bytes = are.0.behind.given; ending = are.0.behind.ending } ∷ givens_of os ds lefts are.1
+  givens_of (o ∷ os) (d ∷ ds) (l ∷ lefts) are = record { book = o.book; bytes = are.0.behind.given; ending = ending_at o.reader } ∷ givens_of os ds lefts are.1
 
   pub are_left : (os : List Open) (ds : List (List WrittenCommand)) (lefts : List (Option (List ℕ))) (are : AreOpen s os ds lefts) → AreLeft s (givens_of os ds lefts are) lefts
   are_left [] [] lefts are = tt
@@ -275,7 +275,7 @@ module _ (s : Setting) where
   rests_given (o ∷ os) (d ∷ ds) (l ∷ lefts) are distinct =
       let later = rests_given os ds lefts are.1 distinct.1 in
       let b = begins_given s.limits are.0.bytes d l o.reader are.0.behind in
-      let g : Given = record { book = o.book; bytes = are.0.behind.given; ending = are.0.behind.ending } in
+      let g : Given = record { book = o.book; bytes = are.0.behind.given; ending = ending_at o.reader } in
       (rest_behind o b.0 (book_reading s.limits g.bytes g.ending).tail ∷ later.0, rests_cons o os d ds g (givens_of os ds lefts are.1) b.0 refl distinct.0 b.1 later.0 later.1)
 
   -- a book that isn't open is read to its end
@@ -285,7 +285,7 @@ module _ (s : Setting) where
   not_open_whole (o ∷ os) [] lefts are k not_so = absurd are
   not_open_whole (o ∷ os) (d ∷ ds) [] are k not_so = absurd are
   not_open_whole (o ∷ os) (d ∷ ds) (l ∷ lefts) are k not_so =
-      ap (λ b. if b then opened (book_reading s.limits are.0.behind.given are.0.behind.ending) else given_library s (givens_of os ds lefts are.1) k) (first_false (same_key o.book k) (has_key (books_in os) k) not_so)
+      ap (λ b. if b then opened (book_reading s.limits are.0.behind.given (ending_at o.reader)) else given_library s (givens_of os ds lefts are.1) k) (first_false (same_key o.book k) (has_key (books_in os) k) not_so)
       ∙ not_open_whole os ds lefts are.1 k (second_false (same_key o.book k) (has_key (books_in os) k) not_so)
 
   -- ---- an opening failed

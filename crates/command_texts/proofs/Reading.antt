@@ -13,8 +13,7 @@ use Rattle.dk_parser.specs.Steps.{read_tokens}
 use Rattle.dk_parser.specs.Written.{WrittenCommand}
 use Rattle.dk_parser.proofs.Exact.{exact}
 use Rattle.text_law.specs.Cuts.{begin_of, end_of, AreCut, cut_none, cut_command, AreTextsOf, IsReadAs}
-use Rattle.text_law.proofs.Opens.{keeps_open}
-use Rattle.text_law.proofs.Dots.{AllOpen}
+use Rattle.text_law.proofs.Dots.{AllOpen, keeps_open}
 use Rattle.text_law.proofs.Firsts.{EndsAtDot, spelt_dot}
 use Rattle.text_law.proofs.Choices.{end_is}
 use Rattle.text_law.proofs.Whole.{IsWholeFile, whole_file}

@@ -1,14 +1,10 @@
 -- For proofs: the places of the texts that some tokens end, token by token.
 use Rattle.std.specs.Prelude.{ℕ, ◌+◌, ◌≡◌, List, [], ◌∷◌, ◌++◌, Option, Some, None, unwrap_or}
-use Rattle.dk_model.specs.declared.limits.Limits.{Limits}
 use Rattle.dk_lexer.specs.declared.token.Token.{Token}
 use Rattle.dk_lexer.specs.declared.token.TokenKind.{TokenKind}
 use Rattle.dk_lexer.specs.declared.token.TokenKind.TheVariants as kind
 use Rattle.dk_lexer.specs.declared.token.Sign.TheVariants as sign
-use Rattle.dk_lexer.specs.Tokens.{broken, tokens}
-use Rattle.dk_lexer.specs.Steps.{lexer_after}
 use Rattle.command_texts.specs.declared.span.Span.{Span}
-use Rattle.command_texts.specs.declared.cutting.Cutting.{Cutting}
 use Rattle.command_texts.specs.declared.cutting.Texts.{Texts}
 
 -- the text that a token at this offset ends, where one began there or begins with it; a dot alone ends one
@@ -30,13 +26,7 @@ abbrev pub begun_after : Option ℕ → List Token → Option ℕ
 begun_after begun [] = begun
 begun_after begun (t ∷ ts) = begun_after (begun_behind t.kind t.offset begun) ts
 
--- these tokens were looked at
-pub record Adds (old : Texts) (ts : List Token) (new : Texts) : Type 0 where
-  pub ended : new.ended.items ≡ old.ended.items ++ spans_of old.begun ts
-  pub begun : new.begun ≡ begun_after old.begun ts
-
--- these bytes were read, and their tokens looked at
-pub record HasCut (limits : Limits) (before : List ℕ) (c : Cutting) : Type 0 where
-  pub lexer : c.lexer ≡ lexer_after limits before
-  pub ended : c.texts.ended.items ≡ spans_of None (tokens limits before broken).tokens
-  pub begun : c.texts.begun ≡ begun_after None (tokens limits before broken).tokens
+-- a token was looked at
+pub record Adds (old : Texts) (k : TokenKind) (offset : ℕ) (new : Texts) : Type 0 where
+  pub ended : new.ended.items ≡ old.ended.items ++ ended_by k offset old.begun
+  pub begun : new.begun ≡ begun_behind k offset old.begun

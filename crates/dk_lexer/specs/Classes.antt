@@ -41,3 +41,10 @@ in_name _ = false
 abbrev pub is_letter_class : Class → Bool
 is_letter_class class.Letter = true
 is_letter_class _ = false
+
+-- may it begin a name
+abbrev pub begins_name : Class → Bool
+begins_name class.Letter = true
+begins_name class.Digit = true
+begins_name class.Underscore = true
+begins_name _ = false

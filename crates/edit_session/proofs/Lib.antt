@@ -3,6 +3,7 @@ pub mod Keeping
 pub mod Reading
 pub mod Answered
 pub mod Nodes
+pub mod Given
 pub mod OneLine
 pub mod Needless
 pub mod Lines

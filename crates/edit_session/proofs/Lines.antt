@@ -1,17 +1,11 @@
 -- The texts of a session, each with a newline, are read as just their commands, one a line.
-use Rattle.std.proofs.Common.{List, [], ◌∷◌, ◌++◌, length, append-nil, ℕ, ◌≡◌, ◌<◌, ◌≤◌, ◌+◌, min, Bool, true, false, not, ◌&&◌, ◌==◌, Option, Some, None, refl, ap, sym, subst, ◌∙◌, arith}
+use Rattle.std.proofs.Common.{List, [], ◌∷◌, ◌++◌, length, map, append-nil, append_assoc, length-append, ℕ, ◌≡◌, ◌≤◌, ◌+◌, min, Bool, true, false, not, ◌&&◌, ◌==◌, Option, Some, None, refl, ap, sym, subst, ◌∙◌, arith}
 use Rattle.std.proofs.lemmas.List.Elements.{All-head, All-tail}
 use Rattle.std.specs.List.{list_any}
 use Rattle.dk_model.specs.declared.limits.Limits.{Limits}
 use Rattle.dk_lexer.specs.declared.token.Token.{Token}
-use Rattle.dk_lexer.specs.declared.part.Part.TheVariants as part
-use Rattle.dk_lexer.specs.declared.lexer.Lexer.{Lexer}
-use Rattle.dk_lexer.specs.Tokens.{input_limit, next_line, tokens, broken, whole}
-use Rattle.dk_lexer.specs.Given.{given, AddsTokens}
-use Rattle.dk_lexer.specs.Parts.{fault_of}
-use Rattle.dk_lexer.specs.Pieces.{piece_tokens, pieces_from, joined}
-use Rattle.dk_lexer.specs.Steps.{Step, step, start, lexer_from, lexer_after, ends, part_ends}
-use Rattle.dk_lexer.proofs.Agree.{from_append, adds_end}
+use Rattle.dk_lexer.specs.declared.place.Place.{Place}
+use Rattle.dk_lexer.specs.Tokens.{Lexed, input_limit, nothing_at, tokens, tokens_from, whole}
 use Rattle.dk_parser.specs.FileReading.{Reading, Tail, read, reading_of}
 use Rattle.dk_parser.specs.FileReading as reading
 use Rattle.dk_parser.specs.Grammar.{terminals, first_line, SpellsForm}
@@ -21,18 +15,16 @@ use Rattle.dk_parser.specs.Reading.{TokenReading, Reads, reads_nothing, reads_co
 use Rattle.dk_parser.specs.Steps.{read_tokens}
 use Rattle.dk_parser.specs.Written.{WrittenForm, WrittenCommand}
 use Rattle.dk_parser.proofs.Exact.{only}
-use Rattle.text_law.specs.Cutting.{lines}
+use Rattle.one_lexer.specs.Reading.{adds}
 use Rattle.text_law.specs.Texts.{IsText}
 use Rattle.text_law.proofs.Alone.{alone as one_command_text}
-use Rattle.text_law.proofs.Between.{IsBetween, nothing_moved, none_moved, fresh, fresh_step, fresh_moved, length_both}
 use Rattle.text_law.proofs.Firsts.{EndsAtDot, nothing_there, spelt_dot}
-use Rattle.text_law.proofs.Moves.{AreAlike}
-use Rattle.text_law.proofs.Pieces.{PieceAlike, piece_alike}
-use Rattle.text_law.proofs.Texts.{pieces_are, start_between, terminals_alike}
+use Rattle.text_law.proofs.Moved.{moved_place, moved_token, place_at, reads_behind}
+use Rattle.text_law.proofs.Texts.{terminals_moved}
 use Rattle.edit_session.specs.Forms.{AreCommandTexts, CommandsNeedNone, Fit, TextsAreCommands, numbered}
 use Rattle.edit_session.specs.Texts.{bytes_of, form_of, forms_of, is_command_text, is_plain, is_qualified, maybe_form, only_form}
 use Rattle.edit_session.proofs.Needless.{first_none}
-use Rattle.edit_session.proofs.OneLine.{AllOn, LineAt, line_at}
+use Rattle.edit_session.proofs.OneLine.{AllOn, LineAlone, line_alone, moved_on}
 
 -- ---- one text
 
@@ -106,8 +98,8 @@ are_lines limits [] h f = lines_none
 are_lines limits (text ∷ texts) h f =
     let c : IsCommand limits text = command_text limits text (All-head (λ text. is_command_text limits text ≡ true) text texts h) in
     let one : IsOne (read limits text whole).commands (read limits text whole).tail c.form = is_one (read limits text whole).commands (read limits text whole).tail c.form c.form_is in
-    let len : length ((text ++ 10 ∷ []) ++ bytes_of texts) ≡ length (text ++ 10 ∷ []) + length (bytes_of texts) = length_both (text ++ 10 ∷ []) (bytes_of texts) in
-    let more : length (text ++ 10 ∷ []) ≡ length text + 1 = length_both text (10 ∷ []) in
+    let len : length ((text ++ 10 ∷ []) ++ bytes_of texts) ≡ length (text ++ 10 ∷ []) + length (bytes_of texts) = length-append (text ++ 10 ∷ []) (bytes_of texts) in
+    let more : length (text ++ 10 ∷ []) ≡ length text + 1 = length-append text (10 ∷ []) in
     let is_text : IsText limits (text ++ 10 ∷ []) one.command.form = one_command_text limits text one.command (λ i. record { commands = one.commands_are i; tail = one.tail_is i }) (omega (arith, len, more, f)) in
     subst (AreLines limits (text ∷ texts)) (forms_more limits text texts c.form c.form_is)
     (lines_more (subst (IsText limits (text ++ 10 ∷ [])) one.form_is is_text) c.one_line
@@ -123,93 +115,82 @@ forms_count limits (text ∷ texts) h =
 
 -- ---- a text behind others
 
-record TextAt (limits : Limits) (text : List ℕ) (o : ℕ) (m : Lexer) : Type 0 where
-  pub tokens : AreAlike (piece_tokens (start limits) text) (piece_tokens m text)
-  pub after : IsBetween limits (o + length text) (lexer_from m text)
-
--- wherever a text stands between commands, its tokens are alike, and the lexer then stands between commands
-text_at : (limits : Limits) (b : ℕ) (bs : List ℕ) (o : ℕ) (m : Lexer) → (lexer_from (start limits) (b ∷ bs)).part ≡ part.Nothing → (lexer_from (start limits) (b ∷ bs)).command ≡ None
-    → IsBetween limits o m → o + length (b ∷ bs) ≤ input_limit limits → TextAt limits (b ∷ bs) o m
-text_at limits b bs o m p c i f =
-    let same : step m b ≡ step (fresh m) b = fresh_step m b i.part in
-    let r : PieceAlike o (start limits) (fresh m) (b ∷ bs) = piece_alike (b ∷ bs) (fresh_moved limits o m i) (subst (λ (z : Limits). m.here.offset + length (b ∷ bs) ≤ input_limit z) (sym i.limits_are) (let e : m.here.offset ≡ o = i.here in omega arith)) (ap fault_of p) in
-    let ended : IsBetween limits (o + length (b ∷ bs)) (lexer_from (fresh m) (b ∷ bs)) = record {
-      limits_are = r.limits ∙ i.limits_are;
-      part = nothing_moved r.moved.part p;
-      command = none_moved r.moved.command c;
-      here = r.here ∙ ap (λ n. n + length (b ∷ bs)) i.here;
-    } in
-    record {
-      tokens = subst (λ (z : Step). AreAlike (piece_tokens (start limits) (b ∷ bs)) (given z.fed ++ piece_tokens z.lexer bs)) (sym same) r.tokens;
-      after = subst (λ (z : Step). IsBetween limits (o + length (b ∷ bs)) (lexer_from z.lexer bs)) (sym same) ended;
-    }
-
-line_text_at : (limits : Limits) (text : List ℕ) (form : WrittenForm) (o : ℕ) (m : Lexer) → IsText limits (text ++ 10 ∷ []) form → IsBetween limits o m → o + length (text ++ 10 ∷ []) ≤ input_limit limits → TextAt limits (text ++ 10 ∷ []) o m
-line_text_at limits [] form o m t i f = text_at limits 10 [] o m t.nothing_begun t.command_ended i f
-line_text_at limits (b ∷ bs) form o m t i f = text_at limits b (bs ++ 10 ∷ []) o m t.nothing_begun t.command_ended i f
-
 -- the first of tokens that spell a command is on their line
 first_on : (n : ℕ) (ts : List Token) → EndsAtDot ts → AllOn n ts → first_line ts ≡ n
 first_on n [] d h = absurd (nothing_there d [] refl)
 first_on n (t ∷ ts) d h = h.0
 
+-- what the bytes from a place between commands on give, where these are all that is left of so many
+abbrev from : Limits → ℕ → ℕ → ℕ → List ℕ → Lexed
+from limits total D L bytes = tokens_from limits whole total (place_at D L) None (length bytes) bytes
+
 -- the texts behind some lines
-record TextsAt (limits : Limits) (texts : List (List ℕ)) (forms : List WrittenForm) (n o : ℕ) (m : Lexer) : Type 0 where
-  pub reads : Reads limits (pieces_from m (lines texts)) (record { commands = numbered n forms; begun = None; fault = None })
-  pub after : IsBetween limits (o + length (joined (lines texts))) (lexer_from m (joined (lines texts)))
+record TextsAt (limits : Limits) (bytes : List ℕ) (forms : List WrittenForm) (total D L : ℕ) : Type 0 where
+  pub ts : List Token
+  pub last : Place
+  pub given : from limits total D L bytes ≡ adds ts (nothing_at last)
+  pub reads : Reads limits ts (record { commands = numbered (1 + L) forms; begun = None; fault = None })
 
-next_is : (n : ℕ) → n < 4294967295 → next_line n ≡ n + 1
-next_is n h = let e : min (n + 1) 4294967295 ≡ n + 1 = omega arith in e
+-- what a line gives, and then what those behind it do
+given_both : (ts us : List Token) (last : Place) {x y : Lexed} → x ≡ adds ts y → y ≡ adds us (nothing_at last) → x ≡ adds (ts ++ us) (nothing_at last)
+given_both ts us last e f = e ∙ ap (adds ts) f ∙ ap (λ (xs : List Token). let z : Lexed = record { tokens = xs; fault = None; line = last.line } in z) (sym (append_assoc ts us []))
 
-texts_at : (limits : Limits) {texts : List (List ℕ)} {forms : List WrittenForm} → AreLines limits texts forms → (n o : ℕ) (m : Lexer) → IsBetween limits o m → m.here.line ≡ n → n ≤ o + 1 → o + length (joined (lines texts)) ≤ input_limit limits
-    → TextsAt limits texts forms n o m
-texts_at limits lines_none n o m i l s f = record { reads = reads_nothing; after = record { limits_are = i.limits_are; part = i.part; command = i.command; here = i.here ∙ (let e : o ≡ o + 0 = omega arith in e) } }
-texts_at limits (lines_more {text} {form} {texts} {forms} t one rest) n o m i l s f =
+-- one more line before them
+line_at : (limits : Limits) (text : List ℕ) (form : WrittenForm) (behind : List ℕ) (forms : List WrittenForm) (total D L : ℕ) → IsText limits (text ++ 10 ∷ []) form → has_newline text ≡ false → length ((text ++ 10 ∷ []) ++ behind) + D ≡ total
+    → total ≤ input_limit limits → L ≤ D → TextsAt limits behind forms total (D + length (text ++ 10 ∷ [])) (1 + L) → TextsAt limits ((text ++ 10 ∷ []) ++ behind) (form ∷ forms) total D L
+line_at limits text form behind forms total D L t one size fits few y =
     let line : List ℕ = text ++ 10 ∷ [] in
-    let len : length (line ++ joined (lines texts)) ≡ length line + length (joined (lines texts)) = length_both line (joined (lines texts)) in
-    let more : length line ≡ length text + 1 = length_both text (10 ∷ []) in
-    let x : TextAt limits line o m = line_text_at limits text form o m t i (omega (arith, len)) in
-    let at : LineAt m line = line_at limits o m text i (omega (arith, len)) one x.after.part in
-    let us : List Token = piece_tokens m line in
-    let same : terminals (piece_tokens (start limits) line) ≡ terminals us = terminals_alike x.tokens in
+    let len : length (line ++ behind) ≡ length line + length behind = length-append line behind in
+    let more : length line ≡ length text + 1 = length-append text (10 ∷ []) in
+    let most : input_limit limits ≤ 4294967294 = (let q : min limits.input_bytes 4294967294 ≤ 4294967294 = omega arith in q) in
+    let alone : LineAlone t.given t.behind = line_alone limits text t.given t.behind t.reads one in
+    let ends : t.behind.line ≡ 2 = alone.after in
+    let all : length line ≡ t.behind.offset + 0 = t.reads.total in
+    let us : List Token = map (moved_token D L) t.given in
+    let same : terminals t.given ≡ terminals us = sym (terminals_moved D L t.given) in
     let spells : SpellsForm (terminals us) form = subst (λ xs. SpellsForm xs form) same t.spells in
-    let first : first_line us ≡ n = first_on n us (spelt_dot spells) (subst (λ k. AllOn k us) l at.tokens) in
-    let small : n < 4294967295 = omega (arith, len, more) in
-    let below : (lexer_from m line).here.line ≡ n + 1 = at.after ∙ ap next_line l ∙ next_is n small in
-    let y : TextsAt limits texts forms (n + 1) (o + length line) (lexer_from m line) = texts_at limits rest (n + 1) (o + length line) (lexer_from m line) x.after below (omega (arith, more)) (omega (arith, len)) in
+    let first : first_line us ≡ 1 + L = first_on (1 + L) us (spelt_dot spells) (moved_on D L t.given alone.tokens) in
+    let place : moved_place D L t.behind ≡ place_at (D + length line) (1 + L) =
+    (λ i. record { offset = (let q : t.behind.offset + D ≡ 0 + (D + length line) = omega (arith, all) in q) i; line = (let q : t.behind.line + L ≡ 1 + (1 + L) = omega (arith, ends) in q) i }) in
+    let first_given : from limits total D L (line ++ behind) ≡ adds us (tokens_from limits whole total (moved_place D L t.behind) None (length behind) behind) =
+    reads_behind limits line behind t.given t.behind total D L t.reads size fits (omega (arith, size, fits, most, few)) (omega (arith, len, more, size, fits, most, few, ends)) in
+    let rest_given : tokens_from limits whole total (moved_place D L t.behind) None (length behind) behind ≡ adds y.ts (nothing_at y.last) =
+    ap (λ (p : Place). tokens_from limits whole total p None (length behind) behind) place ∙ y.given in
     record {
-      reads = reads_command (record { line = sym first; form = spells }) (subst (IsWithin limits.levels) same t.within) y.reads;
-      after = subst (λ z. IsBetween limits (o + length (line ++ joined (lines texts))) z) (sym (from_append m line (joined (lines texts))))
-          (subst (λ k. IsBetween limits k (lexer_from (lexer_from m line) (joined (lines texts)))) (let e : o + length line + length (joined (lines texts)) ≡ o + length (line ++ joined (lines texts)) = omega (arith, len) in e) y.after);
+      ts = us ++ y.ts;
+      last = y.last;
+      given = given_both us y.ts y.last first_given rest_given;
+      reads = reads_command (record { line = sym first; form = spells }) (subst (IsWithin limits.levels) same t.within)
+          (subst (λ n. Reads limits y.ts (record { commands = numbered n forms; begun = None; fault = None })) (let q : 1 + (1 + L) ≡ 1 + L + 1 = omega arith in q) y.reads);
     }
 
+texts_at : (limits : Limits) {texts : List (List ℕ)} {forms : List WrittenForm} → AreLines limits texts forms → (total D L : ℕ) → length (bytes_of texts) + D ≡ total → total ≤ input_limit limits → L ≤ D → TextsAt limits (bytes_of texts) forms total D L
+texts_at limits lines_none total D L size fits few = record { ts = []; last = place_at D L; given = refl; reads = reads_nothing }
+texts_at limits (lines_more {text} {form} {texts} {forms} t one rest) total D L size fits few =
+    let line : List ℕ = text ++ 10 ∷ [] in
+    let len : length (line ++ bytes_of texts) ≡ length line + length (bytes_of texts) = length-append line (bytes_of texts) in
+    let more : length line ≡ length text + 1 = length-append text (10 ∷ []) in
+    line_at limits text form (bytes_of texts) forms total D L t one size fits few (texts_at limits rest total (D + length line) (1 + L) (omega (arith, len, size)) fits (omega (arith, few, more)))
+
 -- ---- what they are read as
-
-bytes_are : (texts : List (List ℕ)) → joined (lines texts) ≡ bytes_of texts
-bytes_are [] = refl
-bytes_are (text ∷ texts) = ap (λ bs. (text ++ 10 ∷ []) ++ bs) (bytes_are texts)
-
-none_begun : (limits : Limits) (bytes : List ℕ) → (lexer_from (start limits) bytes).part ≡ part.Nothing → ends (lexer_after limits bytes) ≡ part_ends (lexer_from (start limits) bytes) part.Nothing
-unfolding lexer_after
-none_begun limits bytes e = ap (part_ends (lexer_from (start limits) bytes)) e
 
 abbrev AreRead : Limits → List ℕ → List WrittenForm → Type 0
 AreRead limits bytes forms = read limits bytes whole ≡ (let r : Reading = record { commands = numbered 1 forms; tail = reading.whole } in r)
 
-lines_read : (limits : Limits) (texts : List (List ℕ)) (forms : List WrittenForm) → AreLines limits texts forms → length (joined (lines texts)) ≤ input_limit limits → AreRead limits (joined (lines texts)) forms
+tokens_are : (limits : Limits) (bytes : List ℕ) → tokens limits bytes whole ≡ from limits (length bytes) 0 0 bytes
+unfolding tokens
+tokens_are limits bytes = refl
+
+lines_read : (limits : Limits) (texts : List (List ℕ)) (forms : List WrittenForm) → AreLines limits texts forms → length (bytes_of texts) ≤ input_limit limits → AreRead limits (bytes_of texts) forms
 lines_read limits texts forms t f =
-    let bytes : List ℕ = joined (lines texts) in
-    let x : TextsAt limits texts forms 1 0 (start limits) = texts_at limits t 1 0 (start limits) (start_between limits) refl (omega arith) (omega arith) in
-    let none : ends (lexer_after limits bytes) ≡ part_ends (lexer_from (start limits) bytes) part.Nothing = none_begun limits bytes x.after.part in
-    let adds : AddsTokens (tokens limits bytes broken) (ends (lexer_after limits bytes)) (tokens limits bytes whole) = adds_end limits bytes in
-    let toks : pieces_from (start limits) (lines texts) ≡ (tokens limits bytes whole).tokens =
-    pieces_are limits (lines texts) ∙ sym (adds.tokens ∙ ap (λ fed. (tokens limits bytes broken).tokens ++ given fed) none ∙ append-nil (tokens limits bytes broken).tokens) in
-    let fault : (tokens limits bytes whole).fault ≡ None = adds.fault ∙ ap (λ fed. fed.fault) none in
+    let bytes : List ℕ = bytes_of texts in
+    let x : TextsAt limits bytes forms (length bytes) 0 0 = texts_at limits t (length bytes) 0 0 (omega arith) f (omega arith) in
+    let all : tokens limits bytes whole ≡ adds x.ts (nothing_at x.last) = tokens_are limits bytes ∙ x.given in
+    let toks : (tokens limits bytes whole).tokens ≡ x.ts = ap (λ (z : Lexed). z.tokens) all ∙ append-nil x.ts in
     let r : TokenReading = record { commands = numbered 1 forms; begun = None; fault = None } in
-    let exact : r ≡ read_tokens limits (tokens limits bytes whole).tokens = only (subst (λ ts. Reads limits ts r) toks x.reads) in
+    let exact : r ≡ read_tokens limits (tokens limits bytes whole).tokens = only (subst (λ ts. Reads limits ts r) (sym toks) x.reads) in
     ap (λ z. reading_of z (tokens limits bytes whole) whole) (sym exact)
-    ∙ (λ i. record { commands = numbered 1 forms; tail = reading.tail_by_bytes (fault i) (tokens limits bytes whole).line whole None })
+    ∙ ap (λ (z : Lexed). reading_of r z whole) all
 
 pub texts_are_commands : TextsAreCommands
-texts_are_commands limits texts h f = subst (λ bs. AreRead limits bs (forms_of limits texts)) (bytes_are texts)
-    (lines_read limits texts (forms_of limits texts) (are_lines limits texts h f) (subst (λ bs. length bs ≤ input_limit limits) (sym (bytes_are texts)) f))
+texts_are_commands limits texts h f = lines_read limits texts (forms_of limits texts) (are_lines limits texts h f) f

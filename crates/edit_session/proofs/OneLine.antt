@@ -1,25 +1,15 @@
--- A text of one line with its newline, wherever it stands between commands: its tokens are on that line, and the next line follows.
-use Rattle.std.proofs.Common.{List, [], ◌∷◌, ◌++◌, length, append-nil, ℕ, ◌≡◌, ◌≤◌, ◌+◌, Bool, true, false, nat_le, nat_lt, ◌==◌, ◌||◌, Option, Some, None, refl, ap, sym, subst, ◌∙◌, if◌then◌else◌}
+-- A text of one line with its newline: its tokens are on that line, and the next line follows.
+use Rattle.std.proofs.Common.{List, [], ◌∷◌, ◌++◌, length, map, append-nil, ℕ, ◌≡◌, ◌+◌, Bool, true, false, nat_le, nat_lt, ◌==◌, ◌||◌, Option, Some, None, refl, ap, sym, subst, ◌∙◌, if◌then◌else◌}
 use Rattle.std.specs.List.{list_any}
 use Rattle.dk_model.specs.declared.code.Code.{Code}
 use Rattle.dk_model.specs.declared.code.Code.TheVariants.{E03, E07}
 use Rattle.dk_model.specs.declared.limits.Limits.{Limits}
 use Rattle.dk_lexer.specs.declared.token.Token.{Token}
-use Rattle.dk_lexer.specs.declared.fed.Fed.{Fed}
-use Rattle.dk_lexer.specs.declared.part.Part.{Part}
-use Rattle.dk_lexer.specs.declared.part.Part.TheVariants as part
 use Rattle.dk_lexer.specs.declared.place.Place.{Place}
-use Rattle.dk_lexer.specs.declared.lexer.Lexer.{Lexer}
 use Rattle.dk_lexer.specs.Spelling.{Spelling, blank, token, run_and_dot, wrong, comment_open, unsettled, late, kind_of, spelled}
-use Rattle.dk_lexer.specs.Tokens.{whole, broken, Lexed, Bound, bound, next_line, behind, command_after, input_limit, Setting, fault_at, nothing_at, gives, token_at, dot_at, by_bound, within, at_end, late_bound, outcome, outcome_at, tokens_from}
-use Rattle.dk_lexer.specs.Given.{given, with_token}
-use Rattle.dk_lexer.specs.Pieces.{piece_tokens}
-use Rattle.dk_lexer.specs.Steps.{closed_part, ends, line_of, lexer_from, part_ends, step}
-use Rattle.dk_lexer.proofs.Agree.{run_append, run_fault, run_line}
-use Rattle.dk_lexer.proofs.Bounds.{bound_none}
-use Rattle.dk_lexer.proofs.Ends.{all_agree}
-use Rattle.dk_lexer.proofs.Runs.{Fits, run, with_part}
-use Rattle.text_law.proofs.Between.{IsBetween}
+use Rattle.dk_lexer.specs.Tokens.{whole, Lexed, Bound, bound, next_line, behind, command_after, input_limit, Setting, fault_at, nothing_at, gives, token_at, dot_at, by_bound, within, at_end, late_bound, outcome, tokens, tokens_from}
+use Rattle.one_lexer.specs.Reading.{Reads, adds}
+use Rattle.text_law.proofs.Moved.{begun, moved_token, passed}
 
 some_none : {A B : Type 0} {a : A} → Some a ≡ None → B
 some_none e = absurd cc
@@ -29,10 +19,6 @@ some_none e = absurd cc
 abbrev pub AllOn : ℕ → List Token → Type 0
 AllOn n [] = Unit {0}
 AllOn n (t ∷ ts) = (t.line ≡ n) × AllOn n ts
-
-front_on : (n : ℕ) (ts us : List Token) → AllOn n (ts ++ us) → AllOn n ts
-front_on n [] us h = tt
-front_on n (t ∷ ts) us h = (h.0, front_on n ts us h.1)
 
 -- the tokens are on this line, and where there is no fault the bytes end on the next one
 record OnLine (n : ℕ) (x : Lexed) : Type 0 where
@@ -91,19 +77,12 @@ module _ (limits : Limits) (total : ℕ) where
   abbrev from : Place → Option ℕ → ℕ → List ℕ → Lexed
   from here command left bs = tokens_from limits whole total here command left bs
 
-  passed : (here : Place) (command : Option ℕ) (left b : ℕ) (bs : List ℕ) → nat_le left (length bs) ≡ true → from here command left (b ∷ bs) ≡ from (behind here b) command left bs
-  passed here command left b bs t = rw (t, tokens_from) refl
-
-  begun : (here : Place) (command : Option ℕ) (left b : ℕ) (bs : List ℕ) → nat_le left (length bs) ≡ false
-      → from here command left (b ∷ bs) ≡ outcome_at (record { limits = limits; ending = whole; total = total; here = here; command = command }) (spelled limits.name_bytes b bs) (λ c left. from (behind here b) c left bs)
-  begun here command left b bs t = rw (t, tokens_from) refl
-
   byte_on : (here : Place) (command : Option ℕ) (left b : ℕ) (bs : List ℕ) → ((c : Option ℕ) (left : ℕ) → OnLine here.line (from (behind here b) c left bs)) → OnLine here.line (from here command left (b ∷ bs))
   byte_on here command left b bs next = by (nat_le left (length bs)) refl
     where
       by : (go : Bool) → nat_le left (length bs) ≡ go → OnLine here.line (from here command left (b ∷ bs))
-      by true e = subst (OnLine here.line) (sym (passed here command left b bs e)) (next command left)
-      by false e = subst (OnLine here.line) (sym (begun here command left b bs e))
+      by true e = subst (OnLine here.line) (sym (passed limits whole total here command left b bs e)) (next command left)
+      by false e = subst (OnLine here.line) (sym (begun limits whole total here command left b bs e))
           (outcome_on (record { limits = limits; ending = whole; total = total; here = here; command = command }) _ _ (spelled limits.name_bytes b bs) _ refl next)
 
   tokens_on : (text : List ℕ) (here : Place) (command : Option ℕ) (left : ℕ) → list_any (λ b. b == 10) text ≡ false → OnLine here.line (from here command left (text ++ 10 ∷ []))
@@ -111,47 +90,26 @@ module _ (limits : Limits) (total : ℕ) where
   tokens_on (b ∷ bs) here command left h = let e : ((b == 10) ≡ false) × (list_any (λ b. b == 10) bs ≡ false) = or_false (b == 10) (list_any (λ b. b == 10) bs) h in
       byte_on here command left b (bs ++ 10 ∷ []) (λ c n. subst (λ k. OnLine k (from (behind here b) c n (bs ++ 10 ∷ []))) (behind_line here b e.0) (tokens_on bs (behind here b) c n e.1))
 
--- ---- the lexer over a line
+-- ---- a line alone
 
-with_append : (o : Option Token) (xs ys : List Token) → with_token o (xs ++ ys) ≡ with_token o xs ++ ys
-with_append None xs ys = refl
-with_append (Some t) xs ys = refl
+place_of : (limits : Limits) (line : List ℕ) (ts : List Token) (last : Place) → Reads false limits line ts last None [] → tokens limits line whole ≡ adds ts (nothing_at last)
+place_of limits line ts last r = ap (λ bs. tokens limits bs whole) (sym (append-nil line)) ∙ r.onward [] whole tt
 
-given_append : (fed : Fed) (ys : List Token) → with_token fed.first (with_token fed.second (with_token fed.third (with_token fed.fourth ys))) ≡ given fed ++ ys
-given_append fed ys =
-    ap (λ ts. with_token fed.first (with_token fed.second (with_token fed.third ts))) (with_append fed.fourth [] ys)
-    ∙ ap (λ ts. with_token fed.first (with_token fed.second ts)) (with_append fed.third (with_token fed.fourth []) ys)
-    ∙ ap (with_token fed.first) (with_append fed.second (with_token fed.third (with_token fed.fourth [])) ys)
-    ∙ with_append fed.first (with_token fed.second (with_token fed.third (with_token fed.fourth []))) ys
+on_first : (limits : Limits) (text : List ℕ) → list_any (λ b. b == 10) text ≡ false → OnLine 1 (tokens limits (text ++ 10 ∷ []) whole)
+unfolding tokens
+on_first limits text none = tokens_on limits (length (text ++ 10 ∷ [])) text (record { offset = 0; line = 1 }) None (length (text ++ 10 ∷ [])) none
 
-piece_run : (l : Lexer) (bs : List ℕ) → piece_tokens l bs ≡ (run l bs broken).tokens
-piece_run l [] = refl
-piece_run l (b ∷ bs) = ap (λ (ts : List Token). given (step l b).fed ++ ts) (piece_run (step l b).lexer bs) ∙ sym (given_append (step l b).fed (run (step l b).lexer bs broken).tokens)
+pub record LineAlone (ts : List Token) (last : Place) : Type 0 where
+  pub tokens : AllOn 1 ts
+  pub after : last.line ≡ 2
 
-fits_none : (limits : Limits) (o : ℕ) (m : Lexer) → IsBetween limits o m → o ≤ input_limit limits → Fits m m.command
-fits_none limits o m i f = subst (λ c. Fits m c) (sym i.command) (bound_none m.limits m.here.offset (subst (λ n. n ≤ input_limit m.limits) (sym i.here) (subst (λ (z : Limits). o ≤ input_limit z) (sym i.limits_are) f)))
+pub line_alone : (limits : Limits) (text : List ℕ) (ts : List Token) (last : Place) → Reads false limits (text ++ 10 ∷ []) ts last None [] → list_any (λ b. b == 10) text ≡ false → LineAlone ts last
+line_alone limits text ts last r none =
+    let e : tokens limits (text ++ 10 ∷ []) whole ≡ adds ts (nothing_at last) = place_of limits (text ++ 10 ∷ []) ts last r in
+    let on : OnLine 1 (adds ts (nothing_at last)) = subst (OnLine 1) e (on_first limits text none) in
+    record { tokens = subst (AllOn 1) (append-nil ts) on.tokens; after = on.line refl }
 
--- the lexer behind the end of the input, where this is begun
-abbrev ended_by : Lexer → Part → Lexer
-ended_by l p = record l { part = closed_part (part_ends l p).fault }
-
-pub record LineAt (m : Lexer) (line : List ℕ) : Type 0 where
-  pub tokens : AllOn m.here.line (piece_tokens m line)
-  pub after : (lexer_from m line).here.line ≡ next_line m.here.line
-
-pub line_at : (limits : Limits) (o : ℕ) (m : Lexer) (text : List ℕ) → IsBetween limits o m → o ≤ input_limit limits → list_any (λ b. b == 10) text ≡ false → (lexer_from m (text ++ 10 ∷ [])).part ≡ part.Nothing → LineAt m (text ++ 10 ∷ [])
-line_at limits o m text i f none p =
-    let line : List ℕ = text ++ 10 ∷ [] in
-    let last : Lexer = lexer_from m line in
-    let total : ℕ = m.here.offset + length line in
-    let x : Lexed = tokens_from m.limits whole total m.here m.command (length line) line in
-    let on : OnLine m.here.line x = tokens_on m.limits total text m.here m.command (length line) none in
-    let runs : run m line whole ≡ x = (λ j. run (with_part m (i.part j)) line whole) ∙ all_agree whole total line m part.Nothing refl (fits_none limits o m i f) in
-    let all : run m (line ++ []) whole ≡ x = ap (λ bs. run m bs whole) (append-nil line) ∙ runs in
-    let tokens_are : x.tokens ≡ piece_tokens m line ++ given (ends last) = sym (ap (λ (z : Lexed). z.tokens) all) ∙ run_append m line [] whole ∙ ap (λ ts. ts ++ given (ends last)) (sym (piece_run m line)) in
-    let fault : x.fault ≡ None = sym (ap (λ (z : Lexed). z.fault) all) ∙ run_fault m line [] whole ∙ ap (λ z. (part_ends last z).fault) p in
-    let here : x.line ≡ last.here.line = sym (ap (λ (z : Lexed). z.line) all) ∙ run_line m line [] whole ∙ ap (λ z. line_of (ended_by last z)) p in
-    record {
-      tokens = front_on m.here.line (piece_tokens m line) (given (ends last)) (subst (AllOn m.here.line) tokens_are on.tokens);
-      after = sym here ∙ on.line fault;
-    }
+-- the same behind some lines
+pub moved_on : (D L : ℕ) (ts : List Token) → AllOn 1 ts → AllOn (1 + L) (map (moved_token D L) ts)
+moved_on D L [] h = tt
+moved_on D L (t ∷ ts) h = (ap (λ n. n + L) h.0, moved_on D L ts h.1)

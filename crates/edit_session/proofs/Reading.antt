@@ -4,15 +4,16 @@ use Rattle.std.specs.List.{list_any}
 use Rattle.dk_model.specs.declared.code.Code.{Code}
 use Rattle.dk_model.specs.declared.limits.Limits.{Limits}
 use Rattle.dk_lexer.specs.declared.token.Token.{Token}
-use Rattle.dk_lexer.specs.declared.fed.Fed.{Fed}
-use Rattle.dk_lexer.specs.Given.{AddsTokens, HasTokens, given}
-use Rattle.dk_lexer.specs.Tokens.{broken, tokens, whole}
+use Rattle.dk_lexer.specs.Tokens.{tokens, whole}
 use Rattle.dk_parser.specs.FileReading.{Reading, Tail, read}
 use Rattle.dk_parser.specs.FileReading as tail
 use Rattle.dk_parser.specs.Modules.{is_directive}
 use Rattle.dk_parser.specs.RawViews.{written_command, written_form}
 use Rattle.dk_parser.specs.Written.{WrittenCommand, WrittenForm}
 use Rattle.dk_parser.specs.declared.raw.Raw.{Raw}
+use Rattle.one_lexer.specs.declared.lexer.Lexer.{Lexer}
+use Rattle.one_lexer.specs.Lexers.{Knows}
+use Rattle.one_lexer.proofs.Lexers.{knows_over}
 use Rattle.file_reader.specs.declared.reader.Next.{Next}
 use Rattle.file_reader.specs.declared.reader.Next.TheVariants as next
 use Rattle.file_reader.specs.declared.reader.ReadEnd.{ReadEnd}
@@ -23,6 +24,7 @@ use Rattle.file_reader.specs.Progress.{Answers, BeginsWith, IsBehind}
 use Rattle.file_reader.proofs.Begins.{begins}
 use Rattle.edit_session.specs.Reading.{IsOnlyCommand, IsReadAs}
 use Rattle.edit_session.specs.Texts.{form_of, is_command_text, is_plain, is_qualified, only_form}
+use Rattle.edit_session.proofs.Given.{BeginsSo, tokens_begin}
 
 first_form : (c : WrittenCommand) (later : List WrittenCommand) (t : Tail) (form : WrittenForm) → only_form (c ∷ later) t ≡ Some form → form ≡ c.form
 first_form c [] tail.whole form e = cc
@@ -97,10 +99,6 @@ module _ (limits : Limits) (text : List ℕ) where
 
 -- ---- the tokens of a text
 
-pub no_tokens : (limits : Limits) → (tokens limits [] broken).tokens ≡ []
-unfolding tokens
-no_tokens limits = refl
-
 abbrev pub any_is_qualified : List Token → Bool
 any_is_qualified ts = list_any (λ (t : Token). is_qualified t.kind) ts
 
@@ -112,11 +110,34 @@ any_either : (ts us : List Token) → any_is_qualified (ts ++ us) ≡ (any_is_qu
 any_either [] us = refl
 any_either (t ∷ ts) us = ap (λ b. is_qualified t.kind || b) (any_either ts us) ∙ or_assoc (is_qualified t.kind) (any_is_qualified ts) (any_is_qualified us)
 
--- one of the tokens is a qualified name where one is that the bytes or their end give
-pub any_of_all : (limits : Limits) (text : List ℕ) (found : List Token) (fault : Option Code) (fed : Fed) (a : Bool) → HasTokens (tokens limits text broken) found fault
-    → AddsTokens (tokens limits text broken) fed (tokens limits text whole) → a ≡ any_is_qualified found → (a || any_is_qualified (given fed)) ≡ any_is_qualified (tokens limits text whole).tokens
-any_of_all limits text found fault fed a has adds e = ap (λ b. b || any_is_qualified (given fed)) e ∙ sym (any_either found (given fed))
-    ∙ ap any_is_qualified (ap (λ ts. ts ++ given fed) (sym has.tokens_are) ∙ sym adds.tokens)
+any_last : (ts : List Token) (t : Token) (b : Bool) → any_is_qualified ts ≡ false → is_qualified t.kind ≡ b → any_is_qualified (ts ++ t ∷ []) ≡ (b || false)
+any_last ts t b none is = any_either ts (t ∷ []) ∙ (λ i. none i || (is i || false))
+
+-- no token before the rest of the text is a qualified name
+pub record Looked (limits : Limits) (text rest : List ℕ) (lexer : Lexer) : Type 0 where
+  pub ts : List Token
+  pub knows : Knows true text ts rest lexer
+  pub limits_are : lexer.limits ≡ limits
+  pub none : any_is_qualified ts ≡ false
+
+pub looked_none : (limits : Limits) (text : List ℕ) (lexer : Lexer) → Knows false text [] text lexer → lexer.limits ≡ limits → Looked limits text text lexer
+looked_none limits text lexer k l = record { ts = []; knows = knows_over text text [] lexer k; limits_are = l; none = refl }
+
+pub looked_more : {limits : Limits} {text rest left : List ℕ} {lexer : Lexer} (new : Lexer) (t : Token) (h : Looked limits text rest lexer) → Knows true text (h.ts ++ t ∷ []) left new → new.limits ≡ lexer.limits → is_qualified t.kind ≡ false
+    → Looked limits text left new
+looked_more new t h k l is = record { ts = h.ts ++ t ∷ []; knows = k; limits_are = l ∙ h.limits_are; none = any_last h.ts t false h.none is }
+
+-- one is
+pub looked_found : {limits : Limits} {text rest : List ℕ} {lexer : Lexer} (left : List ℕ) (new : Lexer) (t : Token) (h : Looked limits text rest lexer) → Knows true text (h.ts ++ t ∷ []) left new → new.limits ≡ lexer.limits → is_qualified t.kind ≡ true
+    → true ≡ any_is_qualified (tokens limits text whole).tokens
+looked_found {limits} {text} left new t h k l is =
+    let front : BeginsSo (tokens new.limits text whole).tokens (h.ts ++ t ∷ []) = tokens_begin text left (h.ts ++ t ∷ []) new k in
+    sym (ap (λ (z : Limits). any_is_qualified (tokens z text whole).tokens) (sym (l ∙ h.limits_are)) ∙ ap any_is_qualified front.all_are ∙ any_either (h.ts ++ t ∷ []) front.later
+    ∙ ap (λ b. b || any_is_qualified front.later) (any_last h.ts t true h.none is))
+
+-- none is, up to the end or a fault
+pub looked_all : {limits : Limits} {text rest : List ℕ} {lexer : Lexer} (new : Lexer) (h : Looked limits text rest lexer) → new.limits ≡ lexer.limits → (tokens new.limits text whole).tokens ≡ h.ts → false ≡ any_is_qualified (tokens limits text whole).tokens
+looked_all {text} new h l e = sym (ap (λ (z : Limits). any_is_qualified (tokens z text whole).tokens) (sym (l ∙ h.limits_are)) ∙ ap any_is_qualified e ∙ h.none)
 
 -- ---- a shelf with a text
 

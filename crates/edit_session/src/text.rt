@@ -1,17 +1,17 @@
 //! Whether a text is one command, and which.
-ghost use Rattle.std.specs.Prelude.{◌≡◌, ◌==◌, [], false, true, IfOk, length};
+ghost use Rattle.std.specs.Prelude.{◌≡◌, ◌==◌, IfOk};
 ghost use Rattle.std.specs.List.{list_any};
 ghost use Rattle.dk_lexer.specs.declared.token.Token.{Token};
-ghost use Rattle.dk_lexer.specs.Given.{given, with_token};
 ghost use Rattle.dk_lexer.specs.Tokens.{tokens, whole};
 ghost use Rattle.edit_session.specs.Texts.{form_of, is_command_text, is_qualified};
 ghost use Rattle.edit_session.specs.Reading.{IsReadAs, IsOnlyCommand};
 
 use dk_io::{Book, Failed, MemShelf, Shelf};
-use dk_lexer::{Fed, Lexer, Token, TokenKind};
+use dk_lexer::TokenKind;
 use dk_model::{Limits, NoMemory};
 use dk_parser::Raw;
 use file_reader::{Next, ReadEnd, Reader};
+use one_lexer::{Lexer, Taken};
 use std::alloc::Global;
 
 /// The command that a text is, or None exactly where it isn't one command of one line without directives and qualified names.
@@ -21,7 +21,7 @@ pub fn read_text(alloc: Global, limits: Limits, text: &[u8]) -> Result<Option<Ra
     if has_newline(text) {
         return Ok(None);
     }
-    if has_qualified(alloc, limits, text)? {
+    if has_qualified(limits, text) {
         return Ok(None);
     }
     only_command(alloc, limits, text)
@@ -33,60 +33,26 @@ fn has_newline(text: &[u8]) -> bool
     text.contains(&10)
 }
 
-fn is_qualified(token: &Token) -> bool
-    ensures { result ≡ is_qualified token.now.kind }
+fn is_qualified(kind: TokenKind) -> bool
+    ensures { result ≡ is_qualified kind }
 {
-    match token.kind {
+    match kind {
         TokenKind::Qualified => true,
         _ => false,
     }
 }
 
-/// Whether a token, if there is one, is a qualified name.
-fn is_any_qualified(token: &Option<Token>) -> bool
-    ensures { result ≡ list_any (λ (t : Token). is_qualified t.kind) (with_token token.now []) }
-{
-    match token {
-        Some(token) => is_qualified(token),
-        None => false,
-    }
-}
-
-fn ends_qualified(fed: &Fed) -> bool
-    ensures { result ≡ list_any (λ (t : Token). is_qualified t.kind) (given fed.now) }
-{
-    is_any_qualified(&fed.first)
-        || is_any_qualified(&fed.second)
-        || is_any_qualified(&fed.third)
-        || is_any_qualified(&fed.fourth)
-}
-
 /// Whether one of the tokens of a text is a qualified name.
-fn has_qualified(alloc: Global, limits: Limits, text: &[u8]) -> Result<bool, NoMemory>
-    ensures { IfOk result (λ found. found
-        ≡ list_any (λ (t : Token). is_qualified t.kind) (tokens limits text.now whole).tokens) }
+fn has_qualified(limits: Limits, text: &[u8]) -> bool
+    ensures { result ≡ list_any (λ (t : Token). is_qualified t.kind) (tokens limits text.now whole).tokens }
 {
-    let mut found = Vec::new(alloc);
     let mut lexer = Lexer::new(limits);
-    let Ok(_) = lexer.take(alloc, text, &mut found) else {
-        return Err(NoMemory);
-    };
-    let fed = lexer.finish(alloc);
-    if any_qualified(found.as_slice()) {
-        return Ok(true);
-    }
-    Ok(ends_qualified(&fed))
-}
-
-fn any_qualified(tokens: &[Token]) -> bool
-    ensures { result ≡ list_any (λ (t : Token). is_qualified t.kind) tokens.now }
-{
-    let mut rest = tokens;
-    while let Some((token, others)) = rest.split_first() {
-        if is_qualified(token) {
+    let mut rest = text;
+    while let Taken::Token(token, left) = lexer.finish(rest) {
+        if is_qualified(token.kind) {
             return true;
         }
-        rest = others;
+        rest = rest.split_at(rest.len() - left).1;
     }
     false
 }

@@ -1,8 +1,9 @@
 pub mod Asking
 pub mod Begins
-pub mod Fronts
-pub mod Lexes
+pub mod Known
 pub mod Lines
 pub mod Loading
+pub mod Memory
 pub mod Room
-pub mod Turns
+pub mod Settling
+pub mod Taking

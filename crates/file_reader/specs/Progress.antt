@@ -2,6 +2,7 @@
 use Rattle.std.specs.Prelude.{◌≡◌, ◌≤◌, length, ℕ, List, [], ◌∷◌, ◌++◌, Option, Some, Result, Ok, Err}
 use Rattle.dk_model.specs.declared.limits.Limits.{Limits}
 use Rattle.dk_lexer.specs.Tokens.{Ending, broken, whole}
+use Rattle.one_lexer.specs.Lexers.{ending_of}
 use Rattle.dk_parser.specs.FileReading.{Reading, read}
 use Rattle.dk_parser.specs.FileReading as tail
 use Rattle.dk_parser.specs.RawViews.{written_command}
@@ -13,13 +14,16 @@ use Rattle.file_reader.specs.declared.reader.ReadEnd.TheVariants as end
 use Rattle.file_reader.specs.declared.reader.Reader.{Reader}
 use Rattle.file_reader.specs.Held.{Holds, MemoryIn}
 
+-- how the bytes given end: with the book, once its end was met
+abbrev pub ending_at : Reader → Ending
+ending_at r = ending_of r.over
+
 -- some bytes of a book were given to the reader, and it goes on behind them
 pub record HasBegun (r : Reader) : Type 0 where
   pub limits : Limits
   pub given : List ℕ
-  pub ending : Ending
   pub done : List WrittenCommand
-  pub holds : Holds limits given ending done r
+  pub holds : Holds limits given done r
   pub counted : r.given ≤ length given
 
 -- The reader of the book with these bytes has given these commands, its first ones, and this is left of it on the shelf.
@@ -28,9 +32,8 @@ pub record IsBehind (limits : Limits) (bytes : List ℕ) (done : List WrittenCom
   pub rest : List ℕ
   pub bytes_are : bytes ≡ given ++ rest
   pub left_is : left ≡ Some rest
-  pub ending : Ending
-  pub last : ending ≡ whole → rest ≡ []
-  pub holds : Holds limits given ending done r
+  pub last : ending_at r ≡ whole → rest ≡ []
+  pub holds : Holds limits given done r
 
 abbrev pub reading : List WrittenCommand → tail.Tail → Reading
 reading commands tail = record { commands = commands; tail = tail }

@@ -1,23 +1,22 @@
 //! Reads the commands and directives of a book from a shelf, piece by piece.
-ghost use Rattle.std.specs.Prelude.{◌≡◌, ◌<◌, ◌≤◌, ◌+◌, ◌-◌, ◌^◌, ◌++◌, [], ℕ, List, Some, IfOk, OnOk, length, min, unwrap_or, vec_len};
-ghost use Rattle.dk_io.specs.Causes.{HasCause, MayRiseAll};
+ghost use Rattle.std.specs.Prelude.{◌≡◌, ◌<◌, ◌≤◌, ◌∷◌, ◌^◌, [], ℕ, List, Some, IfOk, OnOk, length, unwrap_or};
 ghost use Rattle.dk_lexer.specs.declared.token.Token.{Token};
-ghost use Rattle.dk_lexer.specs.Given.{given, with_token};
-ghost use Rattle.dk_lexer.specs.Tokens.{Ending, broken, whole};
 ghost use Rattle.dk_model.specs.declared.limits.Limits.{Limits};
 ghost use Rattle.dk_parser.specs.Steps.{read_tokens};
 ghost use Rattle.dk_parser.specs.Views.{HasRead};
 ghost use Rattle.dk_parser.specs.Written.{WrittenCommand};
+ghost use Rattle.one_lexer.specs.Lexers.{Knows, Takes, limits_of};
 ghost use Rattle.file_reader.specs.Counts.{MayRiseByAnswer, RoseByAnswer};
+ghost use Rattle.file_reader.specs.Held.{EndsBehind, Finds, GivesToken, Holds, HoldsToken, IsDry, IsRead, LeavesAtMost, Loads, Parses};
 ghost use Rattle.file_reader.specs.Nexts.{raw_of};
-ghost use Rattle.file_reader.specs.Held.{AreKept, Finds, Holds, EndsBehind, IsDry, Loads};
-ghost use Rattle.file_reader.specs.Rooms.{HasFewer, room_of};
 ghost use Rattle.file_reader.specs.Progress.{Answers, HasBegun, IsBehind};
+ghost use Rattle.file_reader.specs.Rooms.{HasFewer, room_of};
 
 use dk_io::{Failed, Shelf};
-use dk_lexer::{Fed, Lexer, Token};
-use dk_model::{Code, Fault, Limits};
+use dk_lexer::Token;
+use dk_model::{Code, Fault, Limits, NoMemory};
 use dk_parser::{Parser, Raw, Step};
+use one_lexer::{Carried, Lexer, Taken};
 use std::alloc::Global;
 
 /// What comes next in a book.
@@ -53,53 +52,32 @@ pub enum ReadEnd {
     NoMemory(u32),
 }
 
-// What stands behind the tokens of the bytes that were given.
-#[derive(Clone, Copy)]
-enum Behind {
-    // The next piece of the book.
-    Piece,
-    // The end of the book, at this line.
-    End(u32),
-    // A fault of the bytes, at this line.
-    Fault(u32, Code),
-    // Memory ended, at the line of the first token that is missing, or of what is begun.
-    NoMemory(u32),
-}
-
 /// What has been read of a book. Once it has ended, nothing more is to be read.
 #[derive(Drop)]
 pub struct Reader {
     lexer: Lexer,
     parser: Parser,
-    // The tokens of the piece at hand that the parser has not had, the next one last.
-    waiting: Vec<Token>,
-    behind: Behind,
+    // The bytes of the book that were given and not taken.
+    carried: Carried,
+    // Whether the end of the book was met behind them.
+    over: bool,
     // How many bytes of the book were given to it.
     given: u64,
 }
 
-// Puts a token behind those that wait; or tells its line, where there is no memory for it.
-fn keep(waiting: &mut Vec<Token>, token: Option<Token>) -> Result<(), u32>
-    ensures { AreKept (waiting.old.items ++ with_token token []) waiting.new.items result }
+// Takes the next token of these bytes, which are all that are left where the end was met.
+#[tactic(auto, using(crate::proofs::Known::at_most))]
+fn take_next<'a>(lexer: &mut Lexer, over: bool, bytes: &'a [u8]) -> Taken<'a>
+    ensures limits { limits_of lexer.new ≡ limits_of lexer.old }
+    ensures takes { (before : List ℕ) (ts : List Token) → Knows over before ts bytes.now lexer.old →
+        Takes over before ts bytes.now lexer.new result }
+    ensures left { LeavesAtMost (length bytes.now) result }
 {
-    let Some(token) = token else {
-        return Ok(());
-    };
-    let line = token.line;
-    match waiting.push(token) {
-        Ok(()) => Ok(()),
-        Err(_) => Err(line),
+    if over {
+        lexer.finish(bytes)
+    } else {
+        lexer.take(bytes)
     }
-}
-
-// Puts the tokens that the end completed behind those that wait.
-fn keep_all(waiting: &mut Vec<Token>, fed: Fed) -> Result<(), u32>
-    ensures { AreKept (waiting.old.items ++ given fed) waiting.new.items result }
-{
-    keep(waiting, fed.first)?;
-    keep(waiting, fed.second)?;
-    keep(waiting, fed.third)?;
-    keep(waiting, fed.fourth)
 }
 
 impl Reader {
@@ -112,8 +90,8 @@ impl Reader {
         Reader {
             lexer: Lexer::new(limits),
             parser: Parser::new(alloc, limits),
-            waiting: Vec::new(alloc),
-            behind: Behind::Piece,
+            carried: Carried::new(alloc),
+            over: false,
             given: 0,
         }
     }
@@ -134,46 +112,89 @@ impl Reader {
         ensures missed { MayRiseByAnswer (H.missed shelf.old) (H.missed shelf.new) result }
     {
         'pieces: for _turn in 0..u64::MAX {
-            match self.waiting_next(alloc) {
+            match self.carried_next(alloc) {
                 Ok(Some(next)) => return Ok(next),
                 Err(end) => return Err(end),
                 Ok(None) => {}
             }
-            if let Some(end) = self.end() {
+            if let Err(end) = self.load(shelf) {
                 return Err(end);
-            }
-            if let Err(Failed) = self.load(alloc, shelf) {
-                return Err(ReadEnd::Unread);
             }
         }
         // A book of more bytes than the limit is refused long before.
         unreachable!()
     }
 
-    // Goes through the tokens that wait, to the end of the next command or directive.
-    fn waiting_next(&mut self, alloc: Global) -> Result<Option<Next>, ReadEnd>
-        ensures finds { (limits : Limits) (given : List ℕ) (ending : Ending)
-            (done : List WrittenCommand) → Holds limits given ending done self.old →
-            Finds limits given ending done self.new result }
+    // Goes through the bytes that are carried, to the end of the next command or directive.
+    fn carried_next(&mut self, alloc: Global) -> Result<Option<Next>, ReadEnd>
+        ensures finds { (limits : Limits) (given : List ℕ) (done : List WrittenCommand) →
+            Holds limits given done self.old → Finds limits given done self.new result }
         ensures given { self.new.given ≡ self.old.given }
-        ensures behind { self.new.behind ≡ self.old.behind }
+        ensures over { self.new.over ≡ self.old.over }
         ensures fewer { IfOk result (λ next.
-            HasFewer next (vec_len self.old.waiting) (vec_len self.new.waiting)) }
+            HasFewer next (length self.old.carried) (length self.new.carried)) }
     {
-        while let Some(token) = self.waiting.pop() {
-            let line = self.due_line(token.line);
-            match self.parser.feed(alloc, token) {
-                Ok(Step::More) => {}
-                Ok(Step::Command(raw)) => return Ok(Some(Next::Command(Box::into_inner(raw)))),
-                Ok(Step::Directive(raw)) => return Ok(Some(Next::Directive(Box::into_inner(raw)))),
-                Err(Fault::Refused(code)) => return Err(ReadEnd::Refused(
-                    self.due_line(line),
-                    code,
-                )),
-                Err(Fault::NoMemory) => return Err(ReadEnd::NoMemory(line)),
+        loop {
+            let token = match self.token(alloc) {
+                Ok(Some(token)) => token,
+                Ok(None) => return Ok(None),
+                Err(end) => return Err(end),
+            };
+            match self.parse(alloc, token) {
+                Ok(Some(next)) => return Ok(Some(next)),
+                Ok(None) => {}
+                Err(end) => return Err(end),
             }
         }
-        Ok(None)
+    }
+
+    // Takes the next token of the bytes that are carried, if they settle one.
+    fn token(&mut self, alloc: Global) -> Result<Option<Token>, ReadEnd>
+        ensures takes { (limits : Limits) (given : List ℕ) (done : List WrittenCommand) →
+            Holds limits given done self.old → GivesToken limits given done self.new result }
+        ensures given { self.new.given ≡ self.old.given }
+        ensures over { self.new.over ≡ self.old.over }
+        ensures fewer { IfOk result (λ token.
+            HasFewer token (length self.old.carried) (length self.new.carried)) }
+    {
+        match take_next(&mut self.lexer, self.over, self.carried.bytes()) {
+            Taken::Token(spelt, left) => {
+                let line = spelt.here.line;
+                let token = spelt.token(alloc);
+                self.carried.keep(left);
+                match token {
+                    Ok(token) => Ok(Some(token)),
+                    Err(NoMemory) => Err(ReadEnd::NoMemory(self.due_line(line))),
+                }
+            }
+            Taken::More(left) => {
+                self.carried.keep(left);
+                match self.end() {
+                    Some(end) => Err(end),
+                    None => Ok(None),
+                }
+            }
+            Taken::Failed(code) => Err(ReadEnd::Refused(self.due_line(self.lexer.line()), code)),
+        }
+    }
+
+    // Hands a token to the parser.
+    fn parse(&mut self, alloc: Global, token: Token) -> Result<Option<Next>, ReadEnd>
+        ensures parses { (limits : Limits) (given : List ℕ) (done : List WrittenCommand) →
+            HoldsToken limits given done token self.old →
+            Parses limits given done self.new result }
+        ensures given { self.new.given ≡ self.old.given }
+        ensures over { self.new.over ≡ self.old.over }
+        ensures carried { self.new.carried ≡ self.old.carried }
+    {
+        let line = self.due_line(token.line);
+        match self.parser.feed(alloc, token) {
+            Ok(Step::More) => Ok(None),
+            Ok(Step::Command(raw)) => Ok(Some(Next::Command(Box::into_inner(raw)))),
+            Ok(Step::Directive(raw)) => Ok(Some(Next::Directive(Box::into_inner(raw)))),
+            Err(Fault::Refused(code)) => Err(ReadEnd::Refused(self.due_line(line), code)),
+            Err(Fault::NoMemory) => Err(ReadEnd::NoMemory(line)),
+        }
     }
 
     // The line of the command or directive that is due: of its first token, else this one.
@@ -184,87 +205,47 @@ impl Reader {
         self.parser.begun().unwrap_or(place)
     }
 
-    // How the book ends behind its last token, unless a piece of it is to come.
+    // How the book ends behind its last token, once its end was met.
     fn end(&self) -> Option<ReadEnd>
-        ensures { (limits : Limits) (given : List ℕ) (ending : Ending) (done : List WrittenCommand) →
-            Holds limits given ending done self.now → self.now.waiting.items ≡ [] →
-            EndsBehind limits given ending done self.now.behind result }
+        ensures { (limits : Limits) (given : List ℕ) (done : List WrittenCommand) →
+            IsRead limits given done self.now → EndsBehind limits given done self.now result }
     {
-        match self.behind {
-            Behind::Piece => None,
-            Behind::Fault(line, code) => Some(ReadEnd::Refused(self.due_line(line), code)),
-            Behind::NoMemory(line) => Some(ReadEnd::NoMemory(self.due_line(line))),
-            Behind::End(line) => match self.parser.finish() {
-                Ok(()) => Some(ReadEnd::Whole),
-                Err(code) => Some(ReadEnd::Refused(self.due_line(line), code)),
-            },
+        if !self.over {
+            return None;
+        }
+        match self.parser.finish() {
+            Ok(()) => Some(ReadEnd::Whole),
+            Err(code) => Some(ReadEnd::Refused(self.due_line(self.lexer.line()), code)),
         }
     }
 
-    // Takes the next piece of the book, or its end.
-    fn load<H: Shelf>(&mut self, alloc: Global, shelf: &mut H) -> Result<(), Failed>
+    // Puts the next piece of the book behind the bytes that are carried, or notes its end.
+    fn load<H: Shelf>(&mut self, shelf: &mut H) -> Result<(), ReadEnd>
         ensures loads { (limits : Limits) (given : List ℕ) (done : List WrittenCommand) →
             IsDry limits given done self.old →
-            Loads limits given done self.old.given (H.left shelf.old) (H.left shelf.new) self.new
-            result }
+            Loads limits given done (H.left shelf.old) (H.left shelf.new) self.old self.new result }
         ensures books { H.books shelf.new ≡ H.books shelf.old }
         ensures is_open { H.is_open shelf.new ≡ H.is_open shelf.old }
         ensures aside { H.aside shelf.new ≡ H.aside shelf.old }
-        ensures faults { HasCause (H.faults shelf.old) (H.faults shelf.new) result }
-        ensures missed { MayRiseAll (H.missed shelf.old) (H.missed shelf.new) result }
+        ensures faults { RoseByAnswer (H.faults shelf.old) (H.faults shelf.new) result }
+        ensures missed { MayRiseByAnswer (H.missed shelf.old) (H.missed shelf.new) result }
     {
         let mut buf = [0u8; 4096];
         let count = match shelf.read(&mut buf) {
             Ok(count) => count,
-            Err(failed) => return Err(failed),
+            Err(Failed) => return Err(ReadEnd::Unread),
         };
         if count == 0 {
-            self.finish(alloc);
-        } else {
-            let (piece, _) = buf.split_at(count);
-            self.take(alloc, piece);
+            self.over = true;
+            return Ok(());
         }
-        Ok(())
-    }
-
-    // Takes the next bytes of the book.
-    fn take(&mut self, alloc: Global, bytes: &[u8])
-        ensures holds { (limits : Limits) (given : List ℕ) (done : List WrittenCommand) →
-            IsDry limits given done self.old →
-            Holds limits (given ++ bytes.now) broken done self.new }
-        ensures given { self.new.given ≡ min (self.old.given + length bytes.now) (2 ^ 64 - 1) }
-    {
-        self.given = self.given.saturating_add(bytes.len() as u64);
-        self.waiting.clear();
-        let taken = self.lexer.take(alloc, bytes, &mut self.waiting);
-        self.waiting.reverse();
-        match taken {
-            Err(end) => self.behind = Behind::NoMemory(end.line),
-            Ok(fault) => match fault {
-                Some(code) => self.behind = Behind::Fault(self.lexer.line(), code),
-                None => self.behind = Behind::Piece,
-            },
-        }
-    }
-
-    // Takes the end of the book.
-    fn finish(&mut self, alloc: Global)
-        ensures holds { (limits : Limits) (given : List ℕ) (done : List WrittenCommand) →
-            IsDry limits given done self.old → Holds limits given whole done self.new }
-        ensures given { self.new.given ≡ self.old.given }
-    {
-        self.waiting.clear();
-        let fed = self.lexer.finish(alloc);
-        let fault = fed.fault;
-        let line = self.lexer.line();
-        let kept = keep_all(&mut self.waiting, fed);
-        self.waiting.reverse();
-        match kept {
-            Err(line) => self.behind = Behind::NoMemory(line),
-            Ok(()) => match fault {
-                Some(code) => self.behind = Behind::Fault(line, code),
-                None => self.behind = Behind::End(line),
-            },
+        let (piece, _) = buf.split_at(count);
+        match self.carried.put(piece) {
+            Ok(()) => {
+                self.given = self.given.saturating_add(count as u64);
+                Ok(())
+            }
+            Err(NoMemory) => Err(ReadEnd::NoMemory(self.due_line(self.lexer.line()))),
         }
     }
 }

@@ -17,13 +17,14 @@ use Rattle.one_lexer.specs.declared.lexer.Taken.{Taken}
 use Rattle.one_lexer.specs.declared.lexer.Taken.TheVariants as taken
 use Rattle.one_lexer.specs.declared.next.Inside.{Inside}
 use Rattle.one_lexer.specs.declared.next.Standing.{Standing}
-use Rattle.one_lexer.specs.Lexers.{HasAll, HasFault, IsLeft, Knows, KnowsBy, Takes, ending_of}
+use Rattle.one_lexer.specs.Lexers.{BeginsWord, HasAll, HasFault, IsLeft, Knows, KnowsBy, Takes, ending_of}
 use Rattle.one_lexer.specs.Reading.{Fails, Reads, ReadsComment, adds, last_of, setting_at}
 use Rattle.one_lexer.specs.Steps.{GivesNothing, token_of}
 use Rattle.one_lexer.proofs.Carries.{may_end}
 use Rattle.one_lexer.proofs.InComments.{comment_unended, comment_waits}
 use Rattle.one_lexer.proofs.Places.{last_last, last_length, last_none}
 use Rattle.one_lexer.proofs.Reading.{adds_fault, adds_nothing}
+use Rattle.one_lexer.proofs.Words.{letters_longer}
 
 -- ---- more bytes come
 
@@ -61,8 +62,13 @@ comment_more limits bytes piece ts here command next depth last rest r =
 fails_more : (limits : Limits) (bytes piece : List ℕ) (ts : List Token) (here : Place) (code : Code) → Fails false limits bytes ts here code → Fails false limits (bytes ++ piece) ts here code
 fails_more limits bytes piece ts here code f = record { stands = λ more e may. ap (λ (x : List ℕ). tokens limits x e) (append_assoc bytes piece more) ∙ f.stands (piece ++ more) e tt }
 
+word_more : (known : ℕ) (rest piece : List ℕ) → BeginsWord known rest → BeginsWord known (rest ++ piece)
+word_more known [] piece h = absurd h
+word_more known (b ∷ bs) piece h = (h.0, letters_longer known bs piece h.1)
+
 more_by : (limits : Limits) (before rest piece : List ℕ) (ts : List Token) (at : Standing) (s : State) → KnowsBy false limits before ts rest at s → KnowsBy false limits (before ++ piece) ts (rest ++ piece) at s
 more_by limits before rest piece ts at state.Between k = reads_more limits before piece ts at.here at.command rest k
+more_by limits before rest piece ts at (state.Word known) k = (reads_more limits before piece ts at.here at.command rest k.0, word_more known rest piece k.1)
 more_by limits before rest piece ts at (state.Comment inside) k = comment_more limits before piece ts at.here at.command inside.next inside.depth inside.last rest k
 more_by limits before rest piece ts at (state.Failed code) k = fails_more limits before piece ts at.here code k
 
@@ -74,6 +80,7 @@ knows_more before rest piece ts lexer k = more_by lexer.limits before rest piece
 
 over_by : (limits : Limits) (before rest : List ℕ) (ts : List Token) (at : Standing) (s : State) → KnowsBy false limits before ts rest at s → KnowsBy true limits before ts rest at s
 over_by limits before rest ts at state.Between k = record { total = k.total; onward = λ more e may. k.onward more e tt }
+over_by limits before rest ts at (state.Word known) k = (record { total = k.0.total; onward = λ more e may. k.0.onward more e tt }, k.1)
 over_by limits before rest ts at (state.Comment inside) k = record { total = k.total; deep = k.deep; fits = k.fits; onward = λ more e may. k.onward more e tt }
 over_by limits before rest ts at (state.Failed code) k = record { stands = λ more e may. k.stands more e tt }
 
@@ -145,6 +152,10 @@ knows_new limits bytes = reads_start limits bytes
 
 pub reads_between : (over : Bool) (before rest : List ℕ) (ts : List Token) (lexer : Lexer) → Knows over before ts rest lexer → lexer.state ≡ state.Between → Reads over lexer.limits before ts lexer.at.here lexer.at.command rest
 reads_between over before rest ts lexer k is = subst (KnowsBy over lexer.limits before ts rest lexer.at) is (known over before rest ts lexer k)
+
+pub reads_word : (over : Bool) (before rest : List ℕ) (ts : List Token) (lexer : Lexer) (n : ℕ) → Knows over before ts rest lexer → lexer.state ≡ state.Word n
+    → Reads over lexer.limits before ts lexer.at.here lexer.at.command rest × BeginsWord n rest
+reads_word over before rest ts lexer n k is = subst (KnowsBy over lexer.limits before ts rest lexer.at) is (known over before rest ts lexer k)
 
 pub reads_inside : (over : Bool) (before rest : List ℕ) (ts : List Token) (lexer : Lexer) (inside : Inside) → Knows over before ts rest lexer → lexer.state ≡ state.Comment inside
     → ReadsComment over lexer.limits before ts lexer.at.here lexer.at.command inside.next inside.depth inside.last rest

@@ -9,12 +9,14 @@ pub mod SettledNames
 pub mod SettledLaw
 pub mod Places
 pub mod Shapes
+pub mod Words
 pub mod Reading
 pub mod Runs
 pub mod Nexts
 pub mod InComments
 pub mod Carries
 pub mod Lexers
+pub mod Blanks
 pub mod Covers
 pub mod Founds
 pub mod FrontLaw

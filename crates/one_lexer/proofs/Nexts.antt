@@ -25,7 +25,7 @@ decided : (over : Bool) (s : Spelling) → is_settled s ≡ true → Decided ove
 decided false s h = h
 decided true s h = tt
 
-blank_comes : (over : Bool) (limits : Limits) (bytes : List ℕ) (ts : List Token) (here : Place) (command : Option ℕ) (b : ℕ) (bs front rest : List ℕ)
+pub blank_comes : (over : Bool) (limits : Limits) (bytes : List ℕ) (ts : List Token) (here : Place) (command : Option ℕ) (b : ℕ) (bs front rest : List ℕ)
     → Reads over limits bytes ts here command (b ∷ bs) → spelled_front limits.name_bytes (b ∷ bs) ≡ blank (length rest) → bs ≡ front ++ rest
     → length bytes ≤ (bound limits command).last + length rest → Reads over limits bytes ts (place_behind here (b ∷ front)) command rest
 blank_comes over limits bytes ts here command b bs front rest r is split fits =

@@ -1,8 +1,10 @@
 -- For callers: what a lexer knows, and what it takes.
-use Rattle.std.specs.Prelude.{◌≡◌, ◌<◌, ◌≤◌, ℕ, Bool, true, false, List, [], ◌∷◌, ◌++◌, Some, None}
+use Rattle.std.specs.Prelude.{◌≡◌, ◌<◌, ◌≤◌, ℕ, Bool, true, false, List, [], ◌∷◌, ◌++◌, length, take, Some, None}
 use Rattle.dk_model.specs.declared.code.Code.{Code}
 use Rattle.dk_model.specs.declared.limits.Limits.{Limits}
+use Rattle.dk_lexer.specs.declared.place.Place.{Place}
 use Rattle.dk_lexer.specs.declared.token.Token.{Token}
+use Rattle.dk_lexer.specs.Spelling.{letters_of}
 use Rattle.dk_lexer.specs.Tokens.{Ending, broken, whole, tokens}
 use Rattle.one_lexer.specs.declared.lexer.Lexer.{Lexer}
 use Rattle.one_lexer.specs.declared.lexer.State.{State}
@@ -21,8 +23,18 @@ limits_of lexer = lexer.limits
 abbrev pub line_of : Lexer → ℕ
 line_of lexer = lexer.at.here.line
 
+-- so many of the bytes, which are there, are letters
+abbrev pub AreLetters : ℕ → List ℕ → Type 0
+AreLetters known bytes = (known ≤ length bytes) × (letters_of (take known bytes) ≡ take known bytes)
+
+-- the bytes begin with `#` and so many letters
+abbrev pub BeginsWord : ℕ → List ℕ → Type 0
+BeginsWord known [] = ⊥
+BeginsWord known (b ∷ bs) = (b ≡ 35) × AreLetters known bs
+
 abbrev pub KnowsBy : Bool → Limits → List ℕ → List Token → List ℕ → Standing → State → Type 0
 KnowsBy over limits before ts rest at state.Between = Reads over limits before ts at.here at.command rest
+KnowsBy over limits before ts rest at (state.Word known) = Reads over limits before ts at.here at.command rest × BeginsWord known rest
 KnowsBy over limits before ts rest at (state.Comment inside) = ReadsComment over limits before ts at.here at.command inside.next inside.depth inside.last rest
 KnowsBy over limits before ts rest at (state.Failed code) = Fails over limits before ts at.here code
 
@@ -50,6 +62,10 @@ abbrev pub Takes : Bool → List ℕ → List Token → List ℕ → Lexer → T
 Takes over before ts bytes new (taken.Token spelt left) = Knows over before (ts ++ token_of spelt ∷ []) (last_of left bytes) new
 Takes over before ts bytes new (taken.More left) = Knows over before ts (last_of left bytes) new × HasAll over new.limits before ts new.at.here.line
 Takes over before ts bytes new (taken.Failed code) = Knows over before ts [] new × HasFault over new.limits before ts code new.at.here.line
+
+-- for proofs: the same lexer at another place
+abbrev pub moved_to : Place → Lexer → Lexer
+moved_to place lexer = record lexer { at = record { here = place; command = lexer.at.command } }
 
 -- a token leaves fewer bytes than there are, and at the end none is carried
 abbrev pub IsLeft : Bool → ℕ → Taken → Type 0

@@ -3,6 +3,7 @@ pub mod Quotes
 pub mod Comments
 pub mod Settled
 pub mod Reading
+pub mod Blanks
 pub mod Bounds
 pub mod Places
 pub mod Steps

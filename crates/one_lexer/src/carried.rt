@@ -56,9 +56,10 @@ impl Carried {
         ensures ok { OnOk result (self.new ≡ self.old ++ piece.now) }
         ensures err { OnErr result (self.new ≡ self.old) }
     {
-        let taken = self.taken;
-        self.taken = 0;
-        remove_front(&mut self.bytes, taken);
+        if self.taken > 0 {
+            remove_front(&mut self.bytes, self.taken);
+            self.taken = 0;
+        }
         self.bytes.extend_from_slice(piece)?;
         Ok(())
     }

@@ -1,18 +1,23 @@
 //! A lexer: what is known of an input of which a front was taken. Begin at `Lexer::take`.
-ghost use Rattle.std.specs.Prelude.{◌≡◌, ◌<◌, [], ℕ, List, length, false, true};
+ghost use Rattle.std.specs.Prelude.{◌≡◌, ◌<◌, [], ℕ, Bool, List, IfSome, length, false, true};
 ghost use Rattle.dk_lexer.specs.declared.token.Token.{Token};
-ghost use Rattle.one_lexer.specs.Lexers.{IsFewer, IsLeft, Knows, Passes, Takes, limits_of, line_of};
-ghost use Rattle.one_lexer.specs.Steps.{Comes, LeavesFewer};
+ghost use Rattle.one_lexer.specs.Lexers.{BeginsWord, IsFewer, IsLeft, Knows, KnowsBy, Passes, Takes, limits_of, line_of, moved_to};
+ghost use Rattle.one_lexer.specs.Reading.{last_of};
+ghost use Rattle.one_lexer.specs.Steps.{Comes, ComesFrom, LeavesFewer};
 
-use crate::next::{Inside, Next, Spelt, Standing, read_inside, read_next};
+use crate::blank::pass_blanks;
+use crate::next::{Inside, Next, Spelt, Standing, read_inside, read_letters, read_next};
+use crate::word::{goes_on, word_begun};
 use dk_lexer::Place;
 use dk_model::{Code, Limits};
 
 // What the bytes that aren't taken yet begin with.
 #[derive(Clone, Copy)]
 pub enum State {
-    // What is not begun.
+    // What is not begun, or not known to be.
     Between,
+    // `#` and so many letters, which wait. So a word that goes over many pieces is looked at once.
+    Word(usize),
     // The rest of a comment.
     Comment(Inside),
     // Nothing any more: a fault stands before.
@@ -117,6 +122,10 @@ impl Lexer {
             Passes over before ts bytes.now self.new result }
         ensures left { IsFewer over (length bytes.now) result }
     {
+        if let Some((here, left)) = self.blanks(bytes) {
+            self.at.here = here;
+            return One::Passed(left);
+        }
         match self.next(over, bytes) {
             Next::Token(spelt, behind, left) => {
                 self.at = behind;
@@ -132,11 +141,27 @@ impl Lexer {
                 self.state = State::Comment(inside);
                 One::Passed(0)
             }
-            Next::More => One::Taken(Taken::More(bytes.len())),
+            Next::More => {
+                self.state = self.begun(bytes);
+                One::Taken(Taken::More(bytes.len()))
+            }
             Next::Failed(code) => {
                 self.state = State::Failed(code);
                 One::Taken(Taken::Failed(code))
             }
+        }
+    }
+
+    // The place behind the blanks that come next, if some do between tokens; so many bytes are left.
+    fn blanks(&self, bytes: &[u8]) -> Option<(Place, usize)>
+        ensures fewer { IfSome result (λ passed. passed.1 < length bytes.now) }
+        ensures knows { IfSome result (λ passed. (over : Bool) (before : List ℕ) (ts : List Token) →
+            Knows over before ts bytes.now self.now →
+            Knows over before ts (last_of passed.1 bytes.now) (moved_to passed.0 self.now)) }
+    {
+        match self.state {
+            State::Between => pass_blanks(self.limits, self.at, bytes),
+            State::Word(_) | State::Comment(_) | State::Failed(_) => None,
         }
     }
 
@@ -149,8 +174,46 @@ impl Lexer {
     {
         match self.state {
             State::Between => read_next(self.limits, self.at, over, bytes),
+            State::Word(known) => self.word(over, known, bytes),
             State::Comment(inside) => read_inside(self.limits, self.at, inside, bytes),
             State::Failed(code) => Next::Failed(code),
+        }
+    }
+
+    // What stands at the first of these bytes, which begin with `#` and so many letters.
+    fn word<'a>(&self, over: bool, known: usize, bytes: &'a [u8]) -> Next<'a>
+        requires { 0 < length bytes.now }
+        ensures comes { BeginsWord known bytes.now →
+            ComesFrom over self.now.limits self.now.at bytes.now result }
+        ensures fewer { LeavesFewer over (length bytes.now) result }
+    {
+        if !over {
+            if let Some(next) = read_letters(self.limits, self.at, known, bytes) {
+                return next;
+            }
+        }
+        read_next(self.limits, self.at, over, bytes)
+    }
+
+    // What is known of these bytes, which wait.
+    fn begun(&self, bytes: &[u8]) -> State
+        ensures { (over : Bool) (before : List ℕ) (ts : List Token) →
+            Knows over before ts bytes.now self.now →
+            KnowsBy over self.now.limits before ts bytes.now self.now.at result }
+    {
+        match self.state {
+            State::Between => match word_begun(bytes) {
+                Some(known) => State::Word(known),
+                None => State::Between,
+            },
+            State::Word(known) => {
+                if goes_on(known, bytes) {
+                    State::Word(bytes.len() - 1)
+                } else {
+                    State::Between
+                }
+            }
+            State::Comment(_) | State::Failed(_) => self.state,
         }
     }
 
@@ -163,6 +226,8 @@ impl Lexer {
     {
         match self.state {
             State::Between => Taken::More(0),
+            // A word has bytes left.
+            State::Word(_) => Taken::More(0),
             State::Comment(_) => {
                 if over {
                     self.state = State::Failed(Code::E03);

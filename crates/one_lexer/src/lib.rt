@@ -1,6 +1,7 @@
 //! What stands at the front of some bytes, by the longest spelling. Begin at `stands_at` in spelled.rt.
 #![tactic(auto)]
 
+mod blank;
 mod carried;
 mod comment;
 mod dotted;
@@ -12,6 +13,7 @@ mod next;
 mod quoted;
 mod sign;
 mod spelled;
+mod token;
 mod whole;
 mod word;
 

@@ -1,10 +1,11 @@
 //! One spelling after the other, within the bounds. Begin at `read_next`.
-ghost use Rattle.std.specs.Prelude.{◌≡◌, ◌≤◌, ◌<◌, ◌+◌, ◌-◌, ◌==◌, ℕ, Bool, List, IfNone, IfSome, length, take};
+ghost use Rattle.std.specs.Prelude.{◌≡◌, ◌≤◌, ◌<◌, ◌+◌, ◌-◌, ◌==◌, ℕ, Bool, List, IfNone, IfSome, false, length, take};
 ghost use Rattle.dk_lexer.specs.declared.token.Token.{Token};
 ghost use Rattle.one_lexer.specs.Places.{place_behind};
 ghost use Rattle.dk_lexer.specs.Spelling.{blank, comment_open};
 ghost use Rattle.dk_lexer.specs.Tokens.{begin_of, bound, command_limit, input_limit, nearer};
 ghost use Rattle.one_lexer.specs.Bounds.{LateFails, LateFits, brace_last, front_bound};
+ghost use Rattle.one_lexer.specs.Lexers.{BeginsWord};
 ghost use Rattle.one_lexer.specs.Reading.{ReadsComment};
 ghost use Rattle.one_lexer.specs.Steps.{Comes, ComesFrom, IsToken, LeavesFewer, Shape};
 ghost use Rattle.one_lexer.specs.Views.{spelled_front, spelling};
@@ -12,6 +13,7 @@ ghost use Rattle.one_lexer.specs.Views.{spelled_front, spelling};
 use crate::comment::{CommentEnd, inside};
 use crate::found::{Found, Front};
 use crate::spelled::stands_at;
+use crate::word::goes_on;
 use dk_lexer::{Class, Place, TokenKind, command_after, kind_of};
 use dk_model::{Code, Limits};
 
@@ -90,7 +92,7 @@ fn nearer(command: u64, input: u64) -> (u64, Code)
 
 // The last byte that may stand in a command that begins so, or in the input, and the fault behind it.
 #[tactic(auto, unfolding(dk_lexer::specs::Tokens::bound))]
-fn bound_of(limits: Limits, command: Option<u32>) -> (u64, Code)
+pub(crate) fn bound_of(limits: Limits, command: Option<u32>) -> (u64, Code)
     ensures last { result.0 ≡ (bound limits command).last }
     ensures code { result.1 ≡ (bound limits command).code }
     ensures within { result.0 ≤ 4294967294 }
@@ -377,5 +379,28 @@ pub fn read_next<'a>(limits: Limits, at: Standing, over: bool, bytes: &'a [u8]) 
         Found::Blank(left) => read_blank(limits, at, bytes, left),
         Found::CommentOpen => read_comment(limits, at, bytes),
         _ => read_token(limits, at, over, bytes, front),
+    }
+}
+
+// What stands next where `#` and so many letters wait and only letters came behind them.
+pub(crate) fn read_letters(
+    limits: Limits,
+    at: Standing,
+    known: usize,
+    bytes: &[u8],
+) -> Option<Next<'static>>
+    ensures comes { IfSome result (λ next. BeginsWord known bytes.now →
+        ComesFrom false limits at bytes.now next) }
+    ensures fewer { IfSome result (LeavesFewer false (length bytes.now)) }
+{
+    if !goes_on(known, bytes) {
+        return None;
+    }
+    let total = offset_at(at.here, bytes, 0);
+    let (last, code) = bound_of(limits, Some(command_begin(at.command, at.here.offset)));
+    if total > last {
+        Some(Next::Failed(code))
+    } else {
+        Some(Next::More)
     }
 }

@@ -7,8 +7,7 @@ use Rattle.dk_model.specs.declared.code.Code.TheVariants.{E05}
 use Rattle.dk_lexer.specs.declared.class.Class.{Class}
 use Rattle.dk_lexer.specs.declared.class.Class.TheVariants as class
 use Rattle.dk_lexer.specs.declared.token.TokenKind.TheVariants as kind
-use Rattle.dk_lexer.specs.Classes.{class_of, in_name}
-use Rattle.dk_lexer.specs.Parts.{begins_name}
+use Rattle.dk_lexer.specs.Classes.{begins_name, class_of, in_name}
 use Rattle.dk_lexer.specs.Spelling.{Spelling, token, late, quoted, quoted_spelled, wrong, run_of, behind_run, kind_of, is_wildcard, spelled, spelled_by, name_spelled, behind_name, behind_dot, dot_before, second_spelled, second_settled, up_to}
 use Rattle.dk_lexer.proofs.Outcomes.{le_true, lt_true}
 use Rattle.dk_terms.specs.declared.terminal.Terminal.TheVariants as terminal

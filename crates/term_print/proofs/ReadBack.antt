@@ -10,8 +10,7 @@ use Rattle.dk_model.specs.declared.limits.Limits.{Limits}
 use Rattle.dk_model.specs.declared.signature.SymSort.TheVariants.{Definable}
 use Rattle.dk_lexer.specs.declared.token.Token.{Token}
 use Rattle.dk_lexer.specs.declared.token.TokenKind.TheVariants as kinds
-use Rattle.dk_lexer.specs.Classes.{class_of, in_name}
-use Rattle.dk_lexer.specs.Parts.{begins_name}
+use Rattle.dk_lexer.specs.Classes.{begins_name, class_of, in_name}
 use Rattle.dk_lexer.specs.Spelling.{kind_of}
 use Rattle.dk_lexer.specs.Tokens as lexer
 use Rattle.dk_lexer.specs.Tokens.{tokens, command_limit, input_limit}

@@ -10,8 +10,7 @@ use Rattle.dk_lexer.specs.declared.token.Sign.{Sign}
 use Rattle.dk_lexer.specs.declared.token.Sign.TheVariants as sign
 use Rattle.dk_lexer.specs.declared.token.TokenKind.{TokenKind}
 use Rattle.dk_lexer.specs.declared.token.TokenKind.TheVariants as kind
-use Rattle.dk_lexer.specs.Classes.{class_of, in_name}
-use Rattle.dk_lexer.specs.Parts.{begins_name}
+use Rattle.dk_lexer.specs.Classes.{begins_name, class_of, in_name}
 use Rattle.dk_lexer.specs.Pieces.{place_behind}
 use Rattle.dk_lexer.specs.Spelling.{Spelling, blank, token, wrong, run_of, behind_run, kind_of, spelled, spelled_by, name_spelled, behind_name, run_before, bracket_before, colon_before, open_before}
 use Rattle.dk_lexer.specs.Tokens.{whole, Bound, Lexed, Setting, bound, by_bound, behind, begin_of, command_limit, input_limit, command_after, gives, late_bound, nearer, token_at, tokens_from, outcome_at, within}

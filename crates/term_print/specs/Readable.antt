@@ -3,9 +3,8 @@ use Rattle.std.specs.Prelude.{◌≡◌, ◌≤◌, ℕ, suc, true, false, List,
 use Rattle.dk_lexer.specs.declared.token.TokenKind.{TokenKind}
 use Rattle.dk_lexer.specs.declared.token.TokenKind.TheVariants as kind
 use Rattle.dk_lexer.specs.declared.class.Class.TheVariants as class
-use Rattle.dk_lexer.specs.Classes.{class_of, in_name}
+use Rattle.dk_lexer.specs.Classes.{begins_name, class_of, in_name}
 use Rattle.dk_lexer.specs.Spelling.{spelled, token, late, kind_of, is_wildcard}
-use Rattle.dk_lexer.specs.Parts.{begins_name}
 use Rattle.dk_terms.specs.declared.terminal.Terminal.{Terminal}
 use Rattle.dk_terms.specs.Terminals.{terminal_by}
 use Rattle.dk_terms.specs.Signs.{dot}

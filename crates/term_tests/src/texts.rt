@@ -1,8 +1,9 @@
 //! Texts: their commands, as lexer, parser and scoping make them, and the version that these come to.
 use command_check::entry_of;
-use dk_lexer::{Lexer, Token};
+use dk_lexer::Token;
 use dk_model::{Entry, Limits, Listed, NoMemory, Scoped};
 use dk_parser::{Parser, Step};
+use one_lexer::{Lexer, Taken};
 use scope_terms::Names;
 use shared_term::Stored;
 use signature_log::Version;
@@ -38,17 +39,6 @@ fn written(alloc: Global, parts: &[(&str, u32)]) -> Result<Vec<u8>, NoMemory> {
     Ok(text)
 }
 
-fn tokens_of(alloc: Global, text: &[u8]) -> Result<Vec<Token>, NoMemory> {
-    let mut lexer = Lexer::new(Limits::standard());
-    let mut tokens = Vec::new(alloc);
-    let whole = matches!(lexer.take(alloc, text, &mut tokens), Ok(None));
-    // A blank settles that the last dot is one.
-    if whole && matches!(lexer.take(alloc, b"\n", &mut tokens), Ok(None)) {
-        return Ok(tokens);
-    }
-    Err(NoMemory)
-}
-
 #[derive(Drop)]
 struct Reading {
     parser: Parser,
@@ -71,21 +61,21 @@ fn take(alloc: Global, reading: &mut Reading, token: Token) -> Result<(), NoMemo
     }
 }
 
-fn take_each(
-    alloc: Global,
-    reading: &mut Reading,
-    tokens: &mut Vec<Token>,
-) -> Result<(), NoMemory> {
-    tokens.reverse();
-    while let Some(token) = tokens.pop() {
-        take(alloc, reading, token)?;
-    }
-    Ok(())
-}
-
+// A text that spells no token somewhere counts as want of memory too.
 fn read(alloc: Global, reading: &mut Reading, text: &[u8]) -> Result<(), NoMemory> {
-    let mut tokens = tokens_of(alloc, text)?;
-    take_each(alloc, reading, &mut tokens)
+    let mut lexer = Lexer::new(Limits::standard());
+    let mut rest = text;
+    for _ in 0..u64::MAX {
+        match lexer.finish(rest) {
+            Taken::Token(spelt, left) => {
+                rest = rest.split_at(rest.len() - left).1;
+                take(alloc, reading, spelt.token(alloc)?)?;
+            }
+            Taken::More(_) => return Ok(()),
+            Taken::Failed(_) => return Err(NoMemory),
+        }
+    }
+    Err(NoMemory)
 }
 
 fn reading_of(alloc: Global) -> Result<Reading, NoMemory> {

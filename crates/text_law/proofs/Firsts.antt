@@ -13,8 +13,7 @@ use Rattle.dk_parser.specs.Grammar.{terminals, SpellsForm, dot}
 use Rattle.dk_parser.specs.Levels.{IsWithin}
 use Rattle.dk_parser.specs.Reading.{TokenReading, Reads, reads_nothing, reads_front, reads_fault, reads_command}
 use Rattle.dk_parser.specs.Written.{WrittenForm}
-use Rattle.text_law.proofs.Opens.{keeps_open}
-use Rattle.text_law.proofs.Dots.{AllOpen}
+use Rattle.text_law.proofs.Dots.{keeps_open, AllOpen}
 use Rattle.text_law.proofs.Dotless.{is_dot_terminal, Dotless, HasOneDot, one_dot}
 
 -- the last token is a dot, and no other is
@@ -74,14 +73,6 @@ pub same_dot : {ts us vs ws : List Token} → EndsAtDot ts → EndsAtDot vs → 
 same_dot {ts} {us} {vs} {ws} x y e =
     let r : _ = first_dot x.front x.last us y.front y.last ws x.are_open x.is_dot y.are_open y.is_dot (ap (λ z. z ++ us) (sym x.ends_so) ∙ e ∙ ap (λ z. z ++ ws) y.ends_so) in
     (x.ends_so ∙ r.0 ∙ sym y.ends_so, r.1)
-
-open_not_dot : (front : List Token) (d : Token) (us : List Token) → keeps_open d.kind ≡ false → AllOpen ((front ++ d ∷ []) ++ us) → ⊥
-open_not_dot [] d us k a = true≢false (sym a.0 ∙ k)
-open_not_dot (t ∷ front) d us k a = open_not_dot front d us k a.1
-
--- where no token is a dot there is no command
-pub no_command : {ts : List Token} (us : List Token) → EndsAtDot ts → AllOpen (ts ++ us) → ⊥
-no_command {ts} us x a = open_not_dot x.front x.last us x.is_dot (subst (λ z. AllOpen (z ++ us)) x.ends_so a)
 
 nothing_by : (front : List Token) (last : Token) (us : List Token) → [] ≡ (front ++ last ∷ []) ++ us → ⊥
 nothing_by [] last us e = cc

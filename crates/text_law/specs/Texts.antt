@@ -1,23 +1,26 @@
 -- For callers: the text of one command: it can stand anywhere between commands.
-use Rattle.std.specs.Prelude.{ℕ, ◌≡◌, ◌≤◌, ◌<◌, None, List, [], ◌∷◌, ◌++◌, length}
+use Rattle.std.specs.Prelude.{ℕ, ◌≡◌, ◌≤◌, ◌<◌, false, None, List, [], ◌∷◌, ◌++◌, length}
 use Rattle.dk_model.specs.declared.limits.Limits.{Limits}
-use Rattle.dk_lexer.specs.declared.part.Part.TheVariants as part
+use Rattle.dk_lexer.specs.declared.place.Place.{Place}
+use Rattle.dk_lexer.specs.declared.token.Token.{Token}
+use Rattle.dk_lexer.specs.Pieces.{joined}
 use Rattle.dk_lexer.specs.Tokens.{whole, input_limit}
-use Rattle.dk_lexer.specs.Pieces.{piece_tokens, joined}
-use Rattle.dk_lexer.specs.Steps.{start, lexer_from}
 use Rattle.dk_parser.specs.FileReading.{Reading, read}
 use Rattle.dk_parser.specs.FileReading as reading
 use Rattle.dk_parser.specs.Grammar.{terminals, SpellsForm}
 use Rattle.dk_parser.specs.Levels.{IsWithin}
 use Rattle.dk_parser.specs.Written.{WrittenForm, WrittenCommand}
+use Rattle.one_lexer.specs.Reading.{Reads}
 pub use Rattle.text_law.specs.Cutting.{forms_of}
 
 -- by itself the text spells this command, within the limits, and nothing is begun behind it
 pub record IsText (limits : Limits) (text : List ℕ) (form : WrittenForm) : Type 0 where
-  pub nothing_begun : (lexer_from (start limits) text).part ≡ part.Nothing
-  pub command_ended : (lexer_from (start limits) text).command ≡ None
-  pub spells : SpellsForm (terminals (piece_tokens (start limits) text)) form
-  pub within : IsWithin limits.levels (terminals (piece_tokens (start limits) text))
+  pub given : List Token
+  pub behind : Place
+  -- however the input goes on, its tokens are these and then those of what comes, between commands
+  pub reads : Reads false limits text given behind None []
+  pub spells : SpellsForm (terminals given) form
+  pub within : IsWithin limits.levels (terminals given)
 
 pub data AreTexts (limits : Limits) : List (List ℕ) → List WrittenForm → Type 0 where
   texts_none : AreTexts limits [] []

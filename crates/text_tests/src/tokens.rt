@@ -1,15 +1,29 @@
 //! Tokens by kind and offset, with the line where it isn't 1, for the cases of docs/syntax.md.
 use crate::token_rows::{Limit, ROWS, Row};
-use dk_lexer::{Fed, Lexer, Sign, Token, TokenKind};
-use dk_model::{Code, Limits, NoMemory};
+use dk_lexer::{Sign, Token, TokenKind};
+use dk_model::{Code, Limits};
+use one_lexer::{Carried, Lexer, Taken};
 use std::alloc::Global;
 use std::test::Fail;
 
+// What was read of a text.
 #[derive(Drop)]
-struct Read {
+struct Reading {
+    lexer: Lexer,
+    carried: Carried,
     tokens: String,
     fault: Option<Code>,
-    line: u32,
+}
+
+impl Reading {
+    fn new(alloc: Global, limit: Limit) -> Reading {
+        Reading {
+            lexer: Lexer::new(limits(limit)),
+            carried: Carried::new(alloc),
+            tokens: String::new(alloc),
+            fault: None,
+        }
+    }
 }
 
 fn limits(limit: Limit) -> Limits {
@@ -56,10 +70,7 @@ fn kind_text(kind: TokenKind) -> &'static str {
     }
 }
 
-fn keep(alloc: Global, tokens: &mut String, token: Option<Token>) -> Result<(), Fail> {
-    let Some(token) = token else {
-        return Ok(());
-    };
+fn keep(alloc: Global, tokens: &mut String, token: Token) -> Result<(), Fail> {
     let kind = kind_text(token.kind);
     let text = if token.line > 1 {
         format!(in alloc; " {kind} {}/{}", token.offset, token.line)?
@@ -70,37 +81,64 @@ fn keep(alloc: Global, tokens: &mut String, token: Option<Token>) -> Result<(), 
     Ok(())
 }
 
-fn keep_all(alloc: Global, read: &mut Read, fed: Fed) -> Result<(), Fail> {
-    read.fault = fed.fault;
-    for token in [fed.first, fed.second, fed.third, fed.fourth] {
-        keep(alloc, &mut read.tokens, token)?;
+// Takes the tokens that a piece of the text settles.
+fn take(alloc: Global, reading: &mut Reading, piece: &[u8]) -> Result<(), Fail> {
+    reading.carried.put(piece)?;
+    for _ in 0..u64::MAX {
+        match reading.lexer.take(reading.carried.bytes()) {
+            Taken::Token(spelt, left) => {
+                let token = spelt.token(alloc)?;
+                reading.carried.keep(left);
+                keep(alloc, &mut reading.tokens, token)?;
+            }
+            Taken::More(left) => {
+                reading.carried.keep(left);
+                return Ok(());
+            }
+            Taken::Failed(code) => {
+                reading.fault = Some(code);
+                return Ok(());
+            }
+        }
     }
     Ok(())
 }
 
-// Feeds a text and its end.
-fn lex(alloc: Global, lexer: &mut Lexer, read: &mut Read, text: &[u8]) -> Result<(), Fail> {
-    for byte in text {
-        let fed = lexer.feed(alloc, *byte)?;
-        keep_all(alloc, read, fed)?;
+// Takes the tokens that the end of the text settles.
+fn finish(alloc: Global, reading: &mut Reading) -> Result<(), Fail> {
+    for _ in 0..u64::MAX {
+        match reading.lexer.finish(reading.carried.bytes()) {
+            Taken::Token(spelt, left) => {
+                let token = spelt.token(alloc)?;
+                reading.carried.keep(left);
+                keep(alloc, &mut reading.tokens, token)?;
+            }
+            Taken::More(_) => return Ok(()),
+            Taken::Failed(code) => {
+                reading.fault = Some(code);
+                return Ok(());
+            }
+        }
     }
-    let fed = lexer.finish(alloc);
-    keep_all(alloc, read, fed)?;
-    read.line = lexer.line();
     Ok(())
 }
 
-// Whether a text has these tokens, this fault and this line at its end.
+// Whether the tokens, the fault and the line at the end are those of the row.
+fn is_due(reading: &Reading, row: &Row<'_>) -> bool {
+    let (_, _, tokens, fault, line) = *row;
+    reading.tokens.as_str() == tokens && reading.fault == fault && reading.lexer.line() == line
+}
+
+// Whether a text that comes byte by byte has its tokens, its fault and its line at the end.
 fn is_lexed(alloc: Global, row: &Row<'_>) -> Result<bool, Fail> {
-    let (text, limit, tokens, fault, line) = *row;
-    let mut lexer = Lexer::new(limits(limit));
-    let mut read = Read {
-        tokens: String::new(alloc),
-        fault: None,
-        line: 1,
-    };
-    lex(alloc, &mut lexer, &mut read, text)?;
-    Ok(read.tokens.as_str() == tokens && read.fault == fault && read.line == line)
+    let (text, limit, _, _, _) = *row;
+    let mut reading = Reading::new(alloc, limit);
+    for byte in text {
+        let piece = [*byte];
+        take(alloc, &mut reading, piece.as_slice())?;
+    }
+    finish(alloc, &mut reading)?;
+    Ok(is_due(&reading, row))
 }
 
 // What a file of one byte is: a token of this text, a blank, or a fault.
@@ -137,34 +175,15 @@ fn first_byte(alloc: Global) -> Result<Option<u8>, Fail> {
     Ok(None)
 }
 
-// Takes the bytes of a piece.
-fn take(alloc: Global, lexer: &mut Lexer, read: &mut Read, piece: &[u8]) -> Result<(), Fail> {
-    let mut waiting = Vec::new(alloc);
-    let Ok(fault) = lexer.take(alloc, piece, &mut waiting) else {
-        return Err(NoMemory.into());
-    };
-    read.fault = fault;
-    for token in waiting {
-        keep(alloc, &mut read.tokens, Some(token))?;
-    }
-    Ok(())
-}
-
 // Whether a text whose first bytes come in a piece of their own has the tokens, the fault and the line of the whole.
 fn is_lexed_in_two(alloc: Global, row: &Row<'_>, cut: usize) -> Result<bool, Fail> {
-    let (text, limit, tokens, fault, line) = *row;
-    let mut lexer = Lexer::new(limits(limit));
-    let mut read = Read {
-        tokens: String::new(alloc),
-        fault: None,
-        line: 1,
-    };
+    let (text, limit, _, _, _) = *row;
+    let mut reading = Reading::new(alloc, limit);
     let (front, rest) = text.split_at(cut.min(text.len()));
-    take(alloc, &mut lexer, &mut read, front)?;
-    take(alloc, &mut lexer, &mut read, rest)?;
-    let fed = lexer.finish(alloc);
-    keep_all(alloc, &mut read, fed)?;
-    Ok(read.tokens.as_str() == tokens && read.fault == fault && lexer.line() == line)
+    take(alloc, &mut reading, front)?;
+    take(alloc, &mut reading, rest)?;
+    finish(alloc, &mut reading)?;
+    Ok(is_due(&reading, row))
 }
 
 /// The first text that isn't lexed as it is due, whole or in two pieces.

@@ -1,25 +1,27 @@
-use Rattle.std.proofs.Common.{◌≤◌, length, take, arith, subst}
-use Rattle.command_texts.specs.Cutting.{HasCut}
-use Rattle.command_texts.proofs.Adding.{all_taken, piece_within, take_piece}
+use Rattle.std.proofs.Common.{[], List, ℕ, sym, subst}
+use Rattle.one_lexer.proofs.Lexers.{knows_over}
+use Rattle.one_lexer.specs.Steps.{token_of}
+use Rattle.command_texts.proofs.Adding.{HasCut, cut_all, cut_more, cut_nothing}
 use Rattle.command_texts.proofs.Reading.{file_cut}
 use Rattle.command_texts.proofs.cutting.command_spans.Goals as goal
 
-pub loop-at-preserved : goal.loop-at-preserved
-loop-at-preserved c =
+pub loop-token-init : goal.loop-token-init
+loop-token-init c =
     let bytes = c.args.bytes.now in
-    let rest = c.split_at.result.1.now in
-    let piece = c.split_at-in-loop-at.result.0.now in
-    let few : c.min.result ≤ length rest = (let e = c.min.ensures in omega (arith, e)) in
-    record {
-      within = piece_within bytes rest piece c.loop-at.at c.min.result c.split_at.ensures.back c.split_at-in-loop-at.ensures.front few c.loop-at.invariant.within;
-      cut = subst (λ zs. HasCut c.args.limits zs c.take.new.self) (take_piece bytes rest piece c.loop-at.at c.min.result c.split_at.ensures.back c.split_at-in-loop-at.ensures.front few)
-          (c.in_ok-take.ensures c.args.limits (take c.loop-at.at bytes) c.loop-at.invariant.cut);
-    }
+    cut_nothing c.args.limits bytes c.new-lexer.result c.new-texts.result (knows_over bytes bytes [] c.new-lexer.result (c.new-lexer.ensures.knows bytes)) c.new-lexer.ensures.limits c.new-texts.ensures.ended c.new-texts.ensures.begun
+
+pub loop-token-preserved : goal.loop-token-preserved
+loop-token-preserved c =
+    let h = c.loop-token.invariant in
+    let bytes = c.args.bytes.now in
+    subst (λ (z : List ℕ). HasCut c.args.limits bytes z c.finish.new.self c.token.new.self) (sym c.split_at.ensures.back)
+    (cut_more c.finish.new.self c.token.new.self (token_of c.in-Token.token) h (c.in-Token.ensures.takes bytes h.ts h.knows) c.in-Token.ensures.limits c.in_ok-token.ensures)
 
 pub returns : goal.returns
 returns c =
-    let all = all_taken c.args.bytes.now c.loop-at.at c.loop-at.invariant.within (omega arith) in
+    let h = c.loop-token.invariant in
+    let bytes = c.args.bytes.now in
     record {
-      cuts = λ commands e. file_cut c.args.limits c.args.bytes.now commands c.finish.new.self.texts.ended.items e
-          (c.in_ok-finish.ensures c.args.limits c.args.bytes.now (subst (λ zs. HasCut c.args.limits zs c.loop-at.cutting) all c.loop-at.invariant.cut));
+      cuts = λ commands e. file_cut c.args.limits bytes commands c.loop-token.texts.ended.items e
+          (cut_all c.finish.new.self c.finish.result h c.finish.ensures.limits c.in_default.not-Token (c.finish.ensures.takes bytes h.ts h.knows));
     }

@@ -1,12 +1,9 @@
-use Rattle.std.proofs.Common.{◌≤◌, ◌-◌, length, take}
-use Rattle.command_texts.specs.Cutting.{HasCut}
+use Rattle.std.proofs.Common.{length}
+use Rattle.command_texts.proofs.Adding.{HasCut}
 use Rattle.command_texts.proofs.cutting.command_spans.Given as goal
 
-abbrev pub invariant-loop-at : goal.invariant-loop-at
-invariant-loop-at l = record {
-  within : l.at ≤ length l.bytes;
-  cut : HasCut l.fn.limits (take l.at l.bytes) l.cutting;
-}
+abbrev pub invariant-loop-token : goal.invariant-loop-token
+invariant-loop-token l = HasCut l.fn.limits l.bytes l.rest l.lexer l.texts
 
-abbrev pub decreases-loop-at : goal.decreases-loop-at
-decreases-loop-at l = length l.bytes - l.at
+abbrev pub decreases-loop-token : goal.decreases-loop-token
+decreases-loop-token l = length l.rest

@@ -1,13 +1,28 @@
-use Rattle.std.proofs.Common.{[], false, true, sym, ap, ◌∙◌}
-use Rattle.edit_session.proofs.Reading.{any_is_qualified, any_of_all, no_tokens}
+use Rattle.std.proofs.Common.{List, ℕ, sym, subst, ◌∙◌}
+use Rattle.one_lexer.specs.Reading.{last_of}
+use Rattle.one_lexer.specs.Steps.{token_of}
+use Rattle.edit_session.proofs.Given.{tokens_end}
+use Rattle.edit_session.proofs.Reading.{Looked, looked_all, looked_found, looked_more, looked_none}
 use Rattle.edit_session.proofs.text.has_qualified.Goals as goal
 
-pub returns-then-any_qualified : goal.returns-then-any_qualified
-returns-then-any_qualified c =
-    any_of_all c.args.limits c.args.text.now c.take.new.waiting.items c.in-Ok.field-0 c.finish-fed.result true (c.in-Ok.ensures.taken c.args.limits [] [] c.new-lexer.ensures (no_tokens c.args.limits ∙ sym c.new-found.ensures.items))
-    (c.finish-fed.ensures.fed c.args.limits c.args.text.now (c.in-Ok.ensures.after c.args.limits [] c.new-lexer.ensures)) (sym c.if-any_qualified.true ∙ c.any_qualified.ensures ∙ ap any_is_qualified c.as_slice.ensures.value)
+pub loop-token-init : goal.loop-token-init
+loop-token-init c = looked_none c.args.limits c.args.text.now c.new-lexer.result (c.new-lexer.ensures.knows c.args.text.now) c.new-lexer.ensures.limits
+
+pub loop-token-preserved : goal.loop-token-preserved
+loop-token-preserved c =
+    let h = c.loop-token.invariant in
+    let text = c.args.text.now in
+    subst (λ (z : List ℕ). Looked c.args.limits text z c.finish.new.self) (sym c.split_at.ensures.back)
+    (looked_more c.finish.new.self (token_of c.in-Token.token) h (c.in-Token.ensures.takes text h.ts h.knows) c.in-Token.ensures.limits (sym c.is_qualified.ensures ∙ c.if-is_qualified.false))
+
+pub returns-then-is_qualified : goal.returns-then-is_qualified
+returns-then-is_qualified c =
+    let h = c.loop-token.invariant in
+    let text = c.args.text.now in
+    looked_found (last_of c.in-Token.left c.loop-token.rest.now) c.finish.new.self (token_of c.in-Token.token) h (c.in-Token.ensures.takes text h.ts h.knows) c.in-Token.ensures.limits (sym c.is_qualified.ensures ∙ c.if-is_qualified.true)
 
 pub returns : goal.returns
-returns c = c.ends_qualified.ensures
-    ∙ any_of_all c.args.limits c.args.text.now c.take.new.waiting.items c.in-Ok.field-0 c.finish-fed.result false (c.in-Ok.ensures.taken c.args.limits [] [] c.new-lexer.ensures (no_tokens c.args.limits ∙ sym c.new-found.ensures.items))
-    (c.finish-fed.ensures.fed c.args.limits c.args.text.now (c.in-Ok.ensures.after c.args.limits [] c.new-lexer.ensures)) (sym c.if-any_qualified.false ∙ c.any_qualified.ensures ∙ ap any_is_qualified c.as_slice.ensures.value)
+returns c =
+    let h = c.loop-token.invariant in
+    let text = c.args.text.now in
+    looked_all c.finish.new.self h c.finish.ensures.limits (tokens_end text c.loop-token.rest.now h.ts c.finish.new.self c.finish.result c.in_default.not-Token (c.finish.ensures.takes text h.ts h.knows))

@@ -7,9 +7,8 @@ pub returns-clause-begun : goal.returns-clause-begun
 returns-clause-begun c = record {
   limits = c.args.limits;
   given = [];
-  ending = broken;
   done = [];
-  holds = starts c.args.limits _ c.new.ensures c.new-2.ensures c.new-3.ensures.items refl;
+  holds = starts c.args.limits _ c.new.ensures.limits (c.new.ensures.knows []) c.new-2.ensures c.new-3.ensures refl;
   counted = omega arith;
 }
 
@@ -19,7 +18,6 @@ returns-clause-behind c = λ bytes. record {
   rest = bytes;
   bytes_are = refl;
   left_is = refl;
-  ending = broken;
   last = λ is. absurd (let bad : broken ≡ whole = is in cc);
-  holds = starts c.args.limits _ c.new.ensures c.new-2.ensures c.new-3.ensures.items refl;
+  holds = starts c.args.limits _ c.new.ensures.limits (c.new.ensures.knows []) c.new-2.ensures c.new-3.ensures refl;
 }

@@ -1,8 +1,9 @@
 use Rattle.std.proofs.Common.{◌++◌, ◌∷◌, [], sym, subst, List, ℕ}
+use Rattle.one_lexer.specs.declared.lexer.Lexer.{Lexer}
 use Rattle.one_lexer.specs.Lexers.{Knows}
 use Rattle.one_lexer.specs.Reading.{last_of}
 use Rattle.one_lexer.specs.Steps.{token_of}
-use Rattle.one_lexer.proofs.Lexers.{has_fault, knows_between, knows_failed, knows_inside, token_begun}
+use Rattle.one_lexer.proofs.Lexers.{has_fault, knows, knows_between, knows_failed, knows_inside, token_begun}
 use Rattle.one_lexer.proofs.Places.{last_all}
 use Rattle.one_lexer.proofs.lexer.Lexer.one.Goals as goal
 
@@ -19,10 +20,11 @@ returns-in-Comment-clause-takes c before ts k =
     knows_inside c.args.over c.args.self.now.limits before c.args.bytes.now ts c.args.self.now.at c.in-Comment.inside (c.in-Comment.ensures.comes before ts k)
 
 pub returns-in-More-clause-takes : goal.returns-in-More-clause-takes
-returns-in-More-clause-takes c before ts k = (
-  subst (λ (x : List ℕ). Knows c.args.over before ts x c.args.self.now) (sym (last_all c.args.bytes.now)) k,
-  token_begun c.args.over c.args.self.now.limits before ts c.args.self.now.at.here c.in-More.ensures.fewer (c.in-More.ensures.comes before ts k),
-)
+returns-in-More-clause-takes c before ts k =
+    let new : Lexer = record { limits = c.args.self.now.limits; at = c.args.self.now.at; state = c.begun-self.result } in (
+      subst (λ (x : List ℕ). Knows c.args.over before ts x new) (sym (last_all c.args.bytes.now)) (knows c.args.over before c.args.bytes.now ts new (c.begun-self.ensures c.args.over before ts k)),
+      token_begun c.args.over c.args.self.now.limits before ts c.args.self.now.at.here c.in-More.ensures.fewer (c.in-More.ensures.comes before ts k),
+    )
 
 pub returns-in-Failed-clause-takes : goal.returns-in-Failed-clause-takes
 returns-in-Failed-clause-takes c before ts k =
