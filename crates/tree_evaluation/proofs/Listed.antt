@@ -3,10 +3,6 @@ use Rattle.std.proofs.Common.{List, [], ◌∷◌, ◌++◌, ◌≡◌, ℕ, zer
 use Rattle.std.specs.Prelude.{slice_get}
 
 module _ {A : Type 0} (P : A → Type 0) where
-  pub none_listed : (xs : List A) → xs ≡ [] → (i : ℕ) (x : A) → slice_get xs i ≡ Some x → P x
-  none_listed [] e i x q = cc
-  none_listed (y ∷ xs) e i x q = cc
-
   last_listed : (xs : List A) (y : A) → ((i : ℕ) (x : A) → slice_get xs i ≡ Some x → P x) → P y
       → (i : ℕ) (x : A) → slice_get (xs ++ (y ∷ [])) i ≡ Some x → P x
   last_listed [] y h p zero x q = let e : y ≡ x = cc in along P e p

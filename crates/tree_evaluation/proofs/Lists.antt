@@ -42,6 +42,3 @@ counted ts = length-map ts tree
 
 pub first_mapped : (n : ℕ) (ts : List Term) → map tree (take n ts) ≡ take n (map tree ts)
 first_mapped n ts = flip (take-map tree n ts)
-
-pub rest_mapped : (n : ℕ) (ts : List Term) → map tree (drop n ts) ≡ drop n (map tree ts)
-rest_mapped n ts = flip (drop-map tree n ts)

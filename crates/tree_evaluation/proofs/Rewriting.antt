@@ -1,5 +1,5 @@
 -- The rule that is taken, as a step of the term.
-use Rattle.std.proofs.Common.{List, [], ◌∷◌, ◌≡◌, ◌≤◌, ℕ, zero, suc, Bool, true, false, Some, None, ap, ◌∙◌, map, max, length, refl, arith, subst as along, sym as flip}
+use Rattle.std.proofs.Common.{List, [], ◌∷◌, ◌≡◌, ◌≤◌, ℕ, zero, suc, Bool, true, false, Some, ap, ◌∙◌, map, max, length, refl, arith, subst as along, sym as flip}
 use Rattle.std.specs.Prelude.{slice_get, nat_lt, if◌then◌else◌}
 use Rattle.std.specs.Option.{option_map}
 use Rattle.std.proofs.lemmas.Option.{slice_get-map}
@@ -105,13 +105,6 @@ module _ (S : PlainSignature) (k n : ℕ) (t : Tree) (cs : List End) (rs : List 
   these c r =
       ap (λ (l : List PlainColumn). bind (selection_of S n l (rows S k t)) (after_selection S t)) (flip c)
       ∙ ap (λ (l : List PlainRow). bind (selection_of S n (columns_of cs) l) (after_selection S t)) (flip r)
-
-  pub rewrite_ends : columns_of cs ≡ columns S k t → map row rs ≡ rows S k t → selection_of S n (columns_of cs) (map row rs) ≡ None → by_selection S k t n ≡ None
-  rewrite_ends c r e = these c r ∙ ap (λ x. bind x (after_selection S t)) e
-
-  pub rewrite_stands : (m : ℕ) → columns_of cs ≡ columns S k t → map row rs ≡ rows S k t → selection_of S n (columns_of cs) (map row rs) ≡ Some (None, m)
-      → by_selection S k t n ≡ Some (t, m)
-  rewrite_stands m c r e = these c r ∙ ap (λ x. bind x (after_selection S t)) e
 
   pub rewrite_goes : (m : ℕ) (it : Selected) (told : Told) → columns_of cs ≡ columns S k t → map row rs ≡ rows S k t
       → selection_of S n (columns_of cs) (map row rs) ≡ Some (Some (plain_selected it), m)

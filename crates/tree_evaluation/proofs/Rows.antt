@@ -12,10 +12,7 @@ use Rattle.tree_terms.specs.declared.rules.SymbolRule.{SymbolRule}
 use Rattle.tree_evaluation.specs.declared.matrix.Row.{Row}
 use Rattle.tree_evaluation.specs.Views.{plain_cell, rule, row, refined_row}
 use Rattle.tree_evaluation.specs.Tellings.{AreFirstRows, IsFirstRow, AreRefined, IsRefinedFrom}
-use Rattle.tree_evaluation.proofs.Listed.{none_listed, more_listed}
-
-pub no_first : (wide count : ℕ) (rules : List SymbolRule) (rs : List Row) → rs ≡ [] → AreFirstRows wide count rules rs
-no_first wide count rules rs e = none_listed (IsFirstRow wide count rules) rs e
+use Rattle.tree_evaluation.proofs.Listed.{more_listed}
 
 pub one_first : (wide count from : ℕ) (rules : List SymbolRule) (rs all : List Row) (r : Row) (own : SymbolRule) → all ≡ rs ++ (r ∷ []) → AreFirstRows wide count rules rs
     → slice_get rules from ≡ Some own → r.from ≡ from → r.rule ≡ own → map plain_cell r.cells.items ≡ first_cells wide (rule own) → length (rule own).pats ≤ count
@@ -25,9 +22,6 @@ one_first wide count from rules rs all r own e f there at q cells few = more_lis
   cells = cells ∙ ap (λ (x : SymbolRule). first_cells wide (rule x)) (flip q);
   few = along (λ (x : SymbolRule). length (rule x).pats ≤ count) (flip q) few;
 })
-
-pub no_refined : (v : Tree) (count at : ℕ) (rs kept : List Row) → kept ≡ [] → AreRefined v count at rs kept
-no_refined v count at rs kept e = none_listed (IsRefinedFrom v count at rs) kept e
 
 pub one_refined : (v : Tree) (count at from : ℕ) (rs kept all : List Row) (r own : Row) → all ≡ kept ++ (r ∷ []) → AreRefined v count at rs kept
     → slice_get rs from ≡ Some own → r.from ≡ from → r.rule ≡ own.rule → Some (row r) ≡ refined_row v count at (row own) → AreRefined v count at rs all

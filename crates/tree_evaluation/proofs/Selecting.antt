@@ -1,7 +1,7 @@
 -- Selections: by the first row, by the rows behind it, and by the value of a column.
 use Rattle.std.specs.Prelude.{slice_get, IfSome, Bool}
 use Rattle.std.specs.Option.{option_map}
-use Rattle.std.proofs.Common.{List, [], ◌∷◌, ◌++◌, take, drop, length, map, ℕ, zero, suc, ◌+◌, ◌≡◌, Option, Some, None, refl, ap, ◌∙◌, sym as flip, subst as along, arith}
+use Rattle.std.proofs.Common.{List, [], ◌∷◌, ◌++◌, take, drop, length, map, ℕ, zero, suc, ◌+◌, ◌≡◌, Option, Some, None, refl, ap, ◌∙◌, sym as flip, subst as along}
 use Rattle.std.proofs.lemmas.List.{length-map}
 use Rattle.dk_model.specs.Trees.{Tree, tree}
 use Rattle.dk_model.specs.Signatures.{PlainSignature}
@@ -97,12 +97,6 @@ folds at depth told rigid rows kept deeper it own before k w g f p u c j = λ S 
 
 -- ---- the value of a column
 
-behind_place : (i : ℕ) (es behind : List End) (e : End) → drop i es ≡ e ∷ behind → behind ≡ drop (suc i) es
-behind_place zero [] behind e q = cc
-behind_place (suc i) [] behind e q = cc
-behind_place zero (x ∷ es) behind e q = cc
-behind_place (suc i) (x ∷ es) behind e q = behind_place i es behind e q
-
 module _ (S : PlainSignature) where
   -- what the column at a place began with
   record Began (bases : List PlainColumn) (at : ℕ) (e : End) : Type 0 where
@@ -139,7 +133,7 @@ module _ (S : PlainSignature) where
       (bases : List PlainColumn) (a : AreEnds S bases columns) where
     next_begins : AreEnds S (opened_bases at depth value bases) all
     next_begins =
-        let rest : behind ≡ drop (at + 1) columns = behind_place at columns behind column b ∙ ap (λ (n : ℕ). drop n columns) (let k : suc at ≡ at + 1 = omega arith in k) in
+        let rest : behind ≡ drop (at + 1) columns = cut_behind at columns behind column b in
         let opened : AreEnds S (opened_columns depth value) parts = unmoved_ends S parts (opened_columns depth value) u o in
         along (AreEnds S (opened_bases at depth value bases)) (flip j)
         (ends_join S (take at bases ++ record { depth = depth; term = value } ∷ opened_columns depth value) (drop (at + 1) bases) (front ++ own ∷ parts) behind

@@ -1,5 +1,5 @@
 -- What cells, guards and rows take from their columns, and what is captured by them.
-use Rattle.std.specs.Prelude.{length, replicate, IfSome, Bool, true, false, not}
+use Rattle.std.specs.Prelude.{length, replicate, IfSome, Bool, true}
 use Rattle.std.proofs.Common.{List, [], ◌∷◌, ◌++◌, append_assoc, map, ℕ, ◌≡◌, ◌<◌, Option, Some, None, refl, ap, ◌∙◌, sym as flip, subst as along}
 use Rattle.std.proofs.lemmas.List.{map-set, length-map}
 use Rattle.dk_model.specs.Trees.{Tree, tree}
@@ -7,7 +7,7 @@ use Rattle.dk_model.specs.Substitution.{shift}
 use Rattle.dk_model.specs.Signatures.{PlainSignature, maybe_tree, rule_variable_pattern, wildcard_pattern, guard_pattern, symbol_pattern, variable_pattern, abstraction_pattern}
 use Rattle.dk_model.specs.Matrix.{Cell, blank, cell, is_rigid, rigid_at}
 use Rattle.dk_model.specs.Matrix.{Column as PlainColumn}
-use Rattle.dk_model.specs.Captures.{Captures, capture_at, mentions_others, captured, filled}
+use Rattle.dk_model.specs.Captures.{Captures, capture_at, captured, filled}
 use Rattle.dk_model.specs.Units.{Units}
 use Rattle.dk_model.specs.Selection.{cell_captures}
 use Rattle.dk_model.specs.declared.term.Term.{Term}
@@ -21,7 +21,7 @@ use Rattle.checked_steps.specs.Matching.{laters, guards}
 use Rattle.checked_steps.specs.Taken.{both_same, steps_taken, all_joined}
 use Rattle.certificate_items.specs.Views.{plain_steps, plain_joins}
 use Rattle.certificate_items.specs.declared.item.Join.{Join}
-use Rattle.told_steps.specs.Parts.{LeadsTo, LeadsOn}
+use Rattle.told_steps.specs.Parts.{LeadsTo}
 use Rattle.told_steps.specs.Meetings.{MeetIn, MeetBy}
 use Rattle.told_steps.specs.Ends.{AreEnds, column_of, columns_of}
 use Rattle.told_steps.specs.declared.told.Told.{Told}
@@ -33,7 +33,7 @@ use Rattle.tree_evaluation.specs.declared.select.CellTrial.{CellTrial}
 use Rattle.tree_evaluation.specs.declared.select.RowTrial.{RowTrial}
 use Rattle.tree_evaluation.specs.Answers.{guard_of}
 use Rattle.tree_evaluation.specs.Views.{captures_of, pattern_cell}
-use Rattle.tree_evaluation.specs.Selecting.{StillLead, StillLeads, HasParts, PartTold, RecordTold, CapturesNew, CellCaptures, CellTold, RowCaptures, RowTold, GuardTold, GuardsTold, RowTaken, TakesAll}
+use Rattle.tree_evaluation.specs.Selecting.{StillLead, StillLeads, HasParts, PartTold, RecordTold, CapturesNew, CellCaptures, CellTold, RowCaptures, RowTold, GuardTold, GuardsTold, RowTaken}
 use Rattle.tree_evaluation.proofs.Capturing.{joins_append, guards_append, has_none, has_no_more, has_guard, has_new, has_same}
 
 module _ (S : PlainSignature) where
@@ -50,20 +50,6 @@ module _ (S : PlainSignature) where
   still_next e g es gs f h (b ∷ bs) a = let here : AreEnds S (b ∷ []) (g ∷ []) = f (b ∷ []) (a.0, a.1, tt) in (here.0, here.1, h bs a.2)
 
   -- ---- a part
-
-  pub part_stands : (d : ℕ) (xs : List ℕ) (told : Told) → mentions_others 0 d xs (tree told.form) ≡ false → PartTold S d xs told (record { told = told; fits = true })
-  part_stands d xs told e = (λ t l. l, λ q. e)
-
-  not_true : (x y : Bool) → y ≡ not x → y ≡ true → x ≡ false
-  not_true true y e q = let i : false ≡ true = flip e ∙ q in cc
-  not_true false y e q = refl
-
-  pub part_normal : (d : ℕ) (xs : List ℕ) (told normal after : Told) (fits : Bool) → LeadsTo S (tree told.form) normal → LeadsOn told normal after → tree after.form ≡ tree normal.form
-      → fits ≡ not (mentions_others 0 d xs (tree normal.form)) → PartTold S d xs told (record { told = after; fits = fits })
-  part_normal d xs told normal after fits l on e q = (
-    λ t a. on S t a l,
-    λ i. ap (mentions_others 0 d xs) e ∙ not_true (mentions_others 0 d xs (tree normal.form)) fits q i,
-  )
 
   -- ---- captures
 
@@ -116,9 +102,6 @@ module _ (S : PlainSignature) where
   other_cell (cell (abstraction_pattern p)) column captured n = λ r. cc
 
   module _ (k : ℕ) (xs : List ℕ) (d : ℕ) (told : Told) (before : Captured) (part : PartTrial) (p : PartTold S d xs told part) where
-    pub part_unfit : CellTold S (cell (rule_variable_pattern k xs)) (record { depth = d; told = told }) before (record { captured = None; column = record { depth = d; told = part.told } })
-    part_unfit = λ r. (still_one d told part.told p.0, tt)
-
     part_kept : part.fits ≡ true → (after : Option Captured) → IfSome after (RecordTold S before k (captured d xs (tree part.told.form)))
         → IfSome after (CellCaptures S (cell (rule_variable_pattern k xs)) (column_of (record { depth = d; told = part.told })) before)
     part_kept fits None h = tt
@@ -129,13 +112,6 @@ module _ (S : PlainSignature) where
     part_recorded fits t e after h = λ r. (still_one d told part.told p.0, part_kept fits after (along (λ (u : Tree). IfSome after (RecordTold S before k u)) e h))
 
   -- ---- a row's cells
-
-  pub no_cells : (columns : List End) (captured : Captured) → RowTold S [] columns captured (record { captured = Some captured; columns = columns })
-  no_cells columns captured = λ r. (λ bases a. a, (refl, λ parts h. has_no_more S parts (captures_of captured.captures) captured.joins h))
-
-  pub no_columns : (cells : List Cell) (captured : Captured) → RowTold S cells [] captured (record { captured = Some captured; columns = [] })
-  no_columns [] captured = no_cells [] captured
-  no_columns (c ∷ cells) captured = λ r. (λ bases a. a, (refl, λ parts h. has_no_more S parts (captures_of captured.captures) captured.joins h))
 
   module _ (c : Cell) (cells : List Cell) (column : End) (columns : List End) (before : Captured) (here : CellTrial) (told : CellTold S c column before here) where
     pub cell_fails : (trial : RowTrial) → trial.captured ≡ None → trial.columns ≡ here.column ∷ columns → RowTold S (c ∷ cells) (column ∷ columns) before trial
@@ -204,13 +180,6 @@ module _ (S : PlainSignature) where
       by S (tree column.told.form) (shift 0 column.depth (instantiated s 0 g)) (along (λ (v : Tree). MeetIn S (tree column.told.form) v met) is m) in
       ap (λ (js : List Join). all_joined S (plain_joins js) ((tree column.told.form, shift 0 column.depth (instantiated s 0 g)) ∷ [])) j ∙ rw here refl
 
-  pub no_cell_guards : (columns : List End) (captures : Captures) → GuardsTold S [] columns captures []
-  no_cell_guards columns captures = λ s e. refl
-
-  pub no_column_guards : (cells : List Cell) (captures : Captures) → GuardsTold S cells [] captures []
-  no_column_guards [] captures = λ s e. refl
-  no_column_guards (c ∷ cells) captures = λ s e. refl
-
   pub guards_joined : (c : Cell) (cells : List Cell) (column : End) (columns : List End) (captures : Captures) (here behind joins : List Join) → GuardTold S c column captures here
       → GuardsTold S cells columns captures behind → joins ≡ here ++ behind → GuardsTold S (c ∷ cells) (column ∷ columns) captures joins
   guards_joined c cells column columns captures here behind joins h b j = λ s e.
@@ -222,10 +191,6 @@ module _ (S : PlainSignature) where
 
   module _ (cells : List Cell) (columns : List End) (n : ℕ) (none : Captured) (c : captures_of none.captures ≡ replicate n None) (j : none.joins ≡ []) (trial : RowTrial)
       (told : RowTold S cells columns none trial) where
-    pub row_fails : (after : RowTrial) → after.captured ≡ None → after.columns ≡ trial.columns → RowTaken S cells columns after
-    row_fails after e q = λ r bases a.
-        (along (AreEnds S bases) (flip q) ((told r).0 bases a), along (λ (o : Option Captured). IfSome o (TakesAll S bases cells after.columns)) (flip e) tt)
-
     pub row_takes : (captured after : Captured) (joins : List Join) → trial.captured ≡ Some captured → GuardsTold S cells trial.columns (captures_of captured.captures) joins
         → after.captures ≡ captured.captures → after.joins ≡ captured.joins ++ joins → RowTaken S cells columns (record { captured = Some after; columns = trial.columns })
     row_takes captured after joins e g d i = λ r bases a.

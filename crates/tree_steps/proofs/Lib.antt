@@ -1,4 +1,5 @@
 pub mod Placing
+pub mod Counting
 pub mod Matched
 pub mod Firings
 pub mod Stepping

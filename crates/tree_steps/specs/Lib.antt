@@ -1,4 +1,6 @@
 pub mod Places
+pub mod Shapes
+pub mod Counts
 pub mod Conditions
 pub mod Firing
 pub mod Equations

@@ -14,6 +14,7 @@ use Rattle.tree_terms.specs.Rules.{rule}
 use Rattle.tree_steps.specs.declared.parts.Part.{Part}
 use Rattle.tree_steps.specs.declared.parts.Part.TheVariants.{Variable, Guard}
 use Rattle.tree_steps.specs.declared.pairs.Pair.{Pair}
+use Rattle.tree_steps.specs.declared.counted.Counted.{Counted}
 use Rattle.tree_steps.specs.declared.steps.Firing.{Firing}
 use Rattle.tree_steps.specs.declared.equations.Equation.{Equation}
 use Rattle.tree_steps.specs.declared.equations.Equation.TheVariants.{Binds, Parts, Clash, Nothing}
@@ -25,6 +26,9 @@ part (Guard depth g t) = guard_part depth (tree g) (tree t)
 
 abbrev pub pair : Pair → Tree × Tree
 pair p = (tree p.first, tree p.second)
+
+abbrev pub term_of : Counted → Tree
+term_of c = tree c.term
 
 abbrev pub parts : Vec Part Global → List PlainPart
 parts ps = map part ps.items

@@ -61,6 +61,7 @@ impl<'i> ItemsLeft<'i> {
         let Item::Reduction(steps) = item else {
             return Ok(None);
         };
+        let term = term.copy(self.alloc)?;
         let form = Steps::new(self.alloc, version).steps_taken(steps.as_slice(), term)?;
         self.items = rest;
         Ok(form)

@@ -5,6 +5,8 @@
 #![tactic(auto)]
 
 mod conditions;
+mod counted;
+mod counts;
 mod equations;
 mod items;
 mod matching;

@@ -1,123 +1,137 @@
 //! The nodes of a term, numbered in preorder from 0: a node, then its first part, then its second.
-ghost use Rattle.std.specs.Prelude.{◌≡◌, ◌≤◌, ◌<◌, IfOk, IfSome, None};
+ghost use Rattle.std.specs.Prelude.{◌≡◌, OnOk};
 ghost use Rattle.std.specs.Option.{option_copied, option_map};
 ghost use Rattle.dk_model.specs.Trees.{tree};
-ghost use Rattle.dk_model.specs.Signatures.{maybe_tree};
-ghost use Rattle.checked_steps.specs.Matching.{nodes, within};
+ghost use Rattle.tree_steps.specs.Shapes.{shape_of, shape};
 ghost use Rattle.tree_steps.specs.Places.{node_at, with_node};
 
-use dk_model::{NoMemory, Term, make_annotated, make_app, make_bare, make_product};
-use std::alloc::Global;
+use crate::counted::Counted;
+use crate::counts::{Counts, recount_one, recount_two};
+use dk_model::{NoMemory, Term};
 
-/// The number of a term's nodes, where it is at most this: no more nodes are looked at.
-#[tactic(auto, using(checked_steps::proofs::Complete::some_nodes))]
-fn nodes_within(limit: u64, term: &Term) -> Option<u64>
-    ensures count { IfSome result (λ n. n ≡ nodes (tree term.now)) }
-    ensures within { IfSome result (λ n. n ≤ limit) }
-    ensures more { result ≡ None → limit < nodes (tree term.now) }
-{
-    if limit == 0 {
-        return None;
-    }
-    let inner = limit - 1;
-    match term {
-        Term::Star | Term::Kind | Term::Sym(_) | Term::Var(_) | Term::Rvar(_) => Some(1),
-        Term::Abs(None, b) => {
-            let body = nodes_within(inner, b)?;
-            Some(1 + body)
-        }
-        Term::App(a, b) | Term::Abs(Some(a), b) | Term::Prod(a, b) => {
-            let first = nodes_within(inner, a)?;
-            let second = nodes_within(inner - first, b)?;
-            Some(1 + first + second)
-        }
-    }
-}
-
-/// The node of this number, where the term has so many.
-#[tactic(auto, using(crate::proofs::Placing::node_root))]
-pub(crate) fn node_at(place: u64, term: &Term) -> Result<Option<&Term>, NoMemory>
-    ensures { IfOk result (λ node. option_map tree (option_copied node)
-        ≡ node_at place (tree term.now)) }
+/// The node of this number, where the term has so many. Goes down one path.
+#[tactic(auto, using(crate::proofs::Placing::node_root, crate::proofs::Counting::nodes_counted))]
+pub(crate) fn node_at<'t>(place: u64, term: &'t Term, counts: &Counts) -> Option<&'t Term>
+    requires counted { shape counts.now ≡ shape_of (tree term.now) }
+    ensures { option_map tree (option_copied result) ≡ node_at place (tree term.now) }
 {
     if place == 0 {
-        return Ok(Some(term));
+        return Some(term);
     }
     let inner = place - 1;
     match term {
-        Term::Star | Term::Kind | Term::Sym(_) | Term::Var(_) | Term::Rvar(_) => Ok(None),
-        Term::Abs(None, b) => node_at(inner, b),
-        Term::App(a, b) | Term::Abs(Some(a), b) | Term::Prod(a, b) => {
-            let Some(first) = nodes_within(inner, a) else {
-                return node_at(inner, a);
-            };
-            node_at(inner - first, b)
-        }
-    }
-}
-
-/// The term with another one in the place of the node of this number. Its other parts stay as they lie.
-#[tactic(auto, using(crate::proofs::Placing::with_root))]
-fn with_node(alloc: Global, place: u64, term: Term, node: Term) -> Result<Term, NoMemory>
-    ensures { IfOk result (λ t. tree t ≡ with_node place (tree term) (tree node)) }
-{
-    if place == 0 {
-        return Ok(node);
-    }
-    let inner = place - 1;
-    match term {
-        Term::App(f, a) => match nodes_within(inner, &f) {
-            None => {
-                let f = with_node(alloc, inner, Box::into_inner(f), node)?;
-                make_app(alloc, f, Box::into_inner(a))
+        Term::Star | Term::Kind | Term::Sym(_) | Term::Var(_) | Term::Rvar(_) => None,
+        Term::App(f, a) => match counts {
+            Counts::Two(_, first, second) => {
+                let before = first.total();
+                if inner < before {
+                    node_at(inner, f, first)
+                } else {
+                    node_at(inner - before, a, second)
+                }
             }
-            Some(first) => {
-                let a = with_node(alloc, inner - first, Box::into_inner(a), node)?;
-                make_app(alloc, Box::into_inner(f), a)
-            }
+            _ => unreachable!(),
         },
         Term::Abs(annotation, b) => match annotation {
-            None => {
-                let b = with_node(alloc, inner, Box::into_inner(b), node)?;
-                make_bare(alloc, b)
-            }
-            Some(n) => match nodes_within(inner, &n) {
-                None => {
-                    let n = with_node(alloc, inner, Box::into_inner(n), node)?;
-                    make_annotated(alloc, n, Box::into_inner(b))
+            None => match counts {
+                Counts::One(_, body) => node_at(inner, b, body),
+                _ => unreachable!(),
+            },
+            Some(n) => match counts {
+                Counts::Two(_, first, second) => {
+                    let before = first.total();
+                    if inner < before {
+                        node_at(inner, n, first)
+                    } else {
+                        node_at(inner - before, b, second)
+                    }
                 }
-                Some(first) => {
-                    let b = with_node(alloc, inner - first, Box::into_inner(b), node)?;
-                    make_annotated(alloc, Box::into_inner(n), b)
-                }
+                _ => unreachable!(),
             },
         },
-        Term::Prod(a, b) => match nodes_within(inner, &a) {
-            None => {
-                let a = with_node(alloc, inner, Box::into_inner(a), node)?;
-                make_product(alloc, a, Box::into_inner(b))
+        Term::Prod(a, b) => match counts {
+            Counts::Two(_, first, second) => {
+                let before = first.total();
+                if inner < before {
+                    node_at(inner, a, first)
+                } else {
+                    node_at(inner - before, b, second)
+                }
             }
-            Some(first) => {
-                let b = with_node(alloc, inner - first, Box::into_inner(b), node)?;
-                make_product(alloc, Box::into_inner(a), b)
-            }
+            _ => unreachable!(),
         },
-        leaf => Ok(leaf),
     }
 }
 
-/// The same where there is another one.
-pub(crate) fn placed(
-    alloc: Global,
+/// Puts another term in the place of the node of this number. Its other parts stay as they lie.
+#[tactic(auto, using(crate::proofs::Placing::with_root, crate::proofs::Counting::nodes_counted))]
+pub(crate) fn put(
     place: u64,
-    term: Term,
-    node: Option<Term>,
-) -> Result<Option<Term>, NoMemory>
-    ensures { IfOk result (λ t. maybe_tree t
-        ≡ within (with_node place (tree term)) (maybe_tree node)) }
+    term: &mut Term,
+    counts: &mut Counts,
+    node: Counted,
+) -> Result<(), NoMemory>
+    requires counted { shape counts.old ≡ shape_of (tree term.old) }
+    requires within { shape node.counts ≡ shape_of (tree node.term) }
+    ensures placed { OnOk result (tree term.new
+        ≡ with_node place (tree term.old) (tree node.term)) }
+    ensures counted { OnOk result (shape counts.new ≡ shape_of (tree term.new)) }
 {
-    match node {
-        Some(node) => Ok(Some(with_node(alloc, place, term, node)?)),
-        None => Ok(None),
+    if place == 0 {
+        *term = node.term;
+        *counts = node.counts;
+        return Ok(());
+    }
+    let inner = place - 1;
+    match term {
+        Term::Star | Term::Kind | Term::Sym(_) | Term::Var(_) | Term::Rvar(_) => Ok(()),
+        Term::App(f, a) => match counts {
+            Counts::Two(total, first, second) => {
+                let before = first.total();
+                if inner < before {
+                    put(inner, f, first, node)?;
+                    recount_two(total, first, second)
+                } else {
+                    put(inner - before, a, second, node)?;
+                    recount_two(total, first, second)
+                }
+            }
+            _ => unreachable!(),
+        },
+        Term::Abs(annotation, b) => match annotation {
+            None => match counts {
+                Counts::One(total, body) => {
+                    put(inner, b, body, node)?;
+                    recount_one(total, body)
+                }
+                _ => unreachable!(),
+            },
+            Some(n) => match counts {
+                Counts::Two(total, first, second) => {
+                    let before = first.total();
+                    if inner < before {
+                        put(inner, n, first, node)?;
+                        recount_two(total, first, second)
+                    } else {
+                        put(inner - before, b, second, node)?;
+                        recount_two(total, first, second)
+                    }
+                }
+                _ => unreachable!(),
+            },
+        },
+        Term::Prod(a, b) => match counts {
+            Counts::Two(total, first, second) => {
+                let before = first.total();
+                if inner < before {
+                    put(inner, a, first, node)?;
+                    recount_two(total, first, second)
+                } else {
+                    put(inner - before, b, second, node)?;
+                    recount_two(total, first, second)
+                }
+            }
+            _ => unreachable!(),
+        },
     }
 }

@@ -128,7 +128,7 @@ impl<'v> Steps<'v> {
             (under (map maybe_tree bindings.now) (tree side.now)))) }
     {
         let side = under(self.alloc, bindings, side)?;
-        match self.steps_taken(steps, &side)? {
+        match self.steps_taken(steps, side)? {
             Some(side) => Ok(Some(under(self.alloc, bindings, &side)?)),
             None => Ok(None),
         }

@@ -1,20 +1,23 @@
 //! Steps at the nodes of a term, and terms that are joined by them.
-ghost use Rattle.std.specs.Prelude.{◌≡◌, ◌<◌, IfOk, map};
+ghost use Rattle.std.specs.Prelude.{◌≡◌, ◌<◌, Some, IfOk, IfSome, map};
 ghost use Rattle.std.specs.Option.{option_map};
 ghost use Rattle.dk_model.specs.Trees.{tree};
 ghost use Rattle.dk_model.specs.Signatures.{maybe_tree};
 ghost use Rattle.signature_log.specs.Versions.{entries_of};
-ghost use Rattle.checked_steps.specs.Matching.{to_join};
+ghost use Rattle.checked_steps.specs.Matching.{to_join, within};
 ghost use Rattle.checked_steps.specs.Taken.{both_same, contracted, fired, step_taken, steps_taken, all_joined};
 ghost use Rattle.certificate_items.specs.Views.{plain_step, plain_steps, plain_joins};
+ghost use Rattle.tree_steps.specs.Counts.{IsCounted};
 ghost use Rattle.tree_steps.specs.Firing.{firing_of};
-ghost use Rattle.tree_steps.specs.Views.{firing, pair};
+ghost use Rattle.tree_steps.specs.Places.{with_node};
+ghost use Rattle.tree_steps.specs.Views.{firing, pair, term_of};
 
 use crate::conditions::to_join;
+use crate::counted::Counted;
 use crate::matching::all_matched;
 use crate::pairs::Pair;
 use crate::parts::{Part, instantiated};
-use crate::places::{node_at, placed};
+use crate::places::node_at;
 use certificate_items::{Join, Step};
 use dk_model::{NoMemory, Term};
 use signature_log::Version;
@@ -79,6 +82,24 @@ fn deeper(depth: u32) -> Result<u32, NoMemory>
     }
 }
 
+/// A term with another one in the place of a node, where there is another one.
+fn placed(
+    alloc: Global,
+    place: u64,
+    counted: Counted,
+    node: Option<Term>,
+) -> Result<Option<Counted>, NoMemory>
+    requires counted { IsCounted counted }
+    ensures placed { IfOk result (λ t. option_map term_of t
+        ≡ within (with_node place (tree counted.term)) (maybe_tree node)) }
+    ensures counted { IfOk result (λ t. IfSome t IsCounted) }
+{
+    match node {
+        Some(node) => Ok(Some(counted.with_node(alloc, place, node)?)),
+        None => Ok(None),
+    }
+}
+
 /// The steps over a version.
 #[derive(Clone, Copy)]
 pub(crate) struct Steps<'v> {
@@ -101,32 +122,38 @@ impl<'v> Steps<'v> {
 
     /// The term after these steps, one after the other.
     #[cycle(steps)]
-    pub(crate) fn steps_taken(self, steps: &[Step], term: &Term) -> Result<Option<Term>, NoMemory>
+    pub(crate) fn steps_taken(self, steps: &[Step], term: Term) -> Result<Option<Term>, NoMemory>
         ensures { IfOk result (λ t. maybe_tree t
             ≡ steps_taken (entries_of self.entry.version.now) (plain_steps steps.now)
-            (tree term.now)) }
+            (tree term)) }
     {
-        let mut term = term.copy(self.alloc)?;
+        if steps.is_empty() {
+            return Ok(Some(term));
+        }
+        let mut counted = Counted::new(self.alloc, term)?;
         for step in steps {
-            match self.step_taken(step, term)? {
-                Some(next) => term = next,
+            match self.step_taken(step, counted)? {
+                Some(next) => counted = next,
                 None => return Ok(None),
             }
         }
-        Ok(Some(term))
+        Ok(Some(counted.term))
     }
 
     /// The term after a step, where the step can be taken.
     #[cycle(steps)]
-    fn step_taken(self, step: &Step, term: Term) -> Result<Option<Term>, NoMemory>
-        ensures { IfOk result (λ t. maybe_tree t
-            ≡ step_taken (entries_of self.entry.version.now) (plain_step step.now) (tree term)) }
+    fn step_taken(self, step: &Step, counted: Counted) -> Result<Option<Counted>, NoMemory>
+        requires counted { IsCounted counted }
+        ensures taken { IfOk result (λ t. option_map term_of t
+            ≡ step_taken (entries_of self.entry.version.now) (plain_step step.now)
+            (tree counted.term)) }
+        ensures counted { IfOk result (λ t. IfSome t IsCounted) }
     {
         match step {
-            Step::Beta(place) => match node_at(*place, &term)? {
+            Step::Beta(place) => match node_at(*place, &counted.term, &counted.counts) {
                 Some(node) => {
                     let node = contracted(self.alloc, node)?;
-                    placed(self.alloc, *place, term, node)
+                    placed(self.alloc, *place, counted, node)
                 }
                 None => Ok(None),
             },
@@ -134,10 +161,10 @@ impl<'v> Steps<'v> {
                 place,
                 number,
                 joins,
-            } => match node_at(*place, &term)? {
+            } => match node_at(*place, &counted.term, &counted.counts) {
                 Some(node) => {
                     let node = self.fired(*number, joins.as_slice(), node)?;
-                    placed(self.alloc, *place, term, node)
+                    placed(self.alloc, *place, counted, node)
                 }
                 None => Ok(None),
             },
@@ -197,13 +224,30 @@ impl<'v> Steps<'v> {
             depth: deeper(self.depth)?,
             ..self
         };
-        let Some(first) = inner.steps_taken(join.first.as_slice(), first)? else {
+        let steps = join.first.as_slice();
+        if steps.is_empty() {
+            return inner.is_reached(first, join.second.as_slice(), second);
+        }
+        let Some(first) = inner.steps_taken(steps, first.copy(self.alloc)?)? else {
             return Ok(false);
         };
-        let Some(second) = inner.steps_taken(join.second.as_slice(), second)? else {
-            return Ok(false);
-        };
-        Ok(first.equal(&second))
+        inner.is_reached(&first, join.second.as_slice(), second)
+    }
+
+    /// Whether the steps of a term lead to this one, letter by letter.
+    #[cycle(steps)]
+    fn is_reached(self, reached: &Term, steps: &[Step], term: &Term) -> Result<bool, NoMemory>
+        ensures { IfOk result (λ yes. yes ≡ both_same (Some (tree reached.now))
+            (steps_taken (entries_of self.entry.version.now) (plain_steps steps.now)
+            (tree term.now))) }
+    {
+        if steps.is_empty() {
+            return Ok(reached.equal(term));
+        }
+        match self.steps_taken(steps, term.copy(self.alloc)?)? {
+            Some(term) => Ok(reached.equal(&term)),
+            None => Ok(false),
+        }
     }
 }
 
@@ -217,7 +261,7 @@ pub fn take_steps(
     ensures { IfOk result (λ t. maybe_tree t
         ≡ steps_taken (entries_of version.now) (plain_steps steps.now) (tree term.now)) }
 {
-    Steps::new(alloc, version).steps_taken(steps, term)
+    Steps::new(alloc, version).steps_taken(steps, term.copy(alloc)?)
 }
 
 /// Whether the steps of two terms lead to one term, letter by letter.

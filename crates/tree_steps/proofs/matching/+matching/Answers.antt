@@ -1,4 +1,4 @@
-use Rattle.std.proofs.Common.{◌≡◌, ◌∙◌, IfOk, ap, true, subst, sym as flip}
+use Rattle.std.proofs.Common.{◌≡◌, ◌∙◌, IfOk, ap, subst, sym as flip}
 use Rattle.std.specs.Option.{option_map}
 use Rattle.dk_model.specs.Trees.{tree}
 use Rattle.dk_model.specs.PlainTerms.{variable}
