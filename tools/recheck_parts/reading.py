@@ -1,252 +1,152 @@
-"""Commands of a file (docs/syntax.md, docs/grammar.md), scoped and shaped (docs/scoping.md, docs/rules.md). Limits of sizes and
-levels aren't looked at."""
+"""Commands of a file (docs/syntax.md, docs/grammar.md), as tuples with names. Limits of sizes and levels aren't looked at.
+
+A term is `("name", x)`, `("qname", m, x)`, `("_",)`, `("Type",)`, `("guard", t)`, `("app", f, a)`, or a product or an abstraction,
+`("prod", x, A, B)` and `("abs", x, A, t)`: x is None where it has no name, A where it isn't written."""
+import functools
 import re
 
-from .terms import STAR, any_leaf, spine, term
+RUN, QUOTED = rb"[A-Za-z0-9_!?][A-Za-z0-9_!?']*", rb"\{\|[^\n]*?\|\}"
+NAMES = rb"(?P<qname>(?P<module>%s)\.(?P<symbol>%s|%s))|(?P<name>%s|%s)" % (RUN, RUN, QUOTED, RUN, QUOTED)
+SIGNS = rb"(?P<sign>#[A-Za-z]+|:=|-->|->|=>|==|[:.,()\[\]{}])"
+TOKEN = re.compile(rb"(?P<blank>[ \t\r\n]+|\(;)|%s|%s" % (NAMES, SIGNS))
+COMMENT = re.compile(rb"(?P<blank>\(;|;\))")
+WORDS = (b"_", b"Type", b"def", b"thm", b"defac", b"defacu", b"injective", b"private")
+# Whether a declaration of each sort may have a type and a body.
+FORMS = {"static": [(True, False)], "thm": [(True, True)], "def": [(True, False), (True, True), (False, True)]}
 
 
 class Refused(Exception):
     pass
 
 
-RUN = rb"[A-Za-z0-9_!?][A-Za-z0-9_!?']*"
-COMMENT = re.compile(rb"\(;|;\)")
-TOKEN = re.compile(rb"(?P<name>%s(?:\.(?:%s|\{\|[^\n]*?\|\}))?|\{\|[^\n]*?\|\})|(?P<word>#[A-Za-z]+)"
-                   rb"|(?P<sign>:=|-->|->|=>|==|[:.,()\[\]{}])" % (RUN, RUN))
+def demand(holds):
+    """Refuses the command where this isn't so."""
+    if not holds:
+        raise Refused("reading")
 
 
 def tokens(data):
-    at = 0
-    while at < len(data):
-        if data[at] in b" \t\r\n":
-            at += 1
-        elif data.startswith(b"(;", at):
-            depth, at = 1, at + 2
-            while depth:
-                found = COMMENT.search(data, at)
-                if not found:
-                    raise Refused("reading")
-                depth += 1 if found.group() == b"(;" else -1
-                at = found.end()
+    """The tokens: names as `("name", x)` and `("qname", m, x)`, any other as its text alone."""
+    at = depth = 0
+    while at < len(data) or depth:
+        found = COMMENT.search(data, at) if depth else TOKEN.match(data, at)
+        demand(found and found.groupdict().get("symbol") != b"_")
+        at, text = found.end(), found.group()
+        depth += {b"(;": 1, b";)": -1}.get(text, 0)
+        if found.lastgroup == "qname":
+            yield ("qname", *found.group("module", "symbol"))
+        elif found.lastgroup == "name" and text not in WORDS:
+            yield ("name", text)
+        elif found.lastgroup != "blank":
+            yield (text.decode(),)
+
+
+def commands(data):
+    """The commands and directives, in order, of their tokens, those in brackets being one: `("()", [..])`."""
+    words, around = [], []
+    for it in tokens(data):
+        if it[0] in ("(", "[", "{"):
+            around.append((it[0], words))
+            words = []
+        elif it[0] in (")", "]", "}"):
+            sign, outer = around.pop() if around else ("", [])
+            demand(sign + it[0] in ("()", "[]", "{}"))
+            outer.append((sign + it[0], words))
+            words = outer
+        elif it[0] == ".":
+            demand(words and not around)
+            yield command(words)
+            words = []
         else:
-            found = TOKEN.match(data, at)
-            if not found:
-                raise Refused("reading")
-            at = found.end()
-            text = found.group()
-            qualified = re.match(rb"(%s)\.(.*)\Z" % RUN, text, re.S)
-            if found.lastgroup == "name" and qualified:
-                yield ("qname", *qualified.groups())
-            else:
-                yield ("sign" if text in (b"_", b"Type", b"def", b"thm") else found.lastgroup, text)
-    while True:
-        yield ("end", b"")
+            words.append(it)
+    demand(not words and not around)
 
 
-class Parser:
-    """Commands with names, as tuples."""
-
-    def __init__(self, data):
-        self.source, self.ahead = tokens(data), []
-
-    def peek(self, far=0):
-        while len(self.ahead) <= far:
-            self.ahead.append(next(self.source))
-        return self.ahead[far]
-
-    def take(self, kind, *texts):
-        """The text of the next token, which must be of this kind, and one of these texts where there are some."""
-        found = self.peek()
-        if found[0] != kind or (texts and found[1] not in texts):
-            raise Refused("reading")
-        return self.ahead.pop(0)[1]
-
-    def sees(self, *signs):
-        return self.peek()[0] == "sign" and self.peek()[1] in signs
-
-    def if_sees(self, sign):
-        return self.sees(sign) and self.take("sign") == sign
-
-    def binder(self):
-        return None if self.if_sees(b"_") else self.take("name")
-
-    def binds(self, far, *signs):
-        """Whether a binder comes and then one of these signs."""
-        x, behind = self.peek(far), self.peek(far + 1)
-        return (x[0] == "name" or x == ("sign", b"_")) and behind[0] == "sign" and behind[1] in signs
-
-    def closed(self, t, sign=b")"):
-        self.take("sign", sign)
-        return t
-
-    def atom(self, pattern=False):
-        if self.peek()[0] in ("name", "qname"):
-            return self.ahead.pop(0)
-        if pattern and self.if_sees(b"{"):
-            return self.closed(("guard", self.term()), b"}")
-        sign = self.take("sign", b"_", b"(", *([] if pattern else [b"Type"]))
-        return (sign,) if sign != b"(" else self.closed(self.pattern() if pattern else self.term())
-
-    def application(self, pattern=False, head=None):
-        t = head or self.atom(pattern)
-        while self.peek()[0] in ("name", "qname") or self.sees(b"_", b"Type", b"(", b"{"):
-            t = ("app", t, self.atom(pattern))
-        return t
-
-    def term(self):
-        if self.binds(0, b"=>"):
-            return ("abs", self.binder(), None, self.behind(b"=>"))
-        if self.binds(0, b":"):
-            return self.bound()
-        head = None
-        if self.sees(b"(") and self.binds(1, b":"):
-            self.take("sign")
-            head = self.bound(True)
-            if len(head) == 2:
-                return ("prod", *head, self.behind(b"->"))
-        t = self.application(head=head)
-        return ("prod", None, t, self.behind(b"->")) if self.sees(b"->") else t
-
-    def behind(self, sign):
-        self.take("sign", sign)
-        return self.term()
-
-    def bound(self, bracket=False):
-        """`x : A -> t` or `x : A => t`; behind a bracket also `x : A` alone, and in each case up to the closing bracket."""
-        x = self.binder()
-        self.take("sign", b":")
-        typ = self.application()
-        if bracket and self.if_sees(b")"):
-            return x, typ
-        kind = "prod" if self.take("sign", b"->", b"=>") == b"->" else "abs"
-        t = (kind, x, typ, self.term())
-        return self.closed(t) if bracket else t
-
-    def pattern(self):
-        if self.binds(0, b"=>"):
-            x = self.binder()
-            self.take("sign")
-            return ("abs", x, None, self.pattern())
-        return self.application(True)
-
-    def rule(self):
-        if self.if_sees(b"{"):
-            self.atom(True)
-            self.take("sign", b"}")
-        self.take("sign", b"[")
-        context = []
-        while not self.if_sees(b"]"):
-            if context:
-                self.take("sign", b",")
-            x = self.take("name")
-            context.append((x, self.term() if self.if_sees(b":") else None))
-        left = self.application(True)
-        return context, left, self.behind(b"-->")
-
-    def command(self):
-        """The next command or directive, or None at the end."""
-        if self.peek()[0] == "end":
-            return None
-        if self.sees(b"[", b"{"):
-            rules = [self.rule()]
-            while not self.sees(b"."):
-                rules.append(self.rule())
-            return self.closed(("rules", rules), b".")
-        if self.peek()[0] == "word":
-            word = self.take("word", b"#NAME", b"#REQUIRE", b"#CHECK", b"#ASSERT", b"#INFER", b"#EVAL")
-            if word in (b"#NAME", b"#REQUIRE"):
-                return self.closed((word, self.take("name")), b".")
-            if word in (b"#INFER", b"#EVAL"):
-                return self.closed(("query", [self.term()]), b".")
-            first = self.application()
-            self.take("sign", b":", b"==")
-            return self.closed(("query", [first, self.term()]), b".")
-        sort = "def" if self.if_sees(b"def") else "thm" if self.if_sees(b"thm") else "static"
-        name, parameters = self.take("name"), []
-        while self.if_sees(b"("):
-            x = self.binder()
-            parameters.append((x, self.closed(self.behind(b":"))))
-        typ = self.behind(b":") if self.sees(b":") or sort != "def" else None
-        body = self.behind(b":=") if sort == "thm" or typ is None or (sort == "def" and self.sees(b":=")) else None
-        return self.closed(("declare", sort, name, parameters, typ, body), b".")
+def cut(words, *signs):
+    """What stands in front of the first of these signs, that token, and what stands behind; None for both where there is none."""
+    at = next((k for k, it in enumerate(words) if it[0] in signs), None)
+    return (words, None, None) if at is None else (words[:at], words[at], words[at + 1 :])
 
 
-class Symbol:
-    def __init__(self, sort, typ, body=None):
-        self.sort, self.typ = sort, typ
-        self.rules = [] if body is None else [([], body)]
+def split(words, sign):
+    front, found, behind = cut(words, sign)
+    return [front] + (split(behind, sign) if found else [])
 
 
-class Theory:
-    """The entries of the commands, and the numbers of the names of each module."""
+def command(words):
+    first = words[0][0]
+    if first in ("[]", "{}"):
+        return ("rules", list(rules(words)))
+    if first in ("#NAME", "#REQUIRE"):
+        demand(not name_of(words[1:]).startswith(b"{|"))
+        return (first, words[1][1])
+    if first in ("#INFER", "#EVAL"):
+        return ("query", [term(words[1:])])
+    if first in ("#CHECK", "#ASSERT"):
+        left, sign, right = cut(words[1:], ":", "==")
+        demand(sign)
+        return ("query", [application(left), term(right)])
+    sort = first if first in FORMS else "static"
+    front, defined, body = cut(words[sort != "static" :], ":=")
+    front, colon, typ = cut(front, ":")
+    demand((colon is not None, defined is not None) in FORMS[sort] and all(it[0] == "()" for it in front[1:]))
+    typ, body = colon and term(typ), defined and term(body)
+    for x, a in [typed(it[1], "_") for it in front[:0:-1]]:
+        demand(a)
+        typ, body = typ and ("prod", x, a, typ), body and ("abs", x, a, body)
+    return ("declare", sort, name_of(front[:1]), typ, body)
 
-    def __init__(self):
-        self.entries, self.names = [], {}
 
-    def symbol(self, module, name):
-        if (module, name) not in self.names:
-            raise Refused("E10")
-        return term("sym", self.names[module, name])
+def rules(words):
+    """The context, the left side and the right side of each rule."""
+    while words:
+        name, context, words = cut(words, "[]")
+        demand(context and [it[0] for it in name] in ([], ["{}"]))
+        for it in name:
+            name_of(it[1], "qname")
+        left, arrow, words = cut(words, "-->")
+        demand(arrow)
+        right = cut(words, "[]", "{}")[0]
+        words = words[len(right) :]
+        yield [typed(it) for it in split(context[1], ",") if context[1]], application(left, True), term(right)
 
-    def scoped(self, module, t, names=(), bound=(), left=False):
-        """The term; of a left side, one in which a wildcard is `any` and a guard is `guard`."""
-        kind = t[0]
-        if kind == "name" and t[1] in bound:
-            return term("var", bound[::-1].index(t[1]))
-        if kind == "name" and t[1] in names:
-            return term("rvar", names.index(t[1]))
-        if kind in ("name", "qname"):
-            return self.symbol(*(t[1:] if kind == "qname" else (module, t[1])))
-        if kind == b"_" and not left:
-            raise Refused("E12")
-        if kind in (b"_", b"Type"):
-            return term("any") if left else STAR
-        if kind == "guard":
-            return term("guard", self.scoped(module, t[1], names))
-        if kind == "app":
-            f = self.scoped(module, t[1], names, bound, left)
-            return term("app", f, self.scoped(module, t[2], names, bound, left))
-        parts = [] if t[2] is None else [self.scoped(module, t[2], names, bound)]
-        parts.append(self.scoped(module, t[3], names, (*bound, t[1]), left))
-        return term("note" if kind == "abs" and len(parts) == 2 else kind, *parts)
 
-    def rule(self, module, context, left, right):
-        names, notes = [], []
-        for x, note in context:
-            if x in names:
-                raise Refused("E13")
-            notes.append(None if note is None else self.scoped(module, note, names))
-            names.append(x)
-        left = self.scoped(module, left, names, left=True)
-        return self.shape(notes, left, self.scoped(module, right, names))
+def typed(words, *kinds):
+    """A name, or a token of one of these kinds, and the type behind it, None where there is none."""
+    x, colon, typ = cut(words, ":")
+    return name_of(x, *kinds), colon and term(typ)
 
-    def shape(self, notes, left, right):
-        """The rule as its head, its annotations, its patterns and its right side."""
-        found, terms = set(), [right] + [note for note in notes if note is not None]
 
-        def pattern(p):
-            head, arguments = spine(p)
-            if head.tag == "rvar":
-                found.add(head.a)
-                if any(a.tag != "var" for a in arguments) or len(set(arguments)) < len(arguments):
-                    raise Refused("E32")
-            elif head.tag in ("sym", "var"):
-                for a in arguments:
-                    pattern(a)
-            elif arguments:
-                raise Refused("E32")
-            elif head.tag == "abs":
-                pattern(head.a)
-            elif head.tag == "guard":
-                terms.append(head.a)
+def name_of(words, *kinds):
+    """The only token, a name or of one of these kinds: its name, None where it has none."""
+    demand(len(words) == 1 and words[0][0] in ("name", *kinds))
+    return words[0][-1] if len(words[0]) > 1 else None
 
-        head, patterns = spine(left)
-        if head.tag != "sym":
-            raise Refused("E31")
-        for p in patterns:
-            pattern(p)
-        if any(any_leaf(t, lambda v, d: v.tag == "rvar" and v.a not in found) for t in terms):
-            raise Refused("E33")
-        if self.entries[head.a].sort != "def":
-            raise Refused("E30")
-        return head, notes, patterns, right
+
+def term(words, is_left=False):
+    """A term; of a left side, a pattern."""
+    front, arrow, behind = cut(words, "->", "=>")
+    if arrow is None:
+        return application(words, is_left)
+    if arrow == ("->",) and len(front) == 1 and front[0][0] == "()":
+        inside = [it[0] for it in front[0][1]]
+        front = front[0][1] if ":" in inside and not {"->", "=>"} & set(inside) else front
+    x, colon, typ = cut(front, ":")
+    demand(not is_left or (arrow == ("=>",) and colon is None))
+    if arrow == ("->",) and colon is None:
+        return ("prod", None, application(front), term(behind))
+    return ("prod" if arrow == ("->",) else "abs", name_of(x, "_"), colon and application(typ), term(behind, is_left))
+
+
+def application(words, is_left=False):
+    demand(words)
+    return functools.reduce(lambda f, a: ("app", f, a), [atom(it, is_left) for it in words])
+
+
+def atom(word, is_left):
+    if word[0] == "()":
+        return term(word[1], is_left)
+    if word[0] == "{}" and is_left:
+        return ("guard", term(word[1]))
+    demand(word[0] in ("name", "qname", "_") or (word[0] == "Type" and not is_left))
+    return word
