@@ -10,14 +10,22 @@ ghost use Rattle.signature_log.specs.Versions.{entries_of};
 ghost use Rattle.file_report.specs.Jobs.{due_on};
 ghost use Rattle.file_check.specs.Jobs.{IsOtherVerdict, job_of};
 
+use crate::gate::OpenGate;
 use board_core::{Checkable, Past};
 use command_check::{StoredCommand, check_stored, infer_type, query};
 use conversion::PoolReducer;
 use dk_model::{NoMemory, Scoped, Verdict};
 use shared_term::{Found, Stored};
 use signature_log::Version;
+use split_check::{Crew, Spare, check_split};
 use std::alloc::Global;
+use std::sync::Wait;
+use std::thread::Threads;
 use verdict_book::Title;
+
+/// The stack of a thread that works on terms, in bytes. It has room for what nests (docs/DECISIONS.md); a page of it takes
+/// memory only once it is used.
+pub const STACK: usize = 1 << 28;
 
 /// One command with what its check needs. What a report shows of it is kept beside the board, and stands here for contracts
 /// alone.
@@ -59,6 +67,30 @@ impl Worker {
     {
         self.reducer.clear();
         check_stored(&mut self.reducer, &job.version, &job.command, job.budget)
+    }
+
+    /// The same, where the body is split among threads at arguments of so many nodes.
+    #[tactic(auto, using(crate::proofs::Preparing::verdict_or_memory))]
+    pub fn check_split<R: Threads + Wait + Sync>(
+        &mut self,
+        rt: &R,
+        spare: &Spare,
+        nodes: u32,
+        job: &Job,
+    ) -> Verdict
+        ensures { (result ≡ due_on (job_of job.now)) ⊎ (result ≡ Memory) }
+    {
+        self.reducer.clear();
+        let crew = Crew {
+            version: &job.version,
+            rt,
+            gate: &OpenGate,
+            spare,
+            nodes,
+            number: 0,
+            stack: STACK,
+        };
+        check_split(&crew, &mut self.reducer, &job.command, job.budget)
     }
 
     /// The type of a definition without a declared one, where it is accepted; else its verdict.

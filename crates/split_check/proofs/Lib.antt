@@ -6,7 +6,6 @@ pub mod Joining
 pub mod Judged
 pub mod Layings
 pub mod Onward
-pub mod Pools
 pub mod Putting
 pub mod Sending
 pub mod Walking

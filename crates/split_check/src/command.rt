@@ -1,5 +1,5 @@
 //! The verdict on a command whose body is split.
-ghost use Rattle.std.specs.Prelude.{◌≡◌, ℕ, IfOk, List, Some};
+ghost use Rattle.std.specs.Prelude.{◌≡◌, ℕ, IfOk, Some};
 ghost use Rattle.dk_model.specs.Answering.{IsVerdictOrMemory};
 ghost use Rattle.dk_model.specs.Typing.{Judged};
 ghost use Rattle.dk_model.specs.Verdicts.{declaration_checked, verdict, verdict_of};
@@ -12,13 +12,12 @@ ghost use Rattle.typing_model.specs.Derivations.{HasDerivation};
 ghost use Rattle.infer_check.specs.Walks.{Follows};
 ghost use Rattle.command_check.specs.Commands.{stored_command};
 ghost use Rattle.split_parts.specs.Parts.{combined, part};
-ghost use Rattle.split_parts.specs.declared.part.PartResult.{PartResult};
-ghost use Rattle.split_check.specs.Due.{AreDue, IsDue};
+ghost use Rattle.split_check.specs.Due.{IsDue};
 ghost use Rattle.split_check.specs.Steps.{steps_due};
 
 use crate::crew::{Crew, PartGate};
 use crate::forks::Forks;
-use crate::judging::{judge_here, judge_steps, left_over};
+use crate::judging::judge_steps;
 use crate::laying::{Laying, lay_fit, lay_sort};
 use crate::sizes::{MOST, size};
 use crate::step::Step;
@@ -76,7 +75,7 @@ where
 }
 
 /// The verdict on a declared type and its body.
-#[tactic(auto, using(signature_log::proofs::Keeping::keeps_further))]
+#[tactic(auto, using(crate::proofs::Commands::results_due, signature_log::proofs::Keeping::keeps_further))]
 fn check_declared<R: Forks + Drop + Send, W: Threads + Wait + Sync, G: PartGate + Sync>(
     crew: &Crew<W, G>,
     reducer: &mut R,
@@ -94,30 +93,17 @@ where
     let Ok(steps) = lay_declared(reducer, crew.version, crew.nodes, declared, budget) else {
         return Verdict::Memory;
     };
-    if left_over(steps.as_slice()) < 2 {
-        let results = judge_here(crew, reducer, steps.as_slice(), budget);
-        return told_by(results, budget);
-    }
     let Ok(other) = reducer.fresh() else {
         return Verdict::Memory;
     };
     let (_other, results) = judge_steps(crew, other, steps.as_slice(), budget);
-    told_by(results, budget)
-}
-
-/// The verdict that is told by the results of the steps.
-fn told_by(results: Result<Vec<PartResult>, NoMemory>, budget: u64) -> Verdict
-    ensures { (due : Judged (Unit {0})) (dues : List PartResult)
-        → combined dues budget ≡ part budget due → IfOk results (λ v. AreDue dues v.items)
-        → IsVerdictOrMemory (verdict due) result }
-{
     match results {
         Ok(results) => told(combine(results.as_slice(), budget)),
         Err(_) => Verdict::Memory,
     }
 }
 
-/// The verdict that is told by what all steps come to.
+/// The verdict that is told by what the steps come to.
 #[tactic(auto, using(crate::proofs::Commands::told_due))]
 fn told(found: PartResult) -> Verdict
     ensures { (due : Judged (Unit {0})) (budget : ℕ) → IsDue (part budget due) found

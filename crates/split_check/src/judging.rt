@@ -74,8 +74,8 @@ fn judge_step<R: Reducer, W, G: PartGate>(
 }
 
 /// What the steps come to, one after the other.
-#[tactic(auto, using(crate::proofs::Judged::due_further, signature_log::proofs::Keeping::keeps_none, signature_log::proofs::Keeping::keeps_further, infer_check::proofs::Walks::follows))]
-pub(crate) fn judge_here<R: Reducer, W, G: PartGate>(
+#[tactic(auto, using(crate::proofs::Judged::due_further))]
+fn judge_here<R: Reducer, W, G: PartGate>(
     crew: &Crew<W, G>,
     r: &mut R,
     steps: &[Step],
@@ -84,8 +84,7 @@ pub(crate) fn judge_here<R: Reducer, W, G: PartGate>(
     requires { R.serves (entries_of crew.now.version.now) r.old }
     ensures due { IfOk result (λ v. AreDue
         (steps_due (entries_of crew.now.version.now) whole steps.now) v.items) }
-    ensures follows { Follows R.owns R.denotes R.serves (entries_of crew.now.version.now)
-        r.old r.new }
+    ensures serves { R.serves (entries_of crew.now.version.now) r.new }
 {
     let mut results = Vec::new(r.alloc());
     let mut rest = steps;
@@ -97,7 +96,7 @@ pub(crate) fn judge_here<R: Reducer, W, G: PartGate>(
 }
 
 /// How many steps are left.
-pub(crate) fn left_over(steps: &[Step]) -> usize {
+fn left_over(steps: &[Step]) -> usize {
     let mut count: usize = 0;
     for step in steps {
         if let Step::Check(_) = step {

@@ -19,3 +19,6 @@ pub use command::check_split;
 pub use crew::{Crew, PartGate};
 pub use forks::Forks;
 pub use spare::Spare;
+
+#[cfg(test)]
+mod trial;

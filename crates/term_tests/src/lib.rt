@@ -20,8 +20,6 @@ mod pruning;
 #[cfg(test)]
 mod queries;
 #[cfg(test)]
-mod splitting;
-#[cfg(test)]
 mod texts;
 #[cfg(test)]
 mod versions;

@@ -2,7 +2,10 @@
 use board_core::{Checkable, Checker, End, Event, Gate};
 use dk_model::Verdict;
 use std::sync::atomic::{AtomicU64, Ordering};
+use std::sync::Wait;
 use std::thread;
+use std::thread::Threads;
+use worker_crew::ThreadedChecker;
 
 /// How often a check that waits for another looks for it before it gives up.
 const LOOKS: u32 = 10_000_000;
@@ -49,6 +52,18 @@ impl Told {
             }
             thread::yield_now();
         }
+    }
+}
+
+impl ThreadedChecker for Told {
+    type Job = Own;
+
+    type Kit = ();
+
+    fn kit(&self) {}
+
+    fn check<R: Threads + Wait + Sync>(&self, _: &R, kit: &mut (), job: &Own) -> Verdict {
+        Checker::check(self, kit, job)
     }
 }
 
