@@ -1,7 +1,8 @@
 //! How a worker of the board checks a job.
-use crate::job::{Job, Worker};
+use crate::job::{Job, STACK, Worker};
+use board_core::Gate;
 use dk_model::Verdict;
-use split_check::Spare;
+use split_check::{Crew, Spare};
 use std::alloc::Global;
 use std::sync::Wait;
 use std::thread::Threads;
@@ -27,9 +28,10 @@ impl ThreadedChecker for JobChecker {
         None
     }
 
-    fn check<R: Threads + Wait + Sync>(
+    fn check<R: Threads + Wait + Sync, G: Gate + Sync>(
         &self,
         rt: &R,
+        gate: &G,
         kit: &mut Option<Worker>,
         job: &Job,
     ) -> Verdict {
@@ -40,7 +42,18 @@ impl ThreadedChecker for JobChecker {
             None => Verdict::Memory,
             Some(worker) => match self.split {
                 None => worker.check(job),
-                Some(nodes) => worker.check_split(rt, &self.spare, nodes, job),
+                Some(nodes) => {
+                    let crew = Crew {
+                        version: &job.version,
+                        rt,
+                        gate,
+                        spare: &self.spare,
+                        nodes,
+                        number: job.number,
+                        stack: STACK,
+                    };
+                    worker.check_split(&crew, job)
+                }
             },
         }
     }

@@ -57,7 +57,10 @@ impl Desk {
             .theory
             .prepare(alloc, &mut self.worker, self.budget, command)
         {
-            Ok(prepared) => self.put(rt, alloc, board, prepared),
+            Ok(mut prepared) => {
+                prepared.job.number = self.titles.len() as u32 + 1;
+                self.put(rt, alloc, board, prepared)
+            }
             Err(verdict) => Err(NotPut::Verdict(verdict)),
         }
     }

@@ -7,7 +7,6 @@ mod checker;
 mod checking;
 mod desk;
 mod finding;
-mod gate;
 mod halt;
 mod job;
 mod lectern;

@@ -155,6 +155,7 @@ impl Theory {
         };
         let title = Title { shown, place };
         let job = Job {
+            number: 0,
             version: before,
             command,
             budget,

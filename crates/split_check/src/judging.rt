@@ -11,9 +11,10 @@ ghost use Rattle.split_check.specs.Due.{AreDue, IsDue};
 ghost use Rattle.split_check.specs.Steps.{sent_bound_types, sent_rule_types, step_due, steps_due};
 
 use crate::context::brought_context;
-use crate::crew::{Crew, PartGate};
+use crate::crew::Crew;
 use crate::forks::Forks;
 use crate::step::{Part, Step, fit_result};
+use board_core::Gate;
 use core::thread::Stack;
 use dk_model::{NoMemory, TypeFault};
 use infer_check::{Walk, check};
@@ -50,7 +51,7 @@ fn judge_part<R: Reducer>(
 }
 
 /// What a step comes to.
-fn judge_step<R: Reducer, W, G: PartGate>(
+fn judge_step<R: Reducer, W, G: Gate>(
     crew: &Crew<W, G>,
     r: &mut R,
     step: &Step,
@@ -75,7 +76,7 @@ fn judge_step<R: Reducer, W, G: PartGate>(
 
 /// What the steps come to, one after the other.
 #[tactic(auto, using(crate::proofs::Judged::due_further))]
-fn judge_here<R: Reducer, W, G: PartGate>(
+fn judge_here<R: Reducer, W, G: Gate>(
     crew: &Crew<W, G>,
     r: &mut R,
     steps: &[Step],
@@ -135,7 +136,7 @@ impl<'a> Promise<Result<Vec<PartResult>, NoMemory>> for StepsOf<'a> {
 
 /// What the steps come to, in their order. Where there is a thread to spare the second half of those that are left is its.
 #[cycle(judging)]
-pub(crate) fn judge_steps<R: Forks + Drop + Send, W: Threads + Wait + Sync, G: PartGate + Sync>(
+pub(crate) fn judge_steps<R: Forks + Drop + Send, W: Threads + Wait + Sync, G: Gate + Sync>(
     crew: &Crew<W, G>,
     mut reducer: R,
     steps: &[Step],
@@ -166,7 +167,7 @@ struct Halves<'a> {
 
 /// What the steps of each half come to.
 #[cycle(judging)]
-fn judge_halves<R: Forks + Drop + Send, W: Threads + Wait + Sync, G: PartGate + Sync>(
+fn judge_halves<R: Forks + Drop + Send, W: Threads + Wait + Sync, G: Gate + Sync>(
     crew: &Crew<W, G>,
     reducer: R,
     halves: Halves<'_>,
@@ -203,7 +204,7 @@ where
 
 /// The same, the second half in a thread of its own, which was taken. Where none can be started it is done here.
 #[cycle(judging)]
-fn judge_beside<R: Forks + Drop + Send, W: Threads + Wait + Sync, G: PartGate + Sync>(
+fn judge_beside<R: Forks + Drop + Send, W: Threads + Wait + Sync, G: Gate + Sync>(
     crew: &Crew<W, G>,
     reducers: (R, R),
     halves: Halves<'_>,

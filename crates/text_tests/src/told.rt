@@ -1,8 +1,8 @@
 //! Jobs that are their own verdicts, their checker, a gate that keeps nothing, and histories that are written out.
 use board_core::{Checkable, Checker, End, Event, Gate};
 use dk_model::Verdict;
-use std::sync::atomic::{AtomicU64, Ordering};
 use std::sync::Wait;
+use std::sync::atomic::{AtomicU64, Ordering};
 use std::thread;
 use std::thread::Threads;
 use worker_crew::ThreadedChecker;
@@ -62,7 +62,13 @@ impl ThreadedChecker for Told {
 
     fn kit(&self) {}
 
-    fn check<R: Threads + Wait + Sync>(&self, _: &R, kit: &mut (), job: &Own) -> Verdict {
+    fn check<R: Threads + Wait + Sync, G: Gate + Sync>(
+        &self,
+        _: &R,
+        _: &G,
+        kit: &mut (),
+        job: &Own,
+    ) -> Verdict {
         Checker::check(self, kit, job)
     }
 }
@@ -94,6 +100,10 @@ impl Gate for NoGate {
     fn enter(&self, _: u32) {}
 
     fn leave(&self, _: u32) {}
+
+    fn enter_part(&self, _: u32, _: u32) {}
+
+    fn leave_part(&self, _: u32, _: u32) {}
 }
 
 /// An event by its letter (`p` put, `c` claimed, `a` answered, `s` sealed at a fault), the worker, the job and the verdict.

@@ -151,7 +151,7 @@ fn make_room<H, L>(handles: &mut Vec<H>, late: &mut Vec<L>, count: usize) -> Res
 }
 
 /// Works with all passes here, one after the other.
-pub fn work_off<R: Threads + Wait + Sync, C: ThreadedChecker, G: Gate>(
+pub fn work_off<R: Threads + Wait + Sync, C: ThreadedChecker, G: Gate + Sync>(
     rt: &R,
     board: &Board<C::Job>,
     mut passes: Vec<WorkerPass<C::Job>>,
@@ -167,11 +167,11 @@ where
     ensures over { All (λ p. (p.seat.table_id ≡ board.now)
         × IsIdle p.seat.me.0 × IsOver p.seat.me.0) result.items }
 {
-    let bell = &Bell::new(1);
+    let bell = Bell::new(1);
     let count = passes.len();
     for turn in 0..count {
         let pass = passes.remove(0);
-        passes.push_reserved(work_until_rung(rt, board, pass, checker, gate, bell));
+        passes.push_reserved(work_until_rung(rt, board, pass, checker, gate, &bell));
     }
     passes
 }

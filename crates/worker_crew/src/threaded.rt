@@ -1,5 +1,5 @@
 //! Who checks jobs with threads of its own.
-use board_core::Checkable;
+use board_core::{Checkable, Gate};
 use dk_model::Verdict;
 use std::sync::Wait;
 use std::thread::Threads;
@@ -17,10 +17,11 @@ pub trait ThreadedChecker {
     /// What a worker begins with.
     fn kit(&self) -> Self::Kit;
 
-    /// The verdict of the job, or `Memory` where a growth was refused.
-    fn check<R: Threads + Wait + Sync>(
+    /// The verdict of the job, or `Memory` where a growth was refused. A thread passes the gate with each part that it checks.
+    fn check<R: Threads + Wait + Sync, G: Gate + Sync>(
         &self,
         rt: &R,
+        gate: &G,
         kit: &mut Self::Kit,
         job: &Self::Job,
     ) -> Verdict

@@ -31,17 +31,17 @@ where
     ensures idle { IsIdle result.seat.me.0 }
     ensures over { IsOver result.seat.me.0 }
 {
-    let bell = &Bell::new(1);
+    let bell = Bell::new(1);
     let mut kit = checker.kit();
-    let mut patience = Patience::of(pass.number, bell);
+    let mut patience = Patience::of(pass.number, &bell);
     for _ in rt.forever() {
         match board.claim(rt, &mut pass) {
             Claimed::Over => return pass,
-            Claimed::Empty => patience.rest(rt, bell),
+            Claimed::Empty => patience.rest(rt, &bell),
             Claimed::Task(task) => {
                 let verdict = gated(checker, gate, &mut kit, task.number, &*task.job);
                 board.answer(rt, &mut pass, task, verdict);
-                patience = Patience::of(pass.number, bell);
+                patience = Patience::of(pass.number, &bell);
             }
         }
     }
@@ -49,7 +49,7 @@ where
 }
 
 /// The same of a checker that may start threads; the bell ends each rest.
-pub fn work_until_rung<R: Threads + Wait + Sync, C: ThreadedChecker, G: Gate>(
+pub fn work_until_rung<R: Threads + Wait + Sync, C: ThreadedChecker, G: Gate + Sync>(
     rt: &R,
     board: &Board<C::Job>,
     mut pass: WorkerPass<C::Job>,
@@ -75,7 +75,7 @@ where
             Claimed::Empty => patience.rest(rt, bell),
             Claimed::Task(task) => {
                 gate.enter(task.number);
-                let verdict = checker.check(rt, &mut kit, &*task.job);
+                let verdict = checker.check(rt, gate, &mut kit, &*task.job);
                 gate.leave(task.number);
                 board.answer(rt, &mut pass, task, verdict);
                 patience = Patience::of(pass.number, bell);

@@ -81,9 +81,9 @@ work_off-passes-requires-clause-waiting g c κs within = subst (All (λ p. (p.se
 
 pub spawn_scoped_with-requires-clause-runs : goal.spawn_scoped_with-requires-clause-runs
 spawn_scoped_with-requires-clause-runs g c κs h = let t = all_take (λ p. (p.seat.table_id ≡ c.captures.board.now) × IsIdle p.seat.me.0) _ _ _ c.in-Some.ensures.items c.loop-stack.invariant.waiting in (
-      (t.1.0, t.1.1),
-      (search (sendable, crosses) depth 40, search (sendable, crosses) depth 40, search (sendable, crosses) depth 40, search (sendable, crosses) depth 40, search (sendable, crosses) depth 40, search (sendable, crosses) depth 40, search (sendable, crosses) depth 40),
-    )
+  (t.1.0, t.1.1),
+  (search (sendable, crosses) depth 40, search (sendable, crosses) depth 40, search (sendable, crosses) depth 40, search (sendable, crosses) depth 40, search (sendable, crosses) depth 40, search (sendable, crosses) depth 40, search (sendable, crosses) depth 40),
+)
 
 pub spawn_scoped_with-requires-in-Some-pop-after_bounds : goal.spawn_scoped_with-requires-in-Some-pop-after_bounds
 spawn_scoped_with-requires-in-Some-pop-after_bounds g c κs h = let t = all_take (λ f. (f.1.now ≡ c.captures.board.now) × (f.2.seat.table_id ≡ c.captures.board.now) × IsIdle f.2.seat.me.0) _ _ _ c.in-Some-pop.ensures.items c.loop-worker.invariant.refused in
