@@ -146,10 +146,6 @@ impl Gate for Held {
             self.left.store(1, Ordering::SeqCst);
         }
     }
-
-    fn enter_part(&self, _: u32, _: u32) {}
-
-    fn leave_part(&self, _: u32, _: u32) {}
 }
 
 /// Whether a check by two workers, where that of one job waits until that of another is done, is answered as it is due and
@@ -202,56 +198,5 @@ fn gate_holds_first(rt: HostRuntime) -> Result<(), Fail> {
             "at {first}"
         );
     }
-    Ok(())
-}
-
-// Holds the check of the first argument up until that of the second is done.
-#[derive(Drop)]
-struct HeldPart {
-    left: AtomicU64,
-    seen: AtomicU64,
-}
-
-impl Gate for HeldPart {
-    fn enter(&self, _: u32) {}
-
-    fn leave(&self, _: u32) {}
-
-    fn enter_part(&self, _: u32, part: u32) {
-        if part != 0 {
-            return;
-        }
-        for _ in 0..LOOKS {
-            if self.left.load(Ordering::SeqCst) == 1 {
-                self.seen.store(1, Ordering::SeqCst);
-                return;
-            }
-            thread::yield_now();
-        }
-    }
-
-    fn leave_part(&self, _: u32, part: u32) {
-        if part == 1 {
-            self.left.store(1, Ordering::SeqCst);
-        }
-    }
-}
-
-// The check of one argument of a theorem waits until that of the other is done.
-#[test]
-fn split_holds_first(rt: HostRuntime) -> Result<(), Fail> {
-    let gate = HeldPart {
-        left: AtomicU64::new(0),
-        seen: AtomicU64::new(0),
-    };
-    let row = Row {
-        words: "check --workers=4 --split=1 f.dk",
-        text: b"nat : Type. z : nat. pair : nat -> nat -> nat. thm p : nat := pair z z.".as_slice(),
-        status: 0,
-        taken: b"ok 1 nat\nok 2 z\nok 3 pair\nok 4 p\naccepted 4\n".as_slice(),
-        ..EMPTY
-    };
-    let is_answered = is_answered(&rt, rt.alloc(), &row, &gate)?;
-    assert!(rt; is_answered && gate.seen.load(Ordering::SeqCst) == 1);
     Ok(())
 }

@@ -57,10 +57,7 @@ impl Desk {
             .theory
             .prepare(alloc, &mut self.worker, self.budget, command)
         {
-            Ok(mut prepared) => {
-                prepared.job.number = self.titles.len() as u32 + 1;
-                self.put(rt, alloc, board, prepared)
-            }
+            Ok(prepared) => self.put(rt, alloc, board, prepared),
             Err(verdict) => Err(NotPut::Verdict(verdict)),
         }
     }

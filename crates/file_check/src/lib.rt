@@ -13,5 +13,5 @@ mod lectern;
 mod shown;
 mod theory;
 
-pub use checking::{Asked, CheckedBook, Unchecked, check_books};
-pub use job::{Job, STACK};
+pub use checking::{Asked, CheckedBook, STACK, Unchecked, check_books};
+pub use job::Job;

@@ -155,7 +155,6 @@ impl Theory {
         };
         let title = Title { shown, place };
         let job = Job {
-            number: 0,
             version: before,
             command,
             budget,

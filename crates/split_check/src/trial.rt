@@ -1,5 +1,0 @@
-#[test]
-fn nothing() {
-    let one = 1;
-    let _two = one + 1;
-}
