@@ -39,7 +39,7 @@ use Rattle.signature_log.specs.contracts.place.Place as Place
 use Rattle.signature_log.specs.contracts.rule_list.Listing as Listing
 use Rattle.signature_log.specs.contracts.rule_list.RuleList as RuleList
 use Rattle.signature_log.specs.contracts.version.Version as Version
-use Rattle.command_check.specs.contracts.stored.StoredCommand as StoredCommand
+use Rattle.shared_term.specs.contracts.command.StoredCommand as StoredCommand
 use Rattle.rule_match.specs.contracts.cell.KeptCell as KeptCell
 use Rattle.rule_match.specs.contracts.cell.KeptRow as KeptRow
 use Rattle.rule_match.specs.contracts.branch.Branch as TreeBranch
