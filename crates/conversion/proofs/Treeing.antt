@@ -8,7 +8,7 @@ use Rattle.dk_model.specs.Evaluation.{whnf_of, comparison_of, normal_of}
 use Rattle.dk_model.specs.declared.stop.Stop.{Stop}
 use Rattle.shared_term.specs.declared.id.TermId.{TermId}
 use Rattle.shared_term.specs.Pools.{Node, term, Extends}
-use Rattle.rule_match.specs.Trees.{IsTree}
+use Rattle.rule_tree.specs.Trees.{IsTree}
 use Rattle.conversion.specs.declared.trees.SymbolTree.{SymbolTree}
 use Rattle.conversion.specs.Given.{GivesTerm, GivesBool}
 use Rattle.conversion.specs.Trees.{AreListed}

@@ -2,7 +2,7 @@
 use Rattle.std.specs.Prelude.{List, [], ◌∷◌}
 use Rattle.dk_model.specs.Signatures.{PlainSignature}
 use Rattle.dk_model.specs.SymbolRules.{rules_of}
-use Rattle.rule_match.specs.Trees.{IsTree}
+use Rattle.rule_tree.specs.Trees.{IsTree}
 use Rattle.conversion.specs.declared.trees.SymbolTree.{SymbolTree}
 use Rattle.conversion.specs.declared.trees.Trees.{Trees}
 

@@ -15,7 +15,6 @@ mod mentions;
 mod normal;
 mod putting;
 mod reducer;
-mod rules;
 mod selection;
 mod state;
 mod table;

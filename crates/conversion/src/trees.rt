@@ -3,11 +3,11 @@ ghost use Rattle.std.specs.Prelude.{◌≡◌, ◌≤◌, IfSome, length};
 ghost use Rattle.dk_model.specs.Signatures.{PlainSignature};
 ghost use Rattle.dk_model.specs.SymbolRules.{rules_of};
 ghost use Rattle.signature_log.specs.Versions.{entries_of};
-ghost use Rattle.rule_match.specs.Trees.{IsTree};
+ghost use Rattle.rule_tree.specs.Trees.{IsTree};
 
-use crate::selection::left_sides;
 use dk_model::NoMemory;
-use rule_match::{Tree, compile};
+use rule_match::symbol_tree;
+use rule_tree::Tree;
 use signature_log::Version;
 use std::alloc::Global;
 
@@ -93,8 +93,7 @@ impl Trees {
         ensures { AreTrees (entries_of version.now) self.old
             → AreTrees (entries_of version.now) self.new }
     {
-        let sides = left_sides(alloc, &version.rules_of(symbol), symbol)?;
-        let tree = compile(alloc, sides.as_slice())?;
+        let tree = symbol_tree(alloc, &version.rules_of(symbol), symbol)?;
         self.put(symbol, tree)
     }
 }

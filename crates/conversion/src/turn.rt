@@ -6,9 +6,9 @@ ghost use Rattle.shared_term.specs.Pools.{term, Extends};
 ghost use Rattle.shared_term.specs.Changes.{AreCaptures};
 ghost use Rattle.signature_log.specs.Rows.{row_rules};
 ghost use Rattle.signature_log.specs.Versions.{entries_of};
-ghost use Rattle.rule_match.specs.Rows.{rule_at};
+ghost use Rattle.rule_tree.specs.Rows.{rule_at};
 ghost use Rattle.rule_match.specs.Matching.{IsMatcher, Stands, Awaits};
-ghost use Rattle.rule_match.specs.Trees.{IsTree};
+ghost use Rattle.rule_tree.specs.Trees.{IsTree};
 ghost use Rattle.rule_match.specs.declared.matcher.Ask.TheVariants.{Evaluate};
 ghost use Rattle.conversion.specs.Machine.{AreWithin, is_application};
 ghost use Rattle.conversion.specs.Pausing.{IsSelection, StartsOver};
@@ -20,12 +20,12 @@ ghost use Rattle.conversion.specs.Clauses.{TurnsHead, TurnsSymbol, TurnsSelectio
 use crate::PoolReducer;
 use crate::evaluate::Pause;
 use crate::putting::{Filling, put};
-use crate::rules::rule_at;
-use crate::selection::{Selection, left_sides, told};
+use crate::selection::{Selection, told};
 use crate::state::{Head, deeper};
 use crate::trees::{MOST_TREES, Trees};
 use dk_model::{NoMemory, NodeOf, Stop};
-use rule_match::{Answer, Ask, Matcher, Tree};
+use rule_match::{Answer, Ask, Matcher, rule_at};
+use rule_tree::Tree;
 use shared_term::TermId;
 use signature_log::{Row, Rows, Version};
 use std::alloc::Global;
@@ -158,7 +158,7 @@ impl PoolReducer {
                 if self.walks.wants_tree(symbol, rules.len(), left, room) {
                     return Err(NoMemory);
                 }
-                let selection = selection_before(self.alloc, &rules, tree, symbol, stack)?;
+                let selection = selection_before(self.alloc, rules, tree, symbol, stack)?;
                 Ok(Turn::Selects(selection))
             }
         }
@@ -354,23 +354,19 @@ impl PoolReducer {
     }
 }
 
-/// The selection for a symbol before the arguments of a stack, at its start: by the symbol's tree, where it has one that has
-/// nodes.
+/// The selection for a symbol before the arguments of a stack, at its start.
 fn selection_before<'v>(
     alloc: Global,
-    rules: &Rows<'v>,
+    rules: Rows<'v>,
     tree: Option<&'v Tree>,
     symbol: u32,
     stack: &[TermId],
 ) -> Result<Selection<'v>, NoMemory>
-    requires tree { IfSome tree (λ t. IsTree (row_rules symbol rules.now) t.now) }
-    ensures starts { IfOk result (λ s. StartsOver (row_rules symbol rules.now) symbol stack.now s) }
+    requires tree { IfSome tree (λ t. IsTree (row_rules symbol rules) t.now) }
+    ensures starts { IfOk result (λ s. StartsOver (row_rules symbol rules.entry) symbol stack.now s) }
     ensures within { IfOk result (λ s. (n : ℕ) → AreWithin n stack.now → IsMatcher n s.matcher) }
 {
-    let matcher = match tree {
-        Some(tree) if tree.nodes() > 0 => Matcher::start(alloc, tree, stack)?,
-        _ => Matcher::walk(alloc, left_sides(alloc, rules, symbol)?, stack)?,
-    };
+    let matcher = Matcher::start(alloc, rules, symbol, tree, stack)?;
     Ok(Selection {
         symbol,
         matcher,

@@ -39,13 +39,12 @@ use Rattle.signature_log.specs.contracts.place.Place as Place
 use Rattle.signature_log.specs.contracts.rule_list.Listing as Listing
 use Rattle.signature_log.specs.contracts.rule_list.RuleList as RuleList
 use Rattle.signature_log.specs.contracts.version.Version as Version
-use Rattle.shared_term.specs.contracts.command.StoredCommand as StoredCommand
-use Rattle.rule_match.specs.contracts.cell.KeptCell as KeptCell
-use Rattle.rule_match.specs.contracts.cell.KeptRow as KeptRow
-use Rattle.rule_match.specs.contracts.branch.Branch as TreeBranch
-use Rattle.rule_match.specs.contracts.branch.Node as TreeNode
-use Rattle.rule_match.specs.contracts.side.Side as Side
-use Rattle.rule_match.specs.contracts.tree.Tree as Tree
+use Rattle.command_check.specs.contracts.stored.StoredCommand as StoredCommand
+use Rattle.rule_tree.specs.contracts.along.Test as TreeTest
+use Rattle.rule_tree.specs.contracts.branch.Branch as TreeBranch
+use Rattle.rule_tree.specs.contracts.branch.Node as TreeNode
+use Rattle.rule_tree.specs.contracts.key.Key as TreeKey
+use Rattle.rule_tree.specs.contracts.tree.Tree as Tree
 use Rattle.conversion.specs.contracts.state.Answer as Answer
 use Rattle.conversion.specs.contracts.state.Head as Head
 use Rattle.conversion.specs.contracts.state.PoolReducer as PoolReducer
@@ -212,23 +211,20 @@ pat_send = let a = stored_send in search (sendable, crosses, PatKnot.crosses) de
 pat_sync : IsSync (Pat.the_row Stored.the_row)
 pat_sync = let a = stored_sync in search (sendable, crosses, PatKnot.crosses) depth 40 fits 20000
 
-cell_send : IsSend KeptCell.the_field.row
-cell_send = let a = pat_send in let b = stored_send in search (sendable, crosses, PatKnot.crosses) depth 40 fits 20000
+tree_key_send : IsSend TreeKey.the_row
+tree_key_send = search (sendable, crosses) depth 40 fits 20000
 
-kept_row_send : IsSend KeptRow.the_row
-kept_row_send = let a = cell_send in search (sendable, crosses) depth 40 fits 20000
+tree_test_send : IsSend TreeTest.the_row
+tree_test_send = let a = tree_key_send in search (sendable, crosses) depth 40 fits 20000
 
 tree_branch_send : IsSend TreeBranch.the_row
-tree_branch_send = search (sendable, crosses) depth 40 fits 20000
+tree_branch_send = let a = tree_key_send in search (sendable, crosses) depth 40 fits 20000
 
 tree_node_send : IsSend TreeNode.the_row
-tree_node_send = let a = kept_row_send in let b = tree_branch_send in search (sendable, crosses) depth 40 fits 20000
-
-side_send : IsSend Side.the_row
-side_send = let a = cell_send in search (sendable, crosses) depth 40 fits 20000
+tree_node_send = let a = tree_test_send in let b = tree_branch_send in search (sendable, crosses) depth 40 fits 20000
 
 tree_send : IsSend Tree.the_field.row
-tree_send = let a = side_send in let b = tree_node_send in search (sendable, crosses) depth 40 fits 20000
+tree_send = let a = tree_node_send in search (sendable, crosses) depth 40 fits 20000
 
 symbol_tree_send : IsSend SymbolTree.the_row
 symbol_tree_send = let a = tree_send in search (sendable, crosses) depth 40 fits 20000

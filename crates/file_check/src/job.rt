@@ -1,9 +1,9 @@
 //! A job of the board: one command, and its check.
 ghost use Rattle.std.specs.Prelude.{◌≡◌, ◌⊎◌, IsTrue, Some, IfOk, IfErr};
 ghost use Rattle.dk_model.specs.Answering.{is_answered, is_untyped};
+ghost use Rattle.dk_model.specs.Scoping.{plain_command};
 ghost use Rattle.dk_model.specs.Verdicts.{found_of, inferred_type, verdict_of};
 ghost use Rattle.dk_model.specs.declared.code.Verdict.TheVariants.{Memory};
-ghost use Rattle.shared_term.specs.Commands.{stored_command};
 ghost use Rattle.shared_term.specs.Finding.{plain_found};
 ghost use Rattle.shared_term.specs.Storage.{stored_term};
 ghost use Rattle.signature_log.specs.Versions.{entries_of};
@@ -11,10 +11,10 @@ ghost use Rattle.file_report.specs.Jobs.{due_on};
 ghost use Rattle.file_check.specs.Jobs.{IsOtherVerdict, job_of};
 
 use board_core::{Checkable, Past};
-use command_check::{check_stored, infer_stored, query_stored};
+use command_check::{StoredCommand, check_stored, infer_type, query};
 use conversion::PoolReducer;
-use dk_model::{NoMemory, Verdict};
-use shared_term::{Found, Stored, StoredCommand};
+use dk_model::{NoMemory, Scoped, Verdict};
+use shared_term::{Found, Stored};
 use signature_log::Version;
 use std::alloc::Global;
 use verdict_book::Title;
@@ -65,41 +65,41 @@ impl Worker {
     pub fn infer(
         &mut self,
         version: &Version,
-        command: &StoredCommand,
+        command: &Scoped,
         budget: u64,
     ) -> Result<Stored, Verdict>
-        requires { IsTrue (is_untyped (stored_command command.now)) }
+        requires { IsTrue (is_untyped (plain_command command.now)) }
         ensures ok { IfOk result (λ t.
-            inferred_type (entries_of version.now) (stored_command command.now) budget
+            inferred_type (entries_of version.now) (plain_command command.now) budget
             ≡ Some (stored_term t)) }
         ensures accepted { IfOk result (λ _.
-            verdict_of (entries_of version.now) (stored_command command.now) budget
+            verdict_of (entries_of version.now) (plain_command command.now) budget
             ≡ Verdict.Accepted) }
         ensures err { IfErr result (IsOtherVerdict
-            (verdict_of (entries_of version.now) (stored_command command.now) budget)) }
+            (verdict_of (entries_of version.now) (plain_command command.now) budget)) }
     {
         self.reducer.clear();
-        infer_stored(&mut self.reducer, version, command, budget)
+        infer_type(&mut self.reducer, version, command, budget)
     }
 
     /// What a query other than `#ASSERT` finds, where it is accepted; else its verdict.
     pub fn query(
         &mut self,
         version: &Version,
-        command: &StoredCommand,
+        command: &Scoped,
         budget: u64,
     ) -> Result<Found, Verdict>
-        requires { IsTrue (is_answered (stored_command command.now)) }
+        requires { IsTrue (is_answered (plain_command command.now)) }
         ensures ok { IfOk result (λ f.
-            found_of (entries_of version.now) (stored_command command.now) budget
+            found_of (entries_of version.now) (plain_command command.now) budget
             ≡ Some (plain_found f)) }
         ensures accepted { IfOk result (λ _.
-            verdict_of (entries_of version.now) (stored_command command.now) budget
+            verdict_of (entries_of version.now) (plain_command command.now) budget
             ≡ Verdict.Accepted) }
         ensures err { IfErr result (IsOtherVerdict
-            (verdict_of (entries_of version.now) (stored_command command.now) budget)) }
+            (verdict_of (entries_of version.now) (plain_command command.now) budget)) }
     {
         self.reducer.clear();
-        query_stored(&mut self.reducer, version, command, budget)
+        query(&mut self.reducer, version, command, budget)
     }
 }

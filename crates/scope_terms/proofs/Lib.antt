@@ -11,5 +11,3 @@ pub mod Rows
 pub mod Spines
 pub mod PatternSpines
 pub mod Binding
-pub mod Placing
-pub mod PlacedDeclarations

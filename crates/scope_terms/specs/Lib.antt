@@ -9,4 +9,3 @@ pub mod Spines
 pub mod Binding
 pub mod Found
 pub mod Hashing
-pub mod Placing

@@ -12,5 +12,3 @@ pub mod Parts
 pub mod Spelt
 pub mod Boxes
 pub mod Winding
-pub mod Made
-pub mod Erasing

@@ -41,7 +41,7 @@ pub(crate) struct Given<'a> {
 
 /// A node with two parts; the second is under a binder but in an application.
 #[derive(Clone, Copy)]
-pub enum Pair {
+pub(crate) enum Pair {
     Application,
     Abstraction,
     Product,

@@ -1,44 +1,28 @@
 //! Selections by asks: which column is asked for, which rule is taken, and its captures.
-ghost use Rattle.std.specs.Prelude.{◌<◌, length, IfOk};
+ghost use Rattle.std.specs.Prelude.{◌<◌, length, IfOk, IfSome};
+ghost use Rattle.signature_log.specs.Rows.{row_rules};
 ghost use Rattle.rule_match.specs.Columns.{AreWithin};
 ghost use Rattle.rule_match.specs.Matching.{IsMatcher, Awaits};
-ghost use Rattle.rule_match.specs.Trees.{IsPlaced};
+ghost use Rattle.rule_tree.specs.Trees.{IsTree};
 ghost use Rattle.shared_term.specs.Pools.{Extends};
 
 use crate::texts::{Parts, version_of_text};
-use dk_model::{Entry, NoMemory, NodeOf, Rule};
-use rule_match::{Answer, Ask, LeftSide, Matcher, Tree, compile};
-use shared_term::{Pool, Stored, TermId};
-use signature_log::Version;
+use dk_model::{Entry, NoMemory, NodeOf};
+use rule_match::{Answer, Ask, Matcher, symbol_tree};
+use rule_tree::Tree;
+use shared_term::{Pool, TermId};
+use signature_log::{Rows, Version};
 use std::alloc::Global;
 
-/// The rules of the last command of a version.
-fn last_rules(version: &Version) -> &[Rule<Stored>] {
+/// The symbol of the rules of the last command of a version.
+fn last_symbol(version: &Version) -> u32 {
     match version.get(version.len().saturating_sub(1)) {
-        Some(Entry::Rules(rules)) => rules.as_slice(),
-        _ => &[],
+        Some(Entry::Rules(rules)) => match rules.as_slice().first() {
+            Some(rule) => rule.head,
+            None => 0,
+        },
+        _ => 0,
     }
-}
-
-fn compiled(alloc: Global, rules: &[Rule<Stored>]) -> Result<Tree, NoMemory>
-    ensures { IfOk result IsPlaced }
-{
-    let mut sides = Vec::new(alloc);
-    for rule in rules {
-        sides.push(LeftSide {
-            patterns: rule.pats.as_slice(),
-            vars: rule.vars,
-        })?;
-    }
-    compile(alloc, sides.as_slice())
-}
-
-/// The tree of the rules that end a text.
-fn tree_of(alloc: Global, parts: &[(&str, u32)]) -> Result<Tree, NoMemory>
-    ensures { IfOk result IsPlaced }
-{
-    let version = version_of_text(alloc, parts)?;
-    compiled(alloc, last_rules(&version))
 }
 
 /// What the selection asks for once it is told whether two terms are alike, or that a term stands; where it asks for
@@ -81,19 +65,27 @@ fn is_taken(ask: &Ask, arguments: &[TermId], due: Option<Taken>) -> bool {
     }
 }
 
+/// The rules of a symbol, with their tree where it is to be gone through.
+#[derive(Clone, Copy)]
+struct Rules<'t> {
+    symbol: u32,
+    rows: Rows<'t>,
+    tree: Option<&'t Tree>,
+}
+
 /// Whether the selection for two arguments, the first one on top, asks first for column 0, or whether two terms are alike,
 /// and, once it is told that the first one stands, or that, takes this rule, or none.
 fn selects(
     alloc: Global,
     pool: &mut Pool,
-    tree: &Tree,
+    rules: Rules,
     arguments: [TermId; 2],
     row: &Row,
 ) -> Result<bool, NoMemory>
     requires within { AreWithin (length pool.old) arguments }
-    requires placed { IsPlaced tree.now }
+    requires tree { IfSome rules.tree (λ t. IsTree (row_rules rules.symbol rules.rows) t.now) }
 {
-    let mut matcher = Matcher::start(alloc, tree, &arguments)?;
+    let mut matcher = Matcher::start(alloc, rules.rows, rules.symbol, rules.tree, &arguments)?;
     let ask = matcher.next(pool, Answer::Begin)?;
     let is_asked = match &ask {
         Ask::Evaluate(column) => *column == 0 && row.alike.is_none(),
@@ -244,24 +236,40 @@ fn interned(pool: &mut Pool, argument: Argument) -> Result<TermId, NoMemory>
     }
 }
 
-fn is_selected(alloc: Global, pool: &mut Pool, tree: &Tree, row: &Row) -> Result<bool, NoMemory>
-    requires { IsPlaced tree.now }
+fn is_selected(alloc: Global, pool: &mut Pool, rules: Rules, row: &Row) -> Result<bool, NoMemory>
+    requires { IfSome rules.tree (λ t. IsTree (row_rules rules.symbol rules.rows) t.now) }
 {
     let second = interned(pool, row.arguments[0])?;
     let first = interned(pool, row.arguments[1])?;
-    selects(alloc, pool, tree, [second, first], row)
+    selects(alloc, pool, rules, [second, first], row)
 }
 
-fn has_tree(alloc: Global, tree: &Tree, row: &Row) -> Result<bool, NoMemory>
-    requires { IsPlaced tree.now }
+/// Whether it is so in a pool of its own.
+fn is_selected_first(alloc: Global, rules: Rules, row: &Row) -> Result<bool, NoMemory>
+    requires { IfSome rules.tree (λ t. IsTree (row_rules rules.symbol rules.rows) t.now) }
 {
     let mut pool = Pool::new(alloc)?;
-    is_selected(alloc, &mut pool, tree, row)
+    is_selected(alloc, &mut pool, rules, row)
 }
 
+/// Whether a row is so, with the tree of its rules and without.
 fn is_row(alloc: Global, row: &Row) -> Result<bool, NoMemory> {
-    let tree = tree_of(alloc, row.parts)?;
-    let is_selected = has_tree(alloc, &tree, row) == Ok(true);
+    let version = version_of_text(alloc, row.parts)?;
+    let symbol = last_symbol(&version);
+    let rows = version.rules_of(symbol);
+    let tree = symbol_tree(alloc, &rows, symbol)?;
+    let by_tree = Rules {
+        symbol,
+        rows,
+        tree: Some(&tree),
+    };
+    let by_rows = Rules {
+        symbol,
+        rows,
+        tree: None,
+    };
+    let is_selected = is_selected_first(alloc, by_tree, row)?
+        && is_selected_first(alloc, by_rows, row)?;
     Ok(is_selected && tree.nodes() == row.nodes)
 }
 

@@ -6,7 +6,7 @@ use Rattle.dk_model.specs.Evaluation.{whnf_of, normal_of}
 use Rattle.shared_term.specs.Pools.{term}
 use Rattle.shared_term.specs.Changes.{captured_terms}
 use Rattle.signature_log.specs.Versions.{entries_of}
-use Rattle.rule_match.specs.Rows.{rule_at}
+use Rattle.rule_tree.specs.Rows.{rule_at}
 use Rattle.rule_match.specs.declared.matcher.Answer.TheVariants.{Normal}
 use Rattle.rule_match.proofs.Larger.{rule_taken, none_taken, alike_told, alike_answers, normal_told, matcher_grown}
 use Rattle.rule_match.proofs.Telling.{normal_fits}

@@ -1,6 +1,6 @@
 use Rattle.std.proofs.Common.{◌≡◌, ◌<◌, ℕ, length, subst, arith}
 use Rattle.dk_model.specs.SymbolRules.{rules_of}
-use Rattle.rule_match.specs.Trees.{IsTree}
+use Rattle.rule_tree.specs.Trees.{IsTree}
 use Rattle.conversion.proofs.Treeing.{tree_at}
 use Rattle.conversion.proofs.trees.Trees.find.Goals as goal
 

@@ -11,7 +11,6 @@ try_row-requires c = record {
   captures = c.requires.within.captures;
   stage = tt;
   tried = tt;
-  placed = c.requires.within.placed;
 }
 
 pub returns-clause-asks : goal.returns-clause-asks
