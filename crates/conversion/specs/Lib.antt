@@ -9,4 +9,3 @@ pub mod Waiting
 pub mod Owned
 pub mod Given
 pub mod Clauses
-pub mod Trees

@@ -5,7 +5,6 @@
 #![tactic(auto)]
 
 mod brought;
-mod calls;
 mod compare;
 mod evaluate;
 mod known;
@@ -18,8 +17,6 @@ mod reducer;
 mod selection;
 mod state;
 mod table;
-mod trees;
 mod turn;
-mod walks;
 
 pub use state::PoolReducer;

@@ -4,7 +4,6 @@ mod Capturing
 pub mod Growing
 mod Through
 mod Trying
-mod Siding
 mod Putting
 mod Leaving
 mod Starting

@@ -11,4 +11,4 @@ mod rules;
 mod value;
 
 pub use matcher::{Answer, Ask, Matcher};
-pub use rules::{SymbolRule, rule_at, symbol_tree};
+pub use rules::{SymbolRule, rule_at};

@@ -1,10 +1,9 @@
 //! The selection of a rule by asking for one answer after another.
-ghost use Rattle.std.specs.Prelude.{◌≡◌, ℕ, ◌<◌, [], None, IfOk, IfSome, OnOk, List, length, vec_len, replicate};
+ghost use Rattle.std.specs.Prelude.{◌≡◌, ℕ, ◌<◌, [], None, IfOk, OnOk, List, length, vec_len, replicate};
 ghost use Rattle.dk_model.specs.Signatures.{PlainRule};
 ghost use Rattle.shared_term.specs.Pools.{Node, term, Extends};
 ghost use Rattle.signature_log.specs.Rows.{row_rules};
 ghost use Rattle.rule_tree.specs.Rows.{plain_cell};
-ghost use Rattle.rule_tree.specs.Trees.{IsTree};
 ghost use Rattle.rule_match.specs.Columns.{AreColumns, AreWithin};
 ghost use Rattle.rule_match.specs.Standing.{others_in};
 ghost use Rattle.rule_match.specs.declared.matcher.Stage.TheVariants.{Begins};
@@ -14,7 +13,7 @@ use crate::left::{Left, Source, width_before};
 use crate::row::{Passage, mentions_others, next_guard, pass};
 use crate::value::{Column, column_of, first_columns, put_column, spliced, taken_apart};
 use dk_model::{NoMemory, Pat};
-use rule_tree::{Cell, Row, Test, Tree, cell_of, rigid_at};
+use rule_tree::{Cell, Row, Test, cell_of, rigid_at};
 use shared_term::{Pool, TermId};
 use signature_log::Rows;
 use std::alloc::Global;
@@ -140,19 +139,18 @@ fn begun<'t>(alloc: Global, source: Source<'t>, columns: Vec<Column>, left: Left
 
 impl<'t> Matcher<'t> {
     /// The selection of a rule of this symbol for these arguments, at its start. The arguments lie on a stack, the first one
-    /// on top. The tree, where there is one, only saves time.
+    /// on top.
     pub fn start(
         alloc: Global,
         rules: Rows<'t>,
         symbol: u32,
-        tree: Option<&'t Tree>,
         arguments: &[TermId],
     ) -> Result<Matcher<'t>, NoMemory>
-        requires { IfSome tree (λ t. IsTree (row_rules symbol rules) t.now) }
         ensures starts { IfOk result (IsStart (row_rules symbol rules.entry) arguments.now) }
         ensures within { IfOk result (λ m. (n : ℕ) → AreWithin n arguments.now → IsMatcher n m) }
         ensures begins { IfOk result (λ m. m.stage ≡ Begins) }
     {
+        let tree = rules.tree();
         let width = width_before(&rules, symbol, tree, arguments.len());
         let columns = first_columns(alloc, width, arguments)?;
         let source = Source {

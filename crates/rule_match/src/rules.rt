@@ -1,16 +1,12 @@
 //! The rules of a symbol, one at a time: its body, then its rules in file order.
-ghost use Rattle.std.specs.Prelude.{◌≡◌, ◌<◌, Some, IfOk, map, length, slice_get};
+ghost use Rattle.std.specs.Prelude.{◌≡◌, ◌<◌, Some, map, length, slice_get};
 ghost use Rattle.signature_log.specs.Rows.{row_rules};
 ghost use Rattle.shared_term.specs.Storage.{stored_term};
-ghost use Rattle.rule_tree.specs.Along.{AreSides};
-ghost use Rattle.rule_tree.specs.Trees.{IsTree};
 ghost use Rattle.rule_match.specs.Rules.{plain_rule_of, stored_pattern};
 
-use dk_model::{NoMemory, Pat};
-use rule_tree::{Tree, compile};
+use dk_model::Pat;
 use shared_term::Stored;
 use signature_log::{Row, Rows};
-use std::alloc::Global;
 
 /// A rule of a symbol, and its place among the symbol's rules.
 #[derive(Clone, Copy)]
@@ -69,29 +65,4 @@ impl<'v> SymbolRule<'v> {
             Row::Rule(rule) => &rule.right,
         }
     }
-}
-
-/// The patterns of a symbol's rules.
-#[tactic(auto, using(crate::proofs::Siding::none_sided))]
-fn sides_of<'v>(
-    alloc: Global,
-    rules: &Rows<'v>,
-    symbol: u32,
-) -> Result<Vec<&'v [Pat<Stored>]>, NoMemory>
-    ensures { IfOk result (λ sides. AreSides (row_rules symbol rules.now) sides.items) }
-{
-    let mut sides = Vec::new(alloc);
-    for at in 0..rules.len() {
-        let rule = rule_at(rules, symbol, at);
-        sides.push(rule.patterns())?;
-    }
-    Ok(sides)
-}
-
-/// The tree of a symbol's rules.
-pub fn symbol_tree(alloc: Global, rules: &Rows, symbol: u32) -> Result<Tree, NoMemory>
-    ensures { IfOk result (IsTree (row_rules symbol rules.now)) }
-{
-    let sides = sides_of(alloc, rules, symbol)?;
-    compile(alloc, sides.as_slice())
 }

@@ -120,6 +120,18 @@ pub fn compile(alloc: Global, sides: &[&[Pat<Stored>]]) -> Result<Tree, NoMemory
 }
 
 impl Tree {
+    /// The tree of no rules.
+    pub fn bare(alloc: Global) -> Tree
+        ensures { (rules : List PlainRule) → IsTree rules result }
+    {
+        Tree {
+            width: 0,
+            count: 0,
+            nodes: Vec::new(alloc),
+            root: None,
+        }
+    }
+
     /// How many nodes there are, from 1; 0 where the rules are gone through one by one.
     pub fn nodes(&self) -> u32 {
         match self.root {

@@ -22,6 +22,7 @@ mod rule_list;
 mod slots;
 mod steps;
 mod storing;
+mod symbol_rules;
 mod table;
 mod version;
 

@@ -1,17 +1,14 @@
 //! Selections by asks: which column is asked for, which rule is taken, and its captures.
-ghost use Rattle.std.specs.Prelude.{◌<◌, length, IfOk, IfSome};
-ghost use Rattle.signature_log.specs.Rows.{row_rules};
+ghost use Rattle.std.specs.Prelude.{◌<◌, length, IfOk};
 ghost use Rattle.rule_match.specs.Columns.{AreWithin};
 ghost use Rattle.rule_match.specs.Matching.{IsMatcher, Awaits};
-ghost use Rattle.rule_tree.specs.Trees.{IsTree};
 ghost use Rattle.shared_term.specs.Pools.{Extends};
 
 use crate::texts::{Parts, version_of_text};
 use dk_model::{Entry, NoMemory, NodeOf};
-use rule_match::{Answer, Ask, Matcher, symbol_tree};
-use rule_tree::Tree;
+use rule_match::{Answer, Ask, Matcher};
 use shared_term::{Pool, TermId};
-use signature_log::{Rows, Version};
+use signature_log::Version;
 use std::alloc::Global;
 
 /// The symbol of the rules of the last command of a version.
@@ -65,27 +62,19 @@ fn is_taken(ask: &Ask, arguments: &[TermId], due: Option<Taken>) -> bool {
     }
 }
 
-/// The rules of a symbol, with their tree where it is to be gone through.
-#[derive(Clone, Copy)]
-struct Rules<'t> {
-    symbol: u32,
-    rows: Rows<'t>,
-    tree: Option<&'t Tree>,
-}
-
 /// Whether the selection for two arguments, the first one on top, asks first for column 0, or whether two terms are alike,
 /// and, once it is told that the first one stands, or that, takes this rule, or none.
 fn selects(
     alloc: Global,
     pool: &mut Pool,
-    rules: Rules,
+    version: &Version,
     arguments: [TermId; 2],
     row: &Row,
 ) -> Result<bool, NoMemory>
-    requires within { AreWithin (length pool.old) arguments }
-    requires tree { IfSome rules.tree (λ t. IsTree (row_rules rules.symbol rules.rows) t.now) }
+    requires { AreWithin (length pool.old) arguments }
 {
-    let mut matcher = Matcher::start(alloc, rules.rows, rules.symbol, rules.tree, &arguments)?;
+    let symbol = last_symbol(version);
+    let mut matcher = Matcher::start(alloc, version.rules_of(symbol), symbol, &arguments)?;
     let ask = matcher.next(pool, Answer::Begin)?;
     let is_asked = match &ask {
         Ask::Evaluate(column) => *column == 0 && row.alike.is_none(),
@@ -236,41 +225,26 @@ fn interned(pool: &mut Pool, argument: Argument) -> Result<TermId, NoMemory>
     }
 }
 
-fn is_selected(alloc: Global, pool: &mut Pool, rules: Rules, row: &Row) -> Result<bool, NoMemory>
-    requires { IfSome rules.tree (λ t. IsTree (row_rules rules.symbol rules.rows) t.now) }
-{
+fn is_selected(
+    alloc: Global,
+    pool: &mut Pool,
+    version: &Version,
+    row: &Row,
+) -> Result<bool, NoMemory> {
     let second = interned(pool, row.arguments[0])?;
     let first = interned(pool, row.arguments[1])?;
-    selects(alloc, pool, rules, [second, first], row)
+    selects(alloc, pool, version, [second, first], row)
 }
 
-/// Whether it is so in a pool of its own.
-fn is_selected_first(alloc: Global, rules: Rules, row: &Row) -> Result<bool, NoMemory>
-    requires { IfSome rules.tree (λ t. IsTree (row_rules rules.symbol rules.rows) t.now) }
-{
-    let mut pool = Pool::new(alloc)?;
-    is_selected(alloc, &mut pool, rules, row)
-}
-
-/// Whether a row is so, with the tree of its rules and without.
 fn is_row(alloc: Global, row: &Row) -> Result<bool, NoMemory> {
     let version = version_of_text(alloc, row.parts)?;
-    let symbol = last_symbol(&version);
-    let rows = version.rules_of(symbol);
-    let tree = symbol_tree(alloc, &rows, symbol)?;
-    let by_tree = Rules {
-        symbol,
-        rows,
-        tree: Some(&tree),
+    let mut pool = Pool::new(alloc)?;
+    let is_selected = is_selected(alloc, &mut pool, &version, row)?;
+    let nodes = match version.rules_of(last_symbol(&version)).tree() {
+        Some(tree) => tree.nodes(),
+        None => 0,
     };
-    let by_rows = Rules {
-        symbol,
-        rows,
-        tree: None,
-    };
-    let is_selected = is_selected_first(alloc, by_tree, row)?
-        && is_selected_first(alloc, by_rows, row)?;
-    Ok(is_selected && tree.nodes() == row.nodes)
+    Ok(is_selected && nodes == row.nodes)
 }
 
 /// The first row that isn't as told, by its number.

@@ -28,5 +28,4 @@ returns-clause-serves c =
       values = values_grown (entries_of c.args.version.now) c.args.self.now.pool c.load.new.self c.args.self.now.values k c.requires.serves.values;
       normals = normals_grown (entries_of c.args.version.now) c.args.self.now.pool c.load.new.self c.args.self.now.normals k c.requires.serves.normals;
       answers = answers_grown (entries_of c.args.version.now) c.args.self.now.pool c.load.new.self c.args.self.now.answers k c.requires.serves.answers;
-      trees = c.requires.serves.trees;
     }
