@@ -38,20 +38,23 @@ use Rattle.signature_log.specs.contracts.many.Many as Many
 use Rattle.signature_log.specs.contracts.place.Place as Place
 use Rattle.signature_log.specs.contracts.rule_list.Listing as Listing
 use Rattle.signature_log.specs.contracts.rule_list.RuleList as RuleList
-use Rattle.signature_log.specs.contracts.symbol_rules.SymbolRules as SymbolRules
 use Rattle.signature_log.specs.contracts.version.Version as Version
 use Rattle.command_check.specs.contracts.stored.StoredCommand as StoredCommand
-use Rattle.rule_tree.specs.contracts.along.Test as TreeTest
-use Rattle.rule_tree.specs.contracts.branch.Branch as TreeBranch
-use Rattle.rule_tree.specs.contracts.branch.Node as TreeNode
-use Rattle.rule_tree.specs.contracts.key.Key as TreeKey
-use Rattle.rule_tree.specs.contracts.tree.Tree as Tree
+use Rattle.rule_match.specs.contracts.cell.KeptCell as KeptCell
+use Rattle.rule_match.specs.contracts.cell.KeptRow as KeptRow
+use Rattle.rule_match.specs.contracts.branch.Branch as TreeBranch
+use Rattle.rule_match.specs.contracts.branch.Node as TreeNode
+use Rattle.rule_match.specs.contracts.side.Side as Side
+use Rattle.rule_match.specs.contracts.tree.Tree as Tree
 use Rattle.conversion.specs.contracts.state.Answer as Answer
 use Rattle.conversion.specs.contracts.state.Head as Head
 use Rattle.conversion.specs.contracts.state.PoolReducer as PoolReducer
 use Rattle.conversion.specs.contracts.state.Value as Value
 use Rattle.conversion.specs.contracts.table.Slot as TableSlot
 use Rattle.conversion.specs.contracts.table.Table as Table
+use Rattle.conversion.specs.contracts.trees.SymbolTree as SymbolTree
+use Rattle.conversion.specs.contracts.trees.Trees as Trees
+use Rattle.conversion.specs.contracts.walks.Walks as Walks
 use Rattle.file_check.specs.contracts.job.Job as Job
 use Rattle.file_check.specs.contracts.job.Worker as Worker
 
@@ -209,35 +212,32 @@ pat_send = let a = stored_send in search (sendable, crosses, PatKnot.crosses) de
 pat_sync : IsSync (Pat.the_row Stored.the_row)
 pat_sync = let a = stored_sync in search (sendable, crosses, PatKnot.crosses) depth 40 fits 20000
 
-tree_key_send : IsSend TreeKey.the_row
-tree_key_send = search (sendable, crosses) depth 40 fits 20000
+cell_send : IsSend KeptCell.the_field.row
+cell_send = let a = pat_send in let b = stored_send in search (sendable, crosses, PatKnot.crosses) depth 40 fits 20000
 
-tree_key_sync : IsSync TreeKey.the_row
-tree_key_sync = search (sendable, crosses) depth 40 fits 20000
-
-tree_test_send : IsSend TreeTest.the_row
-tree_test_send = let a = tree_key_send in search (sendable, crosses) depth 40 fits 20000
-
-tree_test_sync : IsSync TreeTest.the_row
-tree_test_sync = let a = tree_key_sync in search (sendable, crosses) depth 40 fits 20000
+kept_row_send : IsSend KeptRow.the_row
+kept_row_send = let a = cell_send in search (sendable, crosses) depth 40 fits 20000
 
 tree_branch_send : IsSend TreeBranch.the_row
-tree_branch_send = let a = tree_key_send in search (sendable, crosses) depth 40 fits 20000
-
-tree_branch_sync : IsSync TreeBranch.the_row
-tree_branch_sync = let a = tree_key_sync in search (sendable, crosses) depth 40 fits 20000
+tree_branch_send = search (sendable, crosses) depth 40 fits 20000
 
 tree_node_send : IsSend TreeNode.the_row
-tree_node_send = let a = tree_test_send in let b = tree_branch_send in search (sendable, crosses) depth 40 fits 20000
+tree_node_send = let a = kept_row_send in let b = tree_branch_send in search (sendable, crosses) depth 40 fits 20000
 
-tree_node_sync : IsSync TreeNode.the_row
-tree_node_sync = let a = tree_test_sync in let b = tree_branch_sync in search (sendable, crosses) depth 40 fits 20000
+side_send : IsSend Side.the_row
+side_send = let a = cell_send in search (sendable, crosses) depth 40 fits 20000
 
-tree_send : IsSend Tree.the_row
-tree_send = let a = tree_node_send in search (sendable, crosses) depth 40 fits 20000
+tree_send : IsSend Tree.the_field.row
+tree_send = let a = side_send in let b = tree_node_send in search (sendable, crosses) depth 40 fits 20000
 
-tree_sync : IsSync Tree.the_row
-tree_sync = let a = tree_node_sync in search (sendable, crosses) depth 40 fits 20000
+symbol_tree_send : IsSend SymbolTree.the_row
+symbol_tree_send = let a = tree_send in search (sendable, crosses) depth 40 fits 20000
+
+pub trees_send : IsSend Trees.the_field.row
+trees_send = let a = symbol_tree_send in search (sendable, crosses) depth 40 fits 20000
+
+pub trees_row_send : IsSend Trees.the_row
+trees_row_send = let a = symbol_tree_send in search (sendable, crosses) depth 40 fits 20000
 
 stored_rule_send : IsSend (Rule.the_row Stored.the_row)
 stored_rule_send = let a = stored_send in let b = pat_send in search (sendable, crosses) depth 40 fits 20000
@@ -281,20 +281,14 @@ list_send = let a = listing_send in search sendable depth 20
 list_sync : IsSync RuleList.the_row
 list_sync = let a = listing_sync in search sendable depth 20
 
-symbol_rules_send : IsSend SymbolRules.the_row
-symbol_rules_send = let a = list_send in let b = tree_send in let c = tree_sync in search sendable depth 20
-
-symbol_rules_sync : IsSync SymbolRules.the_row
-symbol_rules_sync = let a = list_sync in let b = tree_send in let c = tree_sync in search sendable depth 20
-
 abbrev blocks : RattleType
-blocks = Cells.the_row SymbolRules.the_row
+blocks = Cells.the_row RuleList.the_row
 
 blocks_send : IsSend blocks
-blocks_send = cells_send SymbolRules.the_row symbol_rules_send symbol_rules_sync
+blocks_send = cells_send RuleList.the_row list_send list_sync
 
 blocks_sync : IsSync blocks
-blocks_sync = cells_sync SymbolRules.the_row symbol_rules_send symbol_rules_sync
+blocks_sync = cells_sync RuleList.the_row list_send list_sync
 
 fork_1_send : IsSend (Fork.the_row blocks)
 fork_1_send = fork_send blocks blocks_send blocks_sync
@@ -331,10 +325,10 @@ entries_sync : IsSync Entries.the_row
 entries_sync = let a = three_sync group group_send group_sync in let b = chain_sync Held.the_row held_send held_sync in search sendable depth 20
 
 pub version_send : IsSend Version.the_row
-version_send = let a = entries_send in let b = table_send in let c = tree_send in let d = tree_sync in search sendable depth 20
+version_send = let a = entries_send in let b = table_send in search sendable depth 20
 
 pub version_sync : IsSync Version.the_row
-version_sync = let a = entries_sync in let b = table_sync in let c = tree_send in let d = tree_sync in search sendable depth 20
+version_sync = let a = entries_sync in let b = table_sync in search sendable depth 20
 
 pub job_send : IsSend Job.the_row
 job_send = let a = version_send in let b = command_send in search (sendable, crosses, past_send) depth 20
@@ -380,6 +374,9 @@ value_send = search (sendable, crosses) depth 40 fits 20000
 answer_send : IsSend Answer.the_row
 answer_send = search (sendable, crosses) depth 40 fits 20000
 
+walks_send : IsSend Walks.the_row
+walks_send = search (sendable, crosses, results_send) depth 40 fits 20000
+
 id_send : IsSend TermId.the_row
 id_send = search (sendable, crosses) depth 40 fits 20000
 
@@ -400,8 +397,14 @@ reducer_send =
                 (
                   results_send Answer.the_row answer_send,
                   (
-                    search (sendable, crosses) depth 20,
-                    tt,
+                    trees_row_send,
+                    (
+                      walks_send,
+                      (
+                        search (sendable, crosses) depth 20,
+                        tt,
+                      ),
+                    ),
                   ),
                 ),
               ),

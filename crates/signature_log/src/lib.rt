@@ -22,7 +22,6 @@ mod rule_list;
 mod slots;
 mod steps;
 mod storing;
-mod symbol_rules;
 mod table;
 mod version;
 

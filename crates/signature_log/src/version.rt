@@ -16,7 +16,6 @@ use crate::slots::Slots;
 use crate::table::{RuleTable, with_entry};
 use crate::{Grow, Rows, Steps};
 use dk_model::{Entry, Listed, NoMemory, Signature};
-use rule_tree::Tree;
 use shared_term::Stored;
 use std::alloc::Global;
 use std::marker::{Brand, Model};
@@ -32,8 +31,6 @@ pub struct Version {
     alloc: Global,
     entries: Entries,
     rules: RuleTable,
-    /// A tree of no rules, for the symbols that have a body.
-    bare: Arc<Tree>,
 }
 
 impl Model for Version {
@@ -72,13 +69,6 @@ fn body_of(entry: Option<&Entry<Stored>>) -> Option<&Stored>
     }
 }
 
-/// The same tree.
-fn shared(tree: &Arc<Tree>) -> Result<Arc<Tree>, NoMemory>
-    ensures { IfOk result (λ t. arc_value t ≡ arc_value tree.now) }
-{
-    Ok(Arc::try_clone(tree)?)
-}
-
 impl Version {
     /// No entries.
     pub fn empty(alloc: Global) -> Result<Version, NoMemory>
@@ -88,7 +78,6 @@ impl Version {
             alloc,
             entries: Entries::empty(alloc)?,
             rules: Fork::empty(alloc)?,
-            bare: Arc::new(alloc, Tree::bare(alloc))?,
         })
     }
 
@@ -131,12 +120,10 @@ impl Version {
         let held = Held::new(entry);
         let rules = with_entry(self.alloc, &self.rules, &held)?;
         let entries = self.entries.append(self.alloc, held, steps)?;
-        let bare = shared(&self.bare)?;
         Ok(Version {
             alloc: self.alloc,
             entries,
             rules,
-            bare,
         })
     }
 
@@ -164,7 +151,6 @@ impl Version {
             alloc: self.alloc,
             entries: self.entries.share()?,
             rules: self.rules.share()?,
-            bare: shared(&self.bare)?,
         })
     }
 
@@ -188,6 +174,6 @@ impl Version {
     {
         let body = body_of(self.get(symbol));
         let declared = self.rules.find(symbol as u64);
-        Rows::new(body, declared, &self.bare)
+        Rows::new(body, declared)
     }
 }

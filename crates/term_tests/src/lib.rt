@@ -20,6 +20,8 @@ mod pruning;
 #[cfg(test)]
 mod queries;
 #[cfg(test)]
+mod splitting;
+#[cfg(test)]
 mod texts;
 #[cfg(test)]
 mod versions;

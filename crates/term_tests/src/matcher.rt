@@ -2,24 +2,43 @@
 ghost use Rattle.std.specs.Prelude.{◌<◌, length, IfOk};
 ghost use Rattle.rule_match.specs.Columns.{AreWithin};
 ghost use Rattle.rule_match.specs.Matching.{IsMatcher, Awaits};
+ghost use Rattle.rule_match.specs.Trees.{IsPlaced};
 ghost use Rattle.shared_term.specs.Pools.{Extends};
 
 use crate::texts::{Parts, version_of_text};
-use dk_model::{Entry, NoMemory, NodeOf};
-use rule_match::{Answer, Ask, Matcher};
-use shared_term::{Pool, TermId};
+use dk_model::{Entry, NoMemory, NodeOf, Rule};
+use rule_match::{Answer, Ask, LeftSide, Matcher, Tree, compile};
+use shared_term::{Pool, Stored, TermId};
 use signature_log::Version;
 use std::alloc::Global;
 
-/// The symbol of the rules of the last command of a version.
-fn last_symbol(version: &Version) -> u32 {
+/// The rules of the last command of a version.
+fn last_rules(version: &Version) -> &[Rule<Stored>] {
     match version.get(version.len().saturating_sub(1)) {
-        Some(Entry::Rules(rules)) => match rules.as_slice().first() {
-            Some(rule) => rule.head,
-            None => 0,
-        },
-        _ => 0,
+        Some(Entry::Rules(rules)) => rules.as_slice(),
+        _ => &[],
     }
+}
+
+fn compiled(alloc: Global, rules: &[Rule<Stored>]) -> Result<Tree, NoMemory>
+    ensures { IfOk result IsPlaced }
+{
+    let mut sides = Vec::new(alloc);
+    for rule in rules {
+        sides.push(LeftSide {
+            patterns: rule.pats.as_slice(),
+            vars: rule.vars,
+        })?;
+    }
+    compile(alloc, sides.as_slice())
+}
+
+/// The tree of the rules that end a text.
+fn tree_of(alloc: Global, parts: &[(&str, u32)]) -> Result<Tree, NoMemory>
+    ensures { IfOk result IsPlaced }
+{
+    let version = version_of_text(alloc, parts)?;
+    compiled(alloc, last_rules(&version))
 }
 
 /// What the selection asks for once it is told whether two terms are alike, or that a term stands; where it asks for
@@ -67,14 +86,14 @@ fn is_taken(ask: &Ask, arguments: &[TermId], due: Option<Taken>) -> bool {
 fn selects(
     alloc: Global,
     pool: &mut Pool,
-    version: &Version,
+    tree: &Tree,
     arguments: [TermId; 2],
     row: &Row,
 ) -> Result<bool, NoMemory>
-    requires { AreWithin (length pool.old) arguments }
+    requires within { AreWithin (length pool.old) arguments }
+    requires placed { IsPlaced tree.now }
 {
-    let symbol = last_symbol(version);
-    let mut matcher = Matcher::start(alloc, version.rules_of(symbol), symbol, &arguments)?;
+    let mut matcher = Matcher::start(alloc, tree, &arguments)?;
     let ask = matcher.next(pool, Answer::Begin)?;
     let is_asked = match &ask {
         Ask::Evaluate(column) => *column == 0 && row.alike.is_none(),
@@ -225,26 +244,25 @@ fn interned(pool: &mut Pool, argument: Argument) -> Result<TermId, NoMemory>
     }
 }
 
-fn is_selected(
-    alloc: Global,
-    pool: &mut Pool,
-    version: &Version,
-    row: &Row,
-) -> Result<bool, NoMemory> {
+fn is_selected(alloc: Global, pool: &mut Pool, tree: &Tree, row: &Row) -> Result<bool, NoMemory>
+    requires { IsPlaced tree.now }
+{
     let second = interned(pool, row.arguments[0])?;
     let first = interned(pool, row.arguments[1])?;
-    selects(alloc, pool, version, [second, first], row)
+    selects(alloc, pool, tree, [second, first], row)
+}
+
+fn has_tree(alloc: Global, tree: &Tree, row: &Row) -> Result<bool, NoMemory>
+    requires { IsPlaced tree.now }
+{
+    let mut pool = Pool::new(alloc)?;
+    is_selected(alloc, &mut pool, tree, row)
 }
 
 fn is_row(alloc: Global, row: &Row) -> Result<bool, NoMemory> {
-    let version = version_of_text(alloc, row.parts)?;
-    let mut pool = Pool::new(alloc)?;
-    let is_selected = is_selected(alloc, &mut pool, &version, row)?;
-    let nodes = match version.rules_of(last_symbol(&version)).tree() {
-        Some(tree) => tree.nodes(),
-        None => 0,
-    };
-    Ok(is_selected && nodes == row.nodes)
+    let tree = tree_of(alloc, row.parts)?;
+    let is_selected = has_tree(alloc, &tree, row) == Ok(true);
+    Ok(is_selected && tree.nodes() == row.nodes)
 }
 
 /// The first row that isn't as told, by its number.

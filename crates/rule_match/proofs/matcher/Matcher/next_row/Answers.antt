@@ -11,6 +11,7 @@ try_row-requires c = record {
   captures = c.requires.within.captures;
   stage = tt;
   tried = tt;
+  placed = c.requires.within.placed;
 }
 
 pub returns-clause-asks : goal.returns-clause-asks

@@ -1,10 +1,10 @@
 use Rattle.std.proofs.Common.{◌≡◌, ◌∙◌, List, ap, map, arith}
 use Rattle.dk_model.specs.Matrix.{cell_at}
 use Rattle.shared_term.specs.Pools.{term}
-use Rattle.rule_tree.specs.declared.cell.Cell.{Cell}
+use Rattle.rule_match.specs.declared.cell.Cell.{Cell}
 use Rattle.rule_match.specs.declared.matcher.Matcher.{Matcher}
 use Rattle.rule_match.specs.declared.matcher.Stage.TheVariants.{Begins}
-use Rattle.rule_tree.specs.Rows.{plain_cell}
+use Rattle.rule_match.specs.Rows.{plain_cell}
 use Rattle.rule_match.specs.Matching.{fails, captures_due, after_normal}
 use Rattle.rule_match.proofs.Matching.{asks_on}
 use Rattle.rule_match.proofs.Asking.{normal_within, still_fails, still_goes}

@@ -1,6 +1,0 @@
-pub mod Refining
-mod Grouping
-pub mod AlongTests
-mod Compiling
-mod Rooting
-pub mod Keying

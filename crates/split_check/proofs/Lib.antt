@@ -1,0 +1,12 @@
+pub mod Commands
+pub mod Crosses
+pub mod Dues
+pub mod Faults
+pub mod Joining
+pub mod Judged
+pub mod Layings
+pub mod Onward
+pub mod Pools
+pub mod Putting
+pub mod Sending
+pub mod Walking
