@@ -1,10 +1,10 @@
 -- A declared type and its body, laid out from the beginning.
-use Rattle.std.proofs.Common.{List, [], ◌∷◌, ◌++◌, ℕ, ◌≡◌, refl, ap, sym as flip, subst as along_path, ◌∙◌, Bool, true, false, Some, inl, inr}
+use Rattle.std.proofs.Common.{List, [], ◌++◌, ℕ, ◌≡◌, refl, ap, sym as flip, subst as along_path, ◌∙◌, Bool, true, false, Some, inl, inr}
 use Rattle.dk_model.specs.Trees.{Tree}
 use Rattle.dk_model.specs.Signatures.{PlainSignature}
 use Rattle.dk_model.specs.Answering.{IsVerdictOrMemory}
 use Rattle.dk_model.specs.Erasure.{erased}
-use Rattle.dk_model.specs.Typing.{Judged, answer, refused, ended, next, checked, sort_of}
+use Rattle.dk_model.specs.Typing.{Judged, answer, refused, ended, checked, sort_of}
 use Rattle.dk_model.specs.Verdicts.{declaration_checked}
 use Rattle.dk_model.specs.Verdicts.{verdict}
 use Rattle.dk_model.specs.declared.code.Verdict.{Verdict}
@@ -15,7 +15,7 @@ use Rattle.split_parts.specs.declared.part.PartOut.TheVariants as out
 use Rattle.split_check.specs.Due.{AreDue, IsDue}
 use Rattle.split_check.proofs.Dues.{combined_due}
 use Rattle.split_parts.specs.declared.part.PartResult.{PartResult}
-use Rattle.split_check.specs.Steps.{Onward, Stops, steps_due}
+use Rattle.split_check.specs.Steps.{steps_due}
 use Rattle.split_check.specs.Laying.{GoesOn, IsOver, LaysFit, LaysSort}
 use Rattle.split_check.specs.declared.laying.Laying.{Laying}
 use Rattle.split_check.proofs.Joining.{fit_after, fit_alike, goes_next, goes_alike, over_next, over_alike}

@@ -1,5 +1,5 @@
 -- What a fault comes to.
-use Rattle.std.proofs.Common.{ℕ, ◌≡◌, ◌≤◌, ◌-◌, refl, ap, sym as flip, ◌∙◌, inl, inr}
+use Rattle.std.proofs.Common.{ℕ, ◌≡◌, refl, ap, sym as flip, ◌∙◌, inl, inr}
 use Rattle.dk_model.specs.Typing.{Judged, answer, refused, ended}
 use Rattle.dk_model.specs.declared.stop.TypeFault.{TypeFault}
 use Rattle.dk_model.specs.declared.stop.TypeFault.TheVariants.{Refused, Ended, NoMemory}

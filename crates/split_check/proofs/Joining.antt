@@ -1,5 +1,5 @@
 -- A typing that goes on, step behind step.
-use Rattle.std.proofs.Common.{List, [], ◌∷◌, ◌++◌, ℕ, ◌≡◌, map, refl, ap, sym as flip, subst as along_path, ◌∙◌, Bool, true, false, Option, Some, None}
+use Rattle.std.proofs.Common.{List, [], ◌∷◌, ◌++◌, ℕ, ◌≡◌, refl, ap, sym as flip, subst as along_path, ◌∙◌, Bool, true, false, Option, Some, None}
 use Rattle.std.specs.Prelude.{Result, Ok, Err, IfOk}
 use Rattle.dk_model.specs.Trees.{Tree}
 use Rattle.dk_model.specs.Signatures.{PlainSignature}
@@ -7,7 +7,6 @@ use Rattle.dk_model.specs.Erasure.{erased}
 use Rattle.dk_model.specs.Typing.{Judged, answer, next, inferred, as_star, as_convertible}
 use Rattle.dk_model.specs.declared.code.Code.TheVariants.{E21}
 use Rattle.infer_check.specs.declared.product.Product.{Product}
-use Rattle.split_parts.specs.declared.part.PartResult.{PartResult}
 use Rattle.split_check.specs.Steps.{Onward, Stops, step_due, steps_due}
 use Rattle.split_check.specs.Laying.{GoesOn, IsOver, LaysFit, LaysProduct, LaysType, domain_agrees}
 use Rattle.split_check.specs.declared.laying.Laying.{Laying}

@@ -1,5 +1,5 @@
 -- How a typing goes on by one step.
-use Rattle.std.proofs.Common.{List, [], ◌∷◌, ◌++◌, ℕ, ◌≡◌, ◌≤◌, ◌-◌, refl, ap, sym as flip, subst as along_path, ◌∙◌}
+use Rattle.std.proofs.Common.{List, [], ◌∷◌, ◌++◌, ℕ, ◌≡◌, refl, ap, sym as flip, subst as along_path}
 use Rattle.dk_model.specs.Trees.{Tree}
 use Rattle.dk_model.specs.Signatures.{PlainSignature}
 use Rattle.dk_model.specs.declared.code.Code.{Code}
@@ -9,14 +9,12 @@ use Rattle.dk_model.specs.declared.stop.TypeFault.{TypeFault}
 use Rattle.dk_model.specs.declared.stop.TypeFault.TheVariants.{NoMemory}
 use Rattle.dk_model.proofs.CountedTyping.{Counts}
 use Rattle.infer_check.specs.Given.{Fails}
-use Rattle.split_parts.specs.declared.part.PartResult.{PartResult}
 use Rattle.shared_term.specs.Storage.{stored_term}
 use Rattle.infer_check.proofs.Moving.{checked_same}
 use Rattle.split_parts.specs.Parts.{part}
 use Rattle.split_check.specs.Steps.{fine_with, fault_with, Onward, Stops, sent_rule_types, sent_bound_types}
-use Rattle.split_check.specs.Laying.{GoesOn, IsOver, Stays}
+use Rattle.split_check.specs.Laying.{GoesOn, IsOver}
 use Rattle.split_check.specs.declared.laying.Laying.{Laying}
-use Rattle.split_check.specs.declared.step.Step.{Step}
 use Rattle.split_check.specs.declared.step.Step.TheVariants.{Check, Done}
 use Rattle.split_check.specs.declared.step.Part.{Part}
 use Rattle.split_check.proofs.Faults.{fault_is, none_answered}

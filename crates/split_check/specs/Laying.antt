@@ -5,7 +5,6 @@ use Rattle.dk_model.specs.Signatures.{PlainSignature}
 use Rattle.dk_model.specs.Erasure.{erased}
 use Rattle.dk_model.specs.Typing.{Judged, answer, next, inferred, as_star, as_convertible}
 use Rattle.dk_model.specs.declared.code.Code.TheVariants.{E21}
-use Rattle.signature_log.specs.Reducers.{Keeps}
 use Rattle.infer_check.specs.declared.product.Product.{Product}
 use Rattle.split_check.specs.declared.laying.Laying.{Laying}
 use Rattle.split_check.specs.declared.step.Step.{Step}

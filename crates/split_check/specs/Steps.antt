@@ -1,5 +1,5 @@
 -- For proofs: what is due of the steps of a typing, and what a typing comes to by its steps.
-use Rattle.std.specs.Prelude.{ℕ, ◌+◌, ◌-◌, ◌≡◌, ◌≤◌, List, ◌++◌, map, Option, Some, None, Bool, true, false}
+use Rattle.std.specs.Prelude.{ℕ, ◌+◌, ◌-◌, ◌≡◌, ◌≤◌, List, ◌++◌, map}
 use Rattle.dk_model.specs.Trees.{Tree}
 use Rattle.dk_model.specs.Signatures.{PlainSignature}
 use Rattle.dk_model.specs.Typing.{Judged, answer, refused, ended, checked}
@@ -12,7 +12,6 @@ use Rattle.infer_check.specs.declared.context.Context.{Context}
 use Rattle.split_parts.specs.Parts.{part, combined_behind, ended_with}
 use Rattle.split_parts.specs.declared.part.PartOut.TheVariants.{Fine, Memory, Refused}
 use Rattle.split_parts.specs.declared.part.PartResult.{PartResult}
-use Rattle.split_check.specs.declared.step.Part.{Part}
 use Rattle.split_check.specs.declared.step.Step.{Step}
 use Rattle.split_check.specs.declared.step.Step.TheVariants.{Done, Check}
 

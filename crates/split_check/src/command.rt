@@ -19,7 +19,7 @@ ghost use Rattle.split_check.specs.Steps.{steps_due};
 use crate::crew::{Crew, PartGate};
 use crate::forks::Forks;
 use crate::judging::{judge_here, judge_steps, left_over};
-use crate::laying::{Laying, lay_fit, lay_sort};
+use crate::laying::{Laying, lay_sort};
 use crate::sizes::{MOST, size};
 use crate::step::Step;
 use crate::typing::{Sized, lay_check};
@@ -87,7 +87,8 @@ where
     R::T: Send,
     requires { R.serves (entries_of crew.now.version.now) reducer.old }
     ensures due { IsVerdictOrMemory (verdict (declaration_checked (entries_of crew.now.version.now)
-        (Some (stored_term declared.entry.typ.now)) (Some (stored_term declared.entry.body.now)) budget)) result }
+        (Some (stored_term declared.entry.typ.now)) (Some (stored_term declared.entry.body.now))
+        budget)) result }
     ensures keeps { Keeps R.owns R.denotes reducer.old reducer.new }
     ensures serves { R.serves (entries_of crew.now.version.now) reducer.new }
 {
@@ -141,9 +142,11 @@ fn lay_declared<R: Reducer>(
     budget: u64,
 ) -> Result<Vec<Step>, NoMemory>
     requires { R.serves (entries_of version.now) r.old }
-    ensures steps { IfOk result (λ s. combined (steps_due (entries_of version.now) budget s.items) budget
+    ensures steps { IfOk result (λ s.
+        combined (steps_due (entries_of version.now) budget s.items) budget
         ≡ part budget (declaration_checked (entries_of version.now)
-        (Some (stored_term declared.entry.typ.now)) (Some (stored_term declared.entry.body.now)) budget)) }
+        (Some (stored_term declared.entry.typ.now)) (Some (stored_term declared.entry.body.now))
+        budget)) }
     ensures follows { Follows R.owns R.denotes R.serves (entries_of version.now) r.old r.new }
 {
     let alloc = r.alloc();

@@ -49,8 +49,10 @@ pub(crate) fn sent_context<R: Reducer>(
     context: &Context<R::T>,
 ) -> Result<Context<Stored>, NoMemory>
     requires { OwnsContext R.owns r.now context.now }
-    ensures rule_vars { IfOk result (λ c. sent_rule_types c ≡ rule_types R.denotes r.now context.now) }
-    ensures bound { IfOk result (λ c. sent_bound_types c ≡ bound_types R.denotes r.now context.now) }
+    ensures rule_vars { IfOk result (λ c.
+        sent_rule_types c ≡ rule_types R.denotes r.now context.now) }
+    ensures bound { IfOk result (λ c.
+        sent_bound_types c ≡ bound_types R.denotes r.now context.now) }
 {
     let rule_vars = sent(r, &context.rule_vars)?;
     let bound = sent(r, &context.bound)?;
@@ -64,8 +66,10 @@ pub(crate) fn brought_context<R: Reducer>(
     context: &Context<Stored>,
 ) -> Result<Context<R::T>, NoMemory>
     ensures own { IfOk result (OwnsContext R.owns r.new) }
-    ensures rule_vars { IfOk result (λ c. rule_types R.denotes r.new c ≡ sent_rule_types context.now) }
-    ensures bound { IfOk result (λ c. bound_types R.denotes r.new c ≡ sent_bound_types context.now) }
+    ensures rule_vars { IfOk result (λ c.
+        rule_types R.denotes r.new c ≡ sent_rule_types context.now) }
+    ensures bound { IfOk result (λ c.
+        bound_types R.denotes r.new c ≡ sent_bound_types context.now) }
     ensures keeps { Keeps R.owns R.denotes r.old r.new }
     ensures serves { (S : PlainSignature) → R.serves S r.old → R.serves S r.new }
 {

@@ -1,6 +1,6 @@
-use Rattle.std.proofs.Common.{rules, ◌≡◌, ◌∙◌, [], Bool, true, false, ap}
+use Rattle.std.proofs.Common.{rules, ◌≡◌, ◌∙◌, true, false, ap}
 use Rattle.dk_model.specs.Erasure.{erased}
-use Rattle.dk_model.specs.Typing.{checked, sort_of}
+use Rattle.dk_model.specs.Typing.{sort_of}
 use Rattle.shared_term.specs.Storage.{stored_term}
 use Rattle.signature_log.specs.Versions.{entries_of}
 use Rattle.signature_log.proofs.Keeping.{keeps_further}

@@ -1,5 +1,4 @@
 use Rattle.signature_log.specs.Versions.{entries_of}
-use Rattle.infer_check.specs.Contexts.{rule_types, bound_types}
 use Rattle.split_check.proofs.Layings.{product_goes}
 use Rattle.split_check.proofs.laying.lay_product.Goals as goal
 

@@ -1,6 +1,6 @@
 -- Each step, from the state of the reducer before it to that at the start.
-use Rattle.std.proofs.Common.{rules, ◌≡◌, ◌∙◌, ◌∷◌, ◌++◌, ◌+◌, ◌<◌, [], arith, Bool, true, false, sym as flip, ap, refl, subst as along_path, map, length}
-use Rattle.dk_model.specs.Trees.{Tree, bare, annotated}
+use Rattle.std.proofs.Common.{rules, ◌≡◌, ◌∙◌, ◌∷◌, ◌++◌, ◌+◌, [], arith, true, false, sym as flip, ap, refl, subst as along_path, map}
+use Rattle.dk_model.specs.Trees.{bare, annotated}
 use Rattle.dk_model.specs.Erasure.{erased}
 use Rattle.dk_model.specs.Substitution.{substitute}
 use Rattle.dk_model.specs.Typing.{answer, is_abstraction, inferred, checked, as_product, as_convertible}
@@ -8,7 +8,7 @@ use Rattle.dk_model.specs.declared.code.Code.TheVariants.{E20, E21, E24}
 use Rattle.signature_log.specs.Versions.{entries_of}
 use Rattle.signature_log.specs.Reducers.{built, AreOwned}
 use Rattle.signature_log.proofs.Keeping.{keeps_further, keeps_none}
-use Rattle.infer_check.specs.Contexts.{with_bound, rule_types, bound_types}
+use Rattle.infer_check.specs.Contexts.{rule_types, bound_types}
 use Rattle.infer_check.specs.Spine.{along, size, total_size, wound}
 use Rattle.dk_model.proofs.Winding.{total_pushed}
 use Rattle.infer_check.proofs.Contexts.{owned_front, owned_kept, owned_last, types_kept}

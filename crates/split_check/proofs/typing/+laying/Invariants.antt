@@ -1,5 +1,4 @@
-use Rattle.std.proofs.Common.{◌≡◌, ◌<◌, ◌+◌, ◌*◌, ◌++◌, List, ℕ, vec_len, map}
-use Rattle.dk_model.specs.Trees.{Tree}
+use Rattle.std.proofs.Common.{◌<◌, ◌+◌, ◌*◌, vec_len, map}
 use Rattle.dk_model.specs.Typing.{inferred}
 use Rattle.signature_log.specs.Versions.{entries_of}
 use Rattle.signature_log.specs.Reducers.{built, AreOwned}

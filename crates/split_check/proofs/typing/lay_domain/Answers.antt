@@ -1,4 +1,4 @@
-use Rattle.std.proofs.Common.{rules, ◌≡◌, ◌∙◌, Bool, true, false, ap, sym as flip}
+use Rattle.std.proofs.Common.{rules, ◌≡◌, ◌∙◌, true, false, ap, sym as flip}
 use Rattle.dk_model.specs.Erasure.{erased}
 use Rattle.dk_model.specs.Typing.{inferred, as_star, as_convertible}
 use Rattle.dk_model.specs.declared.code.Code.TheVariants.{E21}
