@@ -149,6 +149,7 @@ where
         (steps_due (entries_of crew.now.version.now) whole steps.now) v.items) }
     ensures serves { R.serves (entries_of crew.now.version.now) result.0 }
 {
+    // A list of one step has no halves, so that each half is shorter.
     if steps.len() < 2 || left_over(steps) < 2 {
         let results = judge_here(crew, &mut reducer, steps, whole);
         return (reducer, results);

@@ -16,13 +16,13 @@ use std::thread::Threads;
 
 const STACK: usize = 1 << 26;
 
-// Enough for each.
+// Units that are enough for each row; with fewer, from none on, each is tried too.
 const BUDGETS: u64 = 32;
 
 const PAIRS: &str = "nat : Type. z : nat. s : nat -> nat. pair : nat -> nat -> nat. ";
 
-const LISTS: &str =
-    "nat : Type. z : nat. s : nat -> nat. list : nat -> Type. nil : list z. cons : n : nat -> nat -> list n -> list (s n). ";
+const LISTS: &str = "nat : Type. z : nat. s : nat -> nat. list : nat -> Type. nil : list z. \
+cons : n : nat -> nat -> list n -> list (s n). ";
 
 /// What stands before the command that is checked, that command, and its verdict with enough units.
 const ROWS: [(&str, &str, Verdict); 17] = [
@@ -278,7 +278,7 @@ fn bodies_are_split_with_the_units_of_one_thread(rt: HostRuntime) -> Result<(), 
     Ok(())
 }
 
-/// The verdict with a budget of the theorem that is due with one unit less or more.
+/// The verdict on a theorem with so many units, each argument given away.
 fn verdict<R: Threads + Wait + Sync>(
     rt: &R,
     alloc: Global,
