@@ -2,5 +2,4 @@ pub mod Declaring
 pub mod Entering
 pub mod Shaping
 pub mod Verdicts
-pub mod Storing
 pub mod Querying

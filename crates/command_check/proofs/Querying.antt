@@ -1,5 +1,5 @@
 -- What the check of a query gives, from what its parts gave.
-use Rattle.std.proofs.Common.{[], ◌≡◌, ◌∙◌, ℕ, Bool, true, false, Option, Some, None, ap, refl, subst, sym as flip}
+use Rattle.std.proofs.Common.{[], ◌≡◌, ◌∙◌, ℕ, Bool, true, false, Option, Some, ap, refl}
 use Rattle.dk_model.specs.Trees.{Tree}
 use Rattle.dk_model.specs.Erasure.{erased}
 use Rattle.dk_model.specs.Signatures.{PlainSignature}
@@ -7,13 +7,10 @@ use Rattle.dk_model.specs.Scoping.{PlainAsked, typed, alike, type_of, value_of, 
 use Rattle.dk_model.specs.Evaluation.{normal_of}
 use Rattle.dk_model.specs.Typing.{Judged, answer, refused, ended, after, next, as_convertible, inferred}
 use Rattle.dk_model.specs.Verdicts.{answer_of, command_checked, compared, evaluated, found_by, found_of, query_found, verdict, verdict_of}
-use Rattle.dk_model.specs.Answering.{IsVerdictOrMemory}
 use Rattle.dk_model.specs.declared.code.Code.{Code}
 use Rattle.dk_model.specs.declared.code.Code.TheVariants.{E21}
-use Rattle.dk_model.specs.declared.code.Verdict.{Verdict}
 use Rattle.dk_model.specs.declared.code.Verdict.TheVariants.{Accepted}
 use Rattle.dk_model.specs.declared.stop.TypeFault.{TypeFault}
-use Rattle.dk_model.specs.declared.stop.TypeFault.TheVariants.{Refused, Ended, NoMemory}
 use Rattle.infer_check.specs.Given.{Fails}
 use Rattle.infer_check.proofs.Judging.{fails_is, fails_next}
 use Rattle.command_check.specs.Finding.{says_no}

@@ -71,7 +71,7 @@ fn entry_body(alloc: Global, sort: SymSort, body: &Option<Term>) -> Result<Optio
 
 /// The rules of a command as an entry keeps them: without annotations in guards and right sides.
 #[tactic(auto, using(crate::proofs::Entering::rules_kept))]
-fn entry_rules(
+pub(crate) fn entry_rules(
     alloc: Global,
     version: &Version,
     rules: &Listed<ScopedRule>,

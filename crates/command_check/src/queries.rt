@@ -6,6 +6,7 @@ ghost use Rattle.dk_model.specs.Typing.{inferred};
 ghost use Rattle.dk_model.specs.Scoping.{plain_asked, plain_command, query};
 ghost use Rattle.dk_model.specs.Verdicts.{asked_found, command_checked, compared, evaluated, found_of, query_found, verdict_of};
 ghost use Rattle.dk_model.specs.Answering.{is_answered, IsVerdictOrMemory};
+ghost use Rattle.shared_term.specs.Commands.{stored_command};
 ghost use Rattle.shared_term.specs.Finding.{plain_found};
 ghost use Rattle.signature_log.specs.Versions.{entries_of};
 ghost use Rattle.signature_log.specs.Reducers.{Keeps};
@@ -20,7 +21,7 @@ use crate::kept::Boxed;
 use crate::verdict::fault_verdict;
 use dk_model::{Asked, Code, NoMemory, Scoped, Term, TypeFault, Verdict};
 use infer_check::{Compared, Walk, as_convertible, infer};
-use shared_term::Found;
+use shared_term::{Found, StoredCommand};
 use signature_log::{Reducer, Version};
 
 /// A term that has a type, without its annotations.
@@ -226,5 +227,41 @@ pub fn query<R: Reducer>(
         }
         Scoped::Declare { .. } => unreachable!(),
         Scoped::Rules(_) => unreachable!(),
+    }
+}
+
+/// The same of a command whose terms are stored.
+#[tactic(auto, using(crate::proofs::Querying::query_verdict, crate::proofs::Querying::query_finds, crate::proofs::Querying::checked_fails, crate::proofs::Verdicts::fault_due, crate::proofs::Verdicts::fault_refuses))]
+pub fn query_stored<R: Reducer>(
+    reducer: &mut R,
+    version: &Version,
+    c: &StoredCommand,
+    budget: u64,
+) -> Result<Found, Verdict>
+    requires answered { IsTrue (is_answered (stored_command c.now)) }
+    requires serves { R.serves (entries_of version.now) reducer.old }
+    ensures ok { IfOk result (λ f. found_of (entries_of version.now) (stored_command c.now) budget
+        ≡ Some (plain_found f)) }
+    ensures accepted { IfOk result (λ _. verdict_of (entries_of version.now) (stored_command c.now) budget
+        ≡ Verdict.Accepted) }
+    ensures err { IfErr result (IsVerdictOrMemory
+        (verdict_of (entries_of version.now) (stored_command c.now) budget)) }
+    ensures refused { IfErr result (λ v. ¬ (v ≡ Verdict.Accepted)) }
+    ensures keeps { Keeps R.owns R.denotes reducer.old reducer.new }
+    ensures serves { R.serves (entries_of version.now) reducer.new }
+{
+    let mut left = budget;
+    match c {
+        StoredCommand::Query { demand, asked } => {
+            match find_by(reducer, version, *demand, asked, &mut left) {
+                Ok(found) => match send_found(reducer, found) {
+                    Ok(found) => Ok(found),
+                    Err(_) => Err(Verdict::Memory),
+                },
+                Err(fault) => Err(fault_verdict(fault)),
+            }
+        }
+        StoredCommand::Declare { .. } => unreachable!(),
+        StoredCommand::Rules(_) => unreachable!(),
     }
 }

@@ -17,15 +17,14 @@ ghost use Rattle.typing_model.specs.Derivations.{HasDerivation};
 ghost use Rattle.command_check.specs.Commands.{stored_command};
 ghost use Rattle.command_check.specs.Given.{command_shapes, fault_verdict, HasBodyType};
 
-use crate::StoredCommand;
 use crate::declaration::{check_declaration, infer_body};
 use crate::entry::{entry_of, is_untyped};
-use crate::kept::{Boxed, InLists};
+use crate::kept::{Boxed, InLists, Kept};
 use crate::queries::judge_query;
 use crate::shapes::shapes_of;
-use dk_model::{Entry, Listed, Rule, Scoped, ScopedRule, Term, TypeFault, Verdict};
+use dk_model::{Entry, Listed, Rule, Scoped, ScopedRule, TypeFault, Verdict};
 use rule_check::check_rule;
-use shared_term::Stored;
+use shared_term::{Stored, StoredCommand};
 use signature_log::{Reducer, Version};
 use typing_model::laws::accepted_has_derivation;
 
@@ -185,22 +184,23 @@ pub fn check_stored<R: Reducer>(
 
 /// The type of a body without a declared type, where it has one; else the verdict.
 #[tactic(auto, using(crate::proofs::Verdicts::fault_due, crate::proofs::Verdicts::fault_refuses, signature_log::proofs::Keeping::keeps_further))]
-fn infer_untyped<R: Reducer>(
+fn infer_untyped<R: Reducer, K: Kept>(
     reducer: &mut R,
     version: &Version,
-    body: &Term,
+    body: &K::Term,
     budget: u64,
 ) -> Result<Stored, Verdict>
     requires { R.serves (entries_of version.now) reducer.old }
-    ensures ok { IfOk result (λ t. HasBodyType (entries_of version.now) (tree body.now) budget (stored_term t)) }
+    ensures ok { IfOk result (λ t.
+        HasBodyType (entries_of version.now) (K.kept_tree body.now) budget (stored_term t)) }
     ensures err { IfErr result (IsVerdictOrMemory
-        (verdict (body_type (entries_of version.now) (tree body.now) budget))) }
+        (verdict (body_type (entries_of version.now) (K.kept_tree body.now) budget))) }
     ensures refused { IfErr result (λ v. ¬ (v ≡ Verdict.Accepted)) }
     ensures keeps { Keeps R.owns R.denotes reducer.old reducer.new }
     ensures serves { R.serves (entries_of version.now) reducer.new }
 {
     let mut left = budget;
-    match infer_body::<R, Boxed>(reducer, version, body, &mut left) {
+    match infer_body::<R, K>(reducer, version, body, &mut left) {
         Ok(typ) => match reducer.send(&typ) {
             Ok(typ) => Ok(typ),
             Err(_) => Err(Verdict::Memory),
@@ -236,12 +236,48 @@ pub fn infer_type<R: Reducer>(
         Scoped::Declare { typ, body, .. } => match typ {
             Some(_) => unreachable!(),
             None => match body {
-                Some(body) => infer_untyped(reducer, version, body, budget),
+                Some(body) => infer_untyped::<R, Boxed>(reducer, version, body, budget),
                 None => unreachable!(),
             },
         },
         Scoped::Rules(_) => unreachable!(),
         Scoped::Query { .. } => unreachable!(),
+    }
+}
+
+/// The same of a command whose terms are stored.
+#[tactic(auto, using(crate::proofs::Verdicts::body_verdict, crate::proofs::Verdicts::body_due, crate::proofs::Verdicts::body_inferred, crate::proofs::Verdicts::derived))]
+pub fn infer_stored<R: Reducer>(
+    reducer: &mut R,
+    version: &Version,
+    c: &StoredCommand,
+    budget: u64,
+) -> Result<Stored, Verdict>
+    requires untyped { IsTrue (is_untyped (stored_command c.now)) }
+    requires serves { R.serves (entries_of version.now) reducer.old }
+    ensures ok { IfOk result (λ t. inferred_type (entries_of version.now) (stored_command c.now) budget
+        ≡ Some (stored_term t)) }
+    ensures accepted { IfOk result (λ _. verdict_of (entries_of version.now) (stored_command c.now) budget
+        ≡ Verdict.Accepted) }
+    ensures derivation { IfOk result (λ _. IsNumbered (entries_of version.now)
+        → HasDerivation (entries_of version.now) (stored_command c.now)) }
+    ensures err { IfErr result (IsVerdictOrMemory
+        (verdict_of (entries_of version.now) (stored_command c.now) budget)) }
+    ensures refused { IfErr result (λ v. ¬ (v ≡ Verdict.Accepted)) }
+    ensures keeps { Keeps R.owns R.denotes reducer.old reducer.new }
+    ensures serves { R.serves (entries_of version.now) reducer.new }
+{
+    accepted_has_derivation();
+    match c {
+        StoredCommand::Declare { typ, body, .. } => match typ {
+            Some(_) => unreachable!(),
+            None => match body {
+                Some(body) => infer_untyped::<R, InLists>(reducer, version, body, budget),
+                None => unreachable!(),
+            },
+        },
+        StoredCommand::Rules(_) => unreachable!(),
+        StoredCommand::Query { .. } => unreachable!(),
     }
 }
 

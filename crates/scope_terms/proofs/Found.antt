@@ -1,16 +1,16 @@
 -- A name is found with the number that its command was given.
-use Rattle.std.proofs.Common.{◌⊎◌, inl, inr, ◌≡◌, ◌∙◌, ap, sym, subst, refl, ℕ, zero, suc, ◌+◌, ◌<◌, arith, Bool, true, false, if◌then◌else◌, is_some, List, [], ◌∷◌, ◌++◌, length, true≢false}
+use Rattle.std.proofs.Common.{◌⊎◌, inl, inr, ◌≡◌, ◌∙◌, ap, sym, subst, refl, ℕ, zero, suc, ◌<◌, arith, Bool, true, false, if◌then◌else◌, is_some, List, [], ◌∷◌, ◌++◌, length, true≢false}
 use Rattle.std.proofs.lemmas.List.{get_or_append_left, get_or_past, length-append}
 use Rattle.std.proofs.lemmas.Bool.{cases_order}
 use Rattle.std.proofs.Math.Seq.{get_or-append_seam}
 use Rattle.std.specs.Prelude.{Option, None, Some, get_or}
 use Rattle.std.specs.Map.{lookup}
-use Rattle.dk_model.specs.Scoping.{PlainCommand, declare}
+use Rattle.dk_model.specs.Scoping.{PlainCommand}
 use Rattle.dk_model.specs.declared.code.Code.TheVariants.{E11}
 use Rattle.dk_parser.specs.Written.{WrittenForm, written_declare, written_rules, written_query, written_module, written_require}
 use Rattle.scope_terms.specs.Scopes.{Module, Scoping, Spelling, Symbols, names_after, no_symbols, number_of, numbers_in, own_of, refused, same_module, same_spelling, scope_of, scoped, spelling_of, with_number, with_symbol}
 use Rattle.scope_terms.specs.Found.{AreFound}
-use Rattle.scope_terms.proofs.Known.{same_is, same_self}
+use Rattle.scope_terms.proofs.Known.{same_self}
 use Rattle.scope_terms.proofs.Numbers.{number_of-added, number_of-kept}
 
 abbrev Spelt : Type 0

@@ -11,3 +11,5 @@ pub mod Rows
 pub mod Spines
 pub mod PatternSpines
 pub mod Binding
+pub mod Placing
+pub mod PlacedDeclarations

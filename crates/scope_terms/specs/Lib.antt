@@ -9,3 +9,4 @@ pub mod Spines
 pub mod Binding
 pub mod Found
 pub mod Hashing
+pub mod Placing

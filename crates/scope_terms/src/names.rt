@@ -197,7 +197,7 @@ impl Names {
 
     /// The first fault where this one is of what stands behind the name: the code, if the module being read declares the
     /// name already.
-    fn first_fault(&self, name: &Listed<u8>, code: Code, fault: Fault) -> Fault
+    pub(crate) fn first_fault(&self, name: &Listed<u8>, code: Code, fault: Fault) -> Fault
         ensures { result
             ≡ if is_some (number_of (own_names (reading self.now)) name.now) then Refused code else fault }
     {
@@ -209,7 +209,7 @@ impl Names {
     }
 
     /// Adds a name of the module being read with the next number, unless it has one: whether it was added.
-    fn add(&mut self, alloc: Global, name: &Listed<u8>) -> Result<bool, NoMemory>
+    pub(crate) fn add(&mut self, alloc: Global, name: &Listed<u8>) -> Result<bool, NoMemory>
         requires room { (reading self.old).symbols.count < 4294967295 }
         ensures is_new { IfOk result
             (λ added. added ≡ not (is_some (number_of (own_names (reading self.old)) name.now))) }
@@ -230,7 +230,7 @@ impl Names {
     }
 
     /// Gives the next number to a command that declares nothing.
-    fn add_number(&mut self) -> Result<(), NoMemory>
+    pub(crate) fn add_number(&mut self) -> Result<(), NoMemory>
         requires { (reading self.old).symbols.count < 4294967295 }
         ensures ok { OnOk result (reading self.new
             ≡ with_symbols (reading self.old) (with_number (reading self.old).symbols)) }

@@ -45,7 +45,7 @@ fn qualified_at(scope: &Scope, name: &RawQualified) -> Result<Term, Fault>
 
 /// The head of `f a`, and its arguments on a stack, the first one on top.
 #[tactic(auto, using(crate::proofs::Spines::applied_pushed, crate::proofs::Spines::total_pushed))]
-fn spine<'a>(
+pub(crate) fn spine<'a>(
     alloc: Global,
     f: &'a RawTerm,
     a: &'a RawTerm,
@@ -71,7 +71,7 @@ fn spine<'a>(
 
 /// Whether it is an application to three arguments or more. A function that isn't is scoped without a stack of arguments, and
 /// nests by them.
-fn is_long(it: &RawTerm) -> bool {
+pub(crate) fn is_long(it: &RawTerm) -> bool {
     match it {
         RawTerm::App(pair) => is_applied_twice(&pair.first),
         _ => false,

@@ -12,3 +12,5 @@ pub mod Parts
 pub mod Spelt
 pub mod Boxes
 pub mod Winding
+pub mod Made
+pub mod Erasing

@@ -1,5 +1,5 @@
 -- For callers: a term in a list of its own nodes.
-use Rattle.std.specs.Prelude.{◌≡◌, ℕ, ◌<◌, ◌≤◌, Bool, true, List, length, get_or, slice_get, Some, None}
+use Rattle.std.specs.Prelude.{◌≡◌, ℕ, ◌<◌, ◌≤◌, Bool, true, false, List, length, get_or, slice_get, Some, None}
 use Rattle.dk_model.specs.Trees.{Tree, star}
 use Rattle.dk_model.specs.declared.NodeOf.TheVariants.{Star, Kind, Sym, Var, Rvar, App, Abs, Prod}
 use Rattle.shared_term.specs.declared.id.TermId.{TermId}
@@ -58,3 +58,7 @@ pub record AreMarked (pool : List Node) (marks : List Bool) (from : ℕ) : Type 
 pub record ArePlaced (pool out : List Node) (marks : List Bool) (ps : List TermId) : Type 0 where
   pub there : (i : ℕ) (d : TermId) → i < length ps → IsNeeded marks i → (get_or ps i d).0 < length out
   pub same : (i : ℕ) (d : TermId) → i < length ps → IsNeeded marks i → get_or (terms out) (get_or ps i d).0 star ≡ get_or (terms pool) i star
+
+abbrev pub is_annotated : Node → Bool
+is_annotated (Abs (Some n) b) = true
+is_annotated n = false

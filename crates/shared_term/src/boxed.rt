@@ -1,9 +1,9 @@
 //! Between stored terms and terms of boxes.
-ghost use Rattle.std.specs.Prelude.{◌≡◌, [], IfOk, IfSome};
+ghost use Rattle.std.specs.Prelude.{◌≡◌, [], IfOk, IfSome, IsTrue};
 ghost use Rattle.dk_model.specs.Trees.{tree};
 ghost use Rattle.dk_model.specs.Erasure.{erased};
 ghost use Rattle.shared_term.specs.Pools.{denoted, IsWithin};
-ghost use Rattle.shared_term.specs.Storage.{stored_term};
+ghost use Rattle.shared_term.specs.Storage.{is_annotated, stored_term};
 
 use crate::boxing::boxed;
 use crate::spelling::spelt;
@@ -64,4 +64,35 @@ impl Stored {
         let nodes = self.unpacked(alloc)?;
         boxed(alloc, nodes.as_slice(), self.root())
     }
+
+    /// The same without its annotations.
+    pub fn without_annotations(&self, alloc: Global) -> Result<Stored, NoMemory>
+        ensures { IfOk result (λ s. stored_term s ≡ erased (stored_term self.now)) }
+    {
+        if self.is_erased() {
+            return self.copy(alloc);
+        }
+        let term = self.to_term(alloc)?;
+        Stored::from_erased(alloc, &term)
+    }
+
+    // Whether no node is an abstraction with an annotation.
+    #[tactic(auto, using(crate::proofs::Erasing::erased_more))]
+    fn is_erased(&self) -> bool
+        ensures { IsTrue result → erased (stored_term self.now) ≡ stored_term self.now }
+    {
+        let _root = self.root();
+        for at in 0..self.len() {
+            if is_annotated(self.get(at)) {
+                return false;
+            }
+        }
+        true
+    }
+}
+
+fn is_annotated(node: Node) -> bool
+    ensures { result ≡ is_annotated node }
+{
+    matches!(node, NodeOf::Abs(Some(_), _))
 }

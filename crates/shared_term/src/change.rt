@@ -41,7 +41,7 @@ pub(crate) struct Given<'a> {
 
 /// A node with two parts; the second is under a binder but in an application.
 #[derive(Clone, Copy)]
-pub(crate) enum Pair {
+pub enum Pair {
     Application,
     Abstraction,
     Product,

@@ -1,5 +1,5 @@
 //! A list of nodes to which nodes are added, each after its parts.
-ghost use Rattle.std.specs.Prelude.{◌≡◌, ◌<◌, length, IfOk, IfSome, OnOk};
+ghost use Rattle.std.specs.Prelude.{◌≡◌, ◌<◌, length, IfOk, IfSome, OnErr, OnOk};
 ghost use Rattle.shared_term.specs.Pools.{term, terms, denoted, Extends, IsWithin};
 ghost use Rattle.shared_term.specs.Storage.{IsSpelt};
 
@@ -67,6 +67,7 @@ pub(crate) fn pushed(nodes: &mut Vec<Node>, node: Node) -> Result<TermId, NoMemo
     ensures is { IfOk result (λ r. term nodes.new.items r ≡ denoted (terms nodes.old.items) node) }
     ensures keeps { OnOk result (Extends nodes.old.items nodes.new.items) }
     ensures spelt { OnOk result (IsSpelt nodes.new.items) }
+    ensures err { OnErr result (nodes.new.items ≡ nodes.old.items) }
 {
     let place = nodes.len();
     if place >= LAST {
@@ -104,6 +105,7 @@ pub(crate) fn shared(
     ensures is { IfOk result (λ r. term nodes.new.items r ≡ denoted (terms nodes.old.items) node) }
     ensures keeps { OnOk result (Extends nodes.old.items nodes.new.items) }
     ensures spelt { OnOk result (IsSpelt nodes.new.items) }
+    ensures err { OnErr result (nodes.new.items ≡ nodes.old.items) }
 {
     let slot = slot_of(node);
     match found_at(nodes.as_slice(), lately.place(slot), node) {

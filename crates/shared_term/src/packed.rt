@@ -45,6 +45,23 @@ impl Packed {
         }
     }
 
+    /// The nodes of a list that stays as it is.
+    pub(crate) fn of(alloc: Global, nodes: &[Node], root: TermId) -> Result<Packed, NoMemory>
+        requires { root.0 < length nodes.now }
+        ensures { IfOk result (λ p. unpacked p ≡ (nodes.now, root)) }
+    {
+        match nodes {
+            [node] => Ok(Packed::One(*node)),
+            _ => match short_nodes(alloc, nodes)? {
+                Some(short) => Ok(Packed::Short { root, nodes: short }),
+                None => Ok(Packed::Full {
+                    root,
+                    nodes: nodes.to_vec(alloc)?,
+                }),
+            },
+        }
+    }
+
     pub(crate) fn copy(&self, alloc: Global) -> Result<Packed, NoMemory>
         ensures { IfOk result (λ p. unpacked p ≡ unpacked self.now) }
     {

@@ -53,6 +53,16 @@ impl Stored {
         })
     }
 
+    /// The nodes of a list that stays as it is, with the place of the outermost one.
+    pub(crate) fn of(alloc: Global, nodes: &[Node], root: TermId) -> Result<Stored, NoMemory>
+        requires { IsStored nodes.now root }
+        ensures { IfOk result (λ s. s ≡ (nodes.now, root)) }
+    {
+        Ok(Stored {
+            packed: Packed::of(alloc, nodes, root)?,
+        })
+    }
+
     /// The same nodes in memory of their own.
     pub fn copy(&self, alloc: Global) -> Result<Stored, NoMemory>
         ensures { IfOk result (λ s. s ≡ self.now) }

@@ -1,5 +1,5 @@
 -- One more node, whose parts stand before it.
-use Rattle.std.proofs.Common.{◌≡◌, ◌∙◌, ℕ, ◌<◌, List, length, get_or, refl, ap, sym, subst, arith}
+use Rattle.std.proofs.Common.{◌≡◌, ◌∙◌, ℕ, get_or, refl, ap, sym, subst, arith}
 use Rattle.dk_model.specs.Trees.{star}
 use Rattle.shared_term.specs.Pools.{IsWithin, denoted, terms}
 use Rattle.shared_term.specs.Storage.{renamed}

@@ -1,4 +1,4 @@
-use Rattle.std.proofs.Common.{◌∙◌, ◌+◌, ◌++◌, ◌∷◌, [], ap, sym, subst, if◌then◌else◌, length, Bool, List}
+use Rattle.std.proofs.Common.{◌∙◌, ◌+◌, ◌++◌, ◌∷◌, [], ap, sym, subst, if◌then◌else◌, Bool, List}
 use Rattle.std.specs.Prelude.{Option, Some, reverse}
 use Rattle.scope_terms.specs.Modules.{Changes, IsWithin, first_place, known_of, module_at, reading_of, with_name_in}
 use Rattle.scope_terms.specs.Reading.{with_own_name}

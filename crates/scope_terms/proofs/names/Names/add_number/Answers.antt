@@ -1,8 +1,7 @@
-use Rattle.std.proofs.Common.{◌∙◌, ◌+◌, List, ap, sym, subst}
+use Rattle.std.proofs.Common.{List, sym, subst}
 use Rattle.std.specs.Prelude.{Option}
-use Rattle.scope_terms.specs.Modules.{reading_of}
 use Rattle.scope_terms.specs.declared.spelt.Symbol.{Symbol}
-use Rattle.scope_terms.proofs.Readings.{AreKept, none_kept, reading_numbered}
+use Rattle.scope_terms.proofs.Readings.{AreKept, none_kept}
 use Rattle.scope_terms.proofs.names.Names.add_number.Goals as goal
 
 pub invariant_of-self-2-clause-kept : goal.invariant_of-self-2-clause-kept
