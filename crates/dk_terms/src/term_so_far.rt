@@ -56,6 +56,7 @@ pub enum Frame {
 }
 
 // A binder read as a term.
+#[inline(always)]
 fn binder_term(binder: Option<Listed<u8>>) -> RawTerm
     ensures { written result ≡ binder_term binder }
 {
@@ -66,6 +67,7 @@ fn binder_term(binder: Option<Listed<u8>>) -> RawTerm
 }
 
 // An atom behind what has been read of its application.
+#[inline(always)]
 fn applied_to(alloc: Global, first: Option<RawTerm>, second: RawTerm) -> Result<RawTerm, NoMemory>
     ensures { IfOk result (λ t. written t ≡ applied_to (maybe_written first) (written second)) }
 {
@@ -168,6 +170,7 @@ impl TermSoFar {
     }
 
     /// Takes a terminal.
+    #[inline(always)]
     pub fn next(&mut self, alloc: Global, x: Terminal) -> Result<TermStep, NoMemory>
         ensures { IfOk result (λ step. plain_term_step step self.new
             ≡ term_next (plain_term self.old) x) }
@@ -190,6 +193,7 @@ impl TermSoFar {
     }
 
     // The application, taken out.
+    #[inline(always)]
     fn taken(&mut self) -> Application
         ensures value { result ≡ self.old.application }
         ensures frames { self.new.frames ≡ self.old.frames }
@@ -201,6 +205,7 @@ impl TermSoFar {
     }
 
     // Goes on behind this application.
+    #[inline(always)]
     fn within(&mut self, application: Application) -> TermStep
         ensures { plain_term_step result self.new
             ≡ within (plain_term self.old).frames (plain_application application) }
@@ -211,6 +216,7 @@ impl TermSoFar {
 
     // Puts a frame on; a term is due in it.
     #[tactic(auto, using(crate::proofs::Stacked::pushed))]
+    #[inline(always)]
     fn framed(&mut self, frame: Frame) -> Result<TermStep, NoMemory>
         ensures { IfOk result (λ step. plain_term_step step self.new
             ≡ framed (plain_frame frame) (plain_term self.old).frames) }
@@ -220,6 +226,7 @@ impl TermSoFar {
     }
 
     // An atom behind what has been read of its application.
+    #[inline(always)]
     fn applied(
         &mut self,
         alloc: Global,
@@ -236,6 +243,7 @@ impl TermSoFar {
     }
 
     // Another atom.
+    #[inline(always)]
     fn atom(&mut self, alloc: Global, a: RawTerm) -> Result<TermStep, NoMemory>
         ensures { IfOk result (λ step. plain_term_step step self.new
             ≡ atom_next (plain_term self.old).frames (plain_term self.old).application
@@ -249,6 +257,7 @@ impl TermSoFar {
     }
 
     // A name or a wildcard.
+    #[inline(always)]
     fn binder(&mut self, alloc: Global, binder: Option<Listed<u8>>) -> Result<TermStep, NoMemory>
         ensures { IfOk result (λ step. plain_term_step step self.new
             ≡ binder_next (plain_term self.old).frames (plain_term self.old).application binder) }
@@ -261,6 +270,7 @@ impl TermSoFar {
         }
     }
 
+    #[inline(always)]
     fn open(&mut self) -> Result<TermStep, NoMemory>
         ensures { IfOk result (λ step. plain_term_step step self.new
             ≡ open_next (plain_term self.old).frames (plain_term self.old).application) }
@@ -387,6 +397,7 @@ impl TermSoFar {
     }
 
     // The bracket around a term, and the sign behind the term.
+    #[inline(always)]
     fn close(
         &mut self,
         alloc: Global,

@@ -16,6 +16,9 @@ use Rattle.dk_parser.specs.Steps.{read_tokens}
 use Rattle.dk_parser.specs.Views.{HasRead}
 use Rattle.dk_parser.specs.Written.{WrittenCommand}
 use Rattle.file_reader.specs.declared.reader.Next.{Next}
+use Rattle.file_reader.specs.declared.reader.Next.TheVariants as next
+use Rattle.file_reader.specs.declared.reader.Whole.{Whole}
+use Rattle.file_reader.specs.declared.reader.Whole.TheVariants as boxed
 use Rattle.file_reader.specs.Nexts.{IsWhich, raw_of}
 use Rattle.file_reader.specs.declared.reader.ReadEnd.{ReadEnd}
 use Rattle.file_reader.specs.declared.reader.ReadEnd.TheVariants as end
@@ -92,15 +95,20 @@ GivesToken limits given done r (Ok (Some token)) = HoldsToken limits given done 
 GivesToken limits given done r (Ok None) = IsDry limits given done r
 GivesToken limits given done r (Err e) = EndsIn limits given r.over done e
 
+-- what comes next, out of its block
+abbrev pub next_of : Whole → Next
+next_of (boxed.Command raw) = next.Command raw.value
+next_of (boxed.Directive raw) = next.Directive raw.value
+
 -- the next command or directive, if the token that was taken ends one; or how reading ends
-abbrev pub Parses : Limits → List ℕ → List WrittenCommand → Reader → Result (Option Next) ReadEnd → Type 0
-Parses limits given done r (Ok (Some next)) = Holds limits given (done ++ written_command (raw_of next) ∷ []) r × IsWhich next
+abbrev pub Parses : Limits → List ℕ → List WrittenCommand → Reader → Result (Option Whole) ReadEnd → Type 0
+Parses limits given done r (Ok (Some it)) = Holds limits given (done ++ written_command (raw_of (next_of it)) ∷ []) r × IsWhich (next_of it)
 Parses limits given done r (Ok None) = Holds limits given done r
 Parses limits given done r (Err e) = EndsIn limits given r.over done e
 
 -- the next command or directive of the bytes that are carried; or they have no other token; or how reading ends
-abbrev pub Finds : Limits → List ℕ → List WrittenCommand → Reader → Result (Option Next) ReadEnd → Type 0
-Finds limits given done r (Ok (Some next)) = Holds limits given (done ++ written_command (raw_of next) ∷ []) r × IsWhich next
+abbrev pub Finds : Limits → List ℕ → List WrittenCommand → Reader → Result (Option Whole) ReadEnd → Type 0
+Finds limits given done r (Ok (Some it)) = Holds limits given (done ++ written_command (raw_of (next_of it)) ∷ []) r × IsWhich (next_of it)
 Finds limits given done r (Ok None) = IsDry limits given done r
 Finds limits given done r (Err e) = EndsIn limits given r.over done e
 

@@ -7,7 +7,7 @@ ghost use Rattle.dk_parser.specs.Views.{HasRead};
 ghost use Rattle.dk_parser.specs.Written.{WrittenCommand};
 ghost use Rattle.one_lexer.specs.Lexers.{Knows, Takes, limits_of};
 ghost use Rattle.file_reader.specs.Counts.{MayRiseByAnswer, RoseByAnswer};
-ghost use Rattle.file_reader.specs.Held.{EndsBehind, Finds, GivesToken, Holds, HoldsToken, IsDry, IsRead, LeavesAtMost, Loads, Parses};
+ghost use Rattle.file_reader.specs.Held.{EndsBehind, Finds, GivesToken, Holds, HoldsToken, IsDry, IsRead, LeavesAtMost, Loads, Parses, next_of};
 ghost use Rattle.file_reader.specs.Nexts.{raw_of};
 ghost use Rattle.file_reader.specs.Progress.{Answers, HasBegun, IsBehind};
 ghost use Rattle.file_reader.specs.Rooms.{HasFewer, room_of};
@@ -34,6 +34,24 @@ impl Next {
         match self {
             Next::Command(raw) => raw,
             Next::Directive(raw) => raw,
+        }
+    }
+}
+
+// The same in a block: what each token comes to is small so.
+#[derive(Drop)]
+pub enum Whole {
+    Command(Box<Raw>),
+    Directive(Box<Raw>),
+}
+
+impl Whole {
+    fn into_next(self) -> Next
+        ensures { result ≡ next_of self }
+    {
+        match self {
+            Whole::Command(raw) => Next::Command(Box::into_inner(raw)),
+            Whole::Directive(raw) => Next::Directive(Box::into_inner(raw)),
         }
     }
 }
@@ -113,7 +131,7 @@ impl Reader {
     {
         'pieces: for _turn in 0..u64::MAX {
             match self.carried_next(alloc) {
-                Ok(Some(next)) => return Ok(next),
+                Ok(Some(whole)) => return Ok(whole.into_next()),
                 Err(end) => return Err(end),
                 Ok(None) => {}
             }
@@ -126,7 +144,7 @@ impl Reader {
     }
 
     // Goes through the bytes that are carried, to the end of the next command or directive.
-    fn carried_next(&mut self, alloc: Global) -> Result<Option<Next>, ReadEnd>
+    fn carried_next(&mut self, alloc: Global) -> Result<Option<Whole>, ReadEnd>
         ensures finds { (limits : Limits) (given : List ℕ) (done : List WrittenCommand) →
             Holds limits given done self.old → Finds limits given done self.new result }
         ensures given { self.new.given ≡ self.old.given }
@@ -141,7 +159,7 @@ impl Reader {
                 Err(end) => return Err(end),
             };
             match self.parse(alloc, token) {
-                Ok(Some(next)) => return Ok(Some(next)),
+                Ok(Some(whole)) => return Ok(Some(whole)),
                 Ok(None) => {}
                 Err(end) => return Err(end),
             }
@@ -179,7 +197,7 @@ impl Reader {
     }
 
     // Hands a token to the parser.
-    fn parse(&mut self, alloc: Global, token: Token) -> Result<Option<Next>, ReadEnd>
+    fn parse(&mut self, alloc: Global, token: Token) -> Result<Option<Whole>, ReadEnd>
         ensures parses { (limits : Limits) (given : List ℕ) (done : List WrittenCommand) →
             HoldsToken limits given done token self.old →
             Parses limits given done self.new result }
@@ -190,8 +208,8 @@ impl Reader {
         let line = self.due_line(token.line);
         match self.parser.feed(alloc, token) {
             Ok(Step::More) => Ok(None),
-            Ok(Step::Command(raw)) => Ok(Some(Next::Command(Box::into_inner(raw)))),
-            Ok(Step::Directive(raw)) => Ok(Some(Next::Directive(Box::into_inner(raw)))),
+            Ok(Step::Command(raw)) => Ok(Some(Whole::Command(raw))),
+            Ok(Step::Directive(raw)) => Ok(Some(Whole::Directive(raw))),
             Err(Fault::Refused(code)) => Err(ReadEnd::Refused(self.due_line(line), code)),
             Err(Fault::NoMemory) => Err(ReadEnd::NoMemory(line)),
         }

@@ -1,5 +1,6 @@
 use Rattle.std.proofs.Common.{◌++◌, ◌∷◌, ◌≤◌, ℕ, [], length, sym, subst, ◌∙◌, arith}
 use Rattle.dk_parser.specs.RawViews.{written_command}
+use Rattle.file_reader.specs.Held.{next_of}
 use Rattle.file_reader.specs.Nexts.{raw_of}
 use Rattle.file_reader.specs.declared.reader.Next.{Next}
 use Rattle.file_reader.proofs.Asking.{begun_behind, ends, fails_so, gives, loads, may_rise_so, may_rise_then, room_loaded, room_taken, rose_so, rose_then, turned_more}
@@ -8,7 +9,7 @@ use Rattle.file_reader.proofs.reader.Reader.next.Goals as goal
 pub returns-in-Ok-Some-clause-begun : goal.returns-in-Ok-Some-clause-begun
 returns-in-Ok-Some-clause-begun g c =
     let t = c.pieces.invariant.turned.begun in
-    begun_behind t.limits t.given (t.done ++ written_command (raw_of c.in-Ok-Some.next) ∷ []) c.carried_next.new.self
+    begun_behind t.limits t.given (t.done ++ written_command (raw_of (next_of c.in-Ok-Some.whole)) ∷ []) c.carried_next.new.self
     (rw c.in-Ok-Some.field-0-is at c.in-Ok-Some.ensures.finds t.limits t.given t.done t.holds).0
     (subst (λ (n : ℕ). n ≤ length t.given) (sym c.in-Ok-Some.ensures.given) t.counted)
 
@@ -23,7 +24,9 @@ pub returns-in-Ok-Some-clause-answers : goal.returns-in-Ok-Some-clause-answers
 returns-in-Ok-Some-clause-answers g c = λ limits bytes done old.
     let b = c.pieces.invariant.behind limits bytes done old in
     let found = (rw c.in-Ok-Some.field-0-is at c.in-Ok-Some.ensures.finds limits b.given done b.holds) in
-    (gives b (done ++ written_command (raw_of c.in-Ok-Some.next) ∷ []) c.carried_next.new.self c.in-Ok-Some.ensures.over found.0, found.1)
+    let raw = raw_of (next_of c.in-Ok-Some.whole) in
+    rw c.into_next.ensures
+    (gives b (done ++ written_command raw ∷ []) c.carried_next.new.self c.in-Ok-Some.ensures.over found.0, found.1)
 
 pub returns-in-Err-clause-answers : goal.returns-in-Err-clause-answers
 returns-in-Err-clause-answers g c = λ limits bytes done old.
