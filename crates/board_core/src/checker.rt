@@ -20,12 +20,18 @@ pub trait Checker {
         ensures { (result ≡ Self.Job.due job.now) ⊎ (result ≡ Memory) };
 }
 
-/// What a worker passes before and after it checks a job, so that a test can hold it up there. No
-/// answer depends on it.
+/// What a worker passes before and after it checks a job, and a thread before and after it checks a part of one, so that a
+/// test can hold it up there. No answer depends on it.
 pub trait Gate {
     /// Called before the check of the job of this number.
     fn enter(&self, number: u32);
 
     /// Called after that check, before it is answered.
     fn leave(&self, number: u32);
+
+    /// Called before the check of this argument of an application, counted from 0, in the check of the job of this number.
+    fn enter_part(&self, number: u32, part: u32);
+
+    /// Called after that check.
+    fn leave_part(&self, number: u32, part: u32);
 }

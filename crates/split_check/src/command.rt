@@ -16,13 +16,14 @@ ghost use Rattle.split_parts.specs.declared.part.PartResult.{PartResult};
 ghost use Rattle.split_check.specs.Due.{AreDue, IsDue};
 ghost use Rattle.split_check.specs.Steps.{steps_due};
 
-use crate::crew::{Crew, PartGate};
+use crate::crew::Crew;
 use crate::forks::Forks;
 use crate::judging::{judge_here, judge_steps, left_over};
 use crate::laying::{Laying, lay_sort};
 use crate::sizes::{MOST, size};
 use crate::step::Step;
 use crate::typing::{Sized, lay_check};
+use board_core::Gate;
 use command_check::{StoredCommand, check_stored};
 use dk_model::{NoMemory, Verdict};
 use infer_check::Walk;
@@ -43,7 +44,7 @@ struct Declared<'a> {
 /// The verdict on a command over the version of the commands before it, as `check_stored` of command_check gives it; the body
 /// of a declaration with a type is split.
 #[tactic(auto, using(command_check::proofs::Verdicts::derived))]
-pub fn check_split<R: Forks + Drop + Send, W: Threads + Wait + Sync, G: PartGate + Sync>(
+pub fn check_split<R: Forks + Drop + Send, W: Threads + Wait + Sync, G: Gate + Sync>(
     crew: &Crew<W, G>,
     reducer: &mut R,
     c: &StoredCommand,
@@ -77,7 +78,7 @@ where
 
 /// The verdict on a declared type and its body.
 #[tactic(auto, using(signature_log::proofs::Keeping::keeps_further))]
-fn check_declared<R: Forks + Drop + Send, W: Threads + Wait + Sync, G: PartGate + Sync>(
+fn check_declared<R: Forks + Drop + Send, W: Threads + Wait + Sync, G: Gate + Sync>(
     crew: &Crew<W, G>,
     reducer: &mut R,
     declared: Declared<'_>,

@@ -2,15 +2,6 @@
 use crate::spare::Spare;
 use signature_log::Version;
 
-/// What a thread passes before and after it checks a part, so that a test can hold it up there. No answer depends on it.
-pub trait PartGate {
-    /// Called before the check of an argument of the command of this number. Arguments are counted from 0.
-    fn enter_part(&self, number: u32, part: u32);
-
-    /// Called after that check.
-    fn leave_part(&self, number: u32, part: u32);
-}
-
 /// What the check of one command is split with.
 #[derive(Drop)]
 pub struct Crew<'a, W, G> {

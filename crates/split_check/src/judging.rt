@@ -1,5 +1,5 @@
 //! The steps that are left, done by threads.
-ghost use Rattle.std.specs.Prelude.{◌≡◌, ◌≤◌, ◌++◌, IfOk, List};
+ghost use Rattle.std.specs.Prelude.{◌≡◌, ◌≤◌, ◌+◌, ◌++◌, IfOk, List, length};
 ghost use denote.Param.Send.{IsSend, IsSync};
 ghost use Rattle.split_parts.specs.declared.part.PartResult.{PartResult};
 ghost use Rattle.dk_model.specs.Typing.{checked};
@@ -11,9 +11,10 @@ ghost use Rattle.split_check.specs.Due.{AreDue, IsDue};
 ghost use Rattle.split_check.specs.Steps.{sent_bound_types, sent_rule_types, step_due, steps_due};
 
 use crate::context::brought_context;
-use crate::crew::{Crew, PartGate};
+use crate::crew::Crew;
 use crate::forks::Forks;
 use crate::step::{Part, Step, fit_result};
+use board_core::Gate;
 use core::thread::Stack;
 use dk_model::{NoMemory, TypeFault};
 use infer_check::{Walk, check};
@@ -50,7 +51,7 @@ fn judge_part<R: Reducer>(
 }
 
 /// What a step comes to.
-fn judge_step<R: Reducer, W, G: PartGate>(
+fn judge_step<R: Reducer, W, G: Gate>(
     crew: &Crew<W, G>,
     r: &mut R,
     step: &Step,
@@ -75,7 +76,7 @@ fn judge_step<R: Reducer, W, G: PartGate>(
 
 /// What the steps come to, one after the other.
 #[tactic(auto, using(crate::proofs::Judged::due_further, signature_log::proofs::Keeping::keeps_none, signature_log::proofs::Keeping::keeps_further, infer_check::proofs::Walks::follows))]
-pub(crate) fn judge_here<R: Reducer, W, G: PartGate>(
+pub(crate) fn judge_here<R: Reducer, W, G: Gate>(
     crew: &Crew<W, G>,
     r: &mut R,
     steps: &[Step],
@@ -107,6 +108,25 @@ pub(crate) fn left_over(steps: &[Step]) -> usize {
     count
 }
 
+/// Where the steps are cut, so that about half of those that are left lie on each side.
+fn middle(steps: &[Step]) -> usize
+    requires { 2 ≤ length steps.now }
+    ensures front { 1 ≤ result }
+    ensures back { result + 1 ≤ length steps.now }
+{
+    let half = left_over(steps) / 2;
+    let mut seen: usize = 0;
+    for place in 1..steps.len() {
+        if let Step::Check(_) = &steps[place - 1] {
+            seen = seen.saturating_add(1);
+        }
+        if seen >= half {
+            return place;
+        }
+    }
+    steps.len() / 2
+}
+
 /// The steps that another thread does.
 struct StepsOf<'a> {
     version: &'a Version,
@@ -136,7 +156,7 @@ impl<'a> Promise<Result<Vec<PartResult>, NoMemory>> for StepsOf<'a> {
 
 /// What the steps come to, in their order. Where there is a thread to spare the second half of those that are left is its.
 #[cycle(judging)]
-pub(crate) fn judge_steps<R: Forks + Drop + Send, W: Threads + Wait + Sync, G: PartGate + Sync>(
+pub(crate) fn judge_steps<R: Forks + Drop + Send, W: Threads + Wait + Sync, G: Gate + Sync>(
     crew: &Crew<W, G>,
     mut reducer: R,
     steps: &[Step],
@@ -154,7 +174,7 @@ where
         let results = judge_here(crew, &mut reducer, steps, whole);
         return (reducer, results);
     }
-    let (front, back) = steps.split_at(steps.len() / 2);
+    let (front, back) = steps.split_at(middle(steps));
     let (reducer, first, second) = judge_halves(crew, reducer, Halves { front, back }, whole);
     (reducer, both(first, second))
 }
@@ -168,7 +188,7 @@ struct Halves<'a> {
 
 /// What the steps of each half come to.
 #[cycle(judging)]
-fn judge_halves<R: Forks + Drop + Send, W: Threads + Wait + Sync, G: PartGate + Sync>(
+fn judge_halves<R: Forks + Drop + Send, W: Threads + Wait + Sync, G: Gate + Sync>(
     crew: &Crew<W, G>,
     reducer: R,
     halves: Halves<'_>,
@@ -205,7 +225,7 @@ where
 
 /// The same, the second half in a thread of its own, which was taken. Where none can be started it is done here.
 #[cycle(judging)]
-fn judge_beside<R: Forks + Drop + Send, W: Threads + Wait + Sync, G: PartGate + Sync>(
+fn judge_beside<R: Forks + Drop + Send, W: Threads + Wait + Sync, G: Gate + Sync>(
     crew: &Crew<W, G>,
     reducers: (R, R),
     halves: Halves<'_>,

@@ -16,6 +16,6 @@ mod step;
 mod typing;
 
 pub use command::check_split;
-pub use crew::{Crew, PartGate};
+pub use crew::Crew;
 pub use forks::Forks;
 pub use spare::Spare;

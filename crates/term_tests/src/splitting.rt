@@ -1,12 +1,13 @@
 //! Bodies that are split among threads: with each budget the verdict of one thread, from however few nodes on arguments are
 //! given away, and however many threads there are to spare.
 use crate::texts::{commands_of, version_after};
+use board_core::Gate;
 use command_check::{StoredCommand, check_stored};
 use conversion::PoolReducer;
 use dk_model::{Code, NoMemory, Scoped, Term, Verdict};
 use shared_term::Stored;
 use signature_log::Version;
-use split_check::{Crew, PartGate, Spare, check_split};
+use split_check::{Crew, Spare, check_split};
 use std::alloc::Global;
 use std::sync::Wait;
 use std::sync::atomic::{AtomicU64, Ordering};
@@ -108,7 +109,11 @@ const ROWS: [(&str, &str, Verdict); 17] = [
 /// Holds no check up.
 struct NoGate;
 
-impl PartGate for NoGate {
+impl Gate for NoGate {
+    fn enter(&self, _: u32) {}
+
+    fn leave(&self, _: u32) {}
+
     fn enter_part(&self, _: u32, _: u32) {}
 
     fn leave_part(&self, _: u32, _: u32) {}
@@ -124,7 +129,11 @@ struct Held {
     seen: AtomicU64,
 }
 
-impl PartGate for Held {
+impl Gate for Held {
+    fn enter(&self, _: u32) {}
+
+    fn leave(&self, _: u32) {}
+
     fn enter_part(&self, _: u32, part: u32) {
         if part != 0 {
             return;
@@ -197,7 +206,7 @@ struct Way {
 }
 
 /// The verdict of a split check, of which nothing is remembered.
-fn apart<R: Threads + Wait + Sync, G: PartGate + Sync>(
+fn apart<R: Threads + Wait + Sync, G: Gate + Sync>(
     rt: &R,
     terms: &mut PoolReducer,
     (gate, way): (&G, Way),
