@@ -1,8 +1,11 @@
 //! Jobs that are their own verdicts, their checker, a gate that keeps nothing, and histories that are written out.
 use board_core::{Checkable, Checker, End, Event, Gate};
 use dk_model::Verdict;
+use std::sync::Wait;
 use std::sync::atomic::{AtomicU64, Ordering};
 use std::thread;
+use std::thread::Threads;
+use worker_crew::ThreadedChecker;
 
 /// How often a check that waits for another looks for it before it gives up.
 const LOOKS: u32 = 10_000_000;
@@ -52,6 +55,18 @@ impl Told {
     }
 }
 
+impl ThreadedChecker for Told {
+    type Job = Own;
+
+    type Kit = ();
+
+    fn kit(&self) {}
+
+    fn check<R: Threads + Wait + Sync>(&self, _: &R, kit: &mut (), job: &Own) -> Verdict {
+        Checker::check(self, kit, job)
+    }
+}
+
 impl Checker for Told {
     type Job = Own;
 
@@ -79,6 +94,10 @@ impl Gate for NoGate {
     fn enter(&self, _: u32) {}
 
     fn leave(&self, _: u32) {}
+
+    fn enter_part(&self, _: u32, _: u32) {}
+
+    fn leave_part(&self, _: u32, _: u32) {}
 }
 
 /// An event by its letter (`p` put, `c` claimed, `a` answered, `s` sealed at a fault), the worker, the job and the verdict.

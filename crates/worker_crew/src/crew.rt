@@ -1,11 +1,13 @@
 //! Several workers beside the reader.
 ghost use Rattle.std.specs.Prelude.{◌≡◌, ◌≤◌, [], All, OnOk, length, vec_capacity, vec_len};
+ghost use denote.Param.Send.{IsSend, IsSync};
 ghost use Rattle.task_board.specs.Passes.{IsIdle, IsOver};
 
 use crate::bell::Bell;
 use crate::room::with_room;
-use crate::worker::{work, work_until_rung};
-use board_core::{Checkable, Checker, Gate};
+use crate::threaded::ThreadedChecker;
+use crate::worker::work_until_rung;
+use board_core::{Checkable, Gate};
 use core::thread::Stack;
 use dk_model::{Listed, NoMemory};
 use std::alloc::Global;
@@ -55,7 +57,7 @@ impl<J: Checkable> Promise<WorkerPass<J>> for Returned<J> {
 /// the workers' handles no thread is made.
 pub fn run_crew<
     R: Threads + Wait + Sync,
-    C: Checker + Send + Sync,
+    C: ThreadedChecker + Send + Sync,
     G: Gate + Sync,
     D: Reading<Given = T> + Drop,
     T,
@@ -85,7 +87,9 @@ where
         thread::scope_env(),
         rt,
         move |scope| -> (T, Listed<WorkerPass<C::Job>>)
-            requires { All (λ p. (p.seat.table_id ≡ board.now) × IsIdle p.seat.me.0) passes
+            requires { IsSend C.row × IsSend C.Job.row × IsSend C.Kit.row
+                × IsSync R.row × IsSync C.row × IsSync G.row × IsSync C.Job.row
+                × All (λ p. (p.seat.table_id ≡ board.now) × IsIdle p.seat.me.0) passes
                 × D.can_read reading }
             ensures { D.gives reading result.0 × (length result.1 ≡ length passes)
                 × All (λ p. (p.seat.table_id ≡ board.entry.now)
@@ -147,7 +151,7 @@ fn make_room<H, L>(handles: &mut Vec<H>, late: &mut Vec<L>, count: usize) -> Res
 }
 
 /// Works with all passes here, one after the other.
-pub fn work_off<R: Wait, C: Checker, G: Gate>(
+pub fn work_off<R: Threads + Wait + Sync, C: ThreadedChecker, G: Gate + Sync>(
     rt: &R,
     board: &Board<C::Job>,
     mut passes: Vec<WorkerPass<C::Job>>,
@@ -163,10 +167,11 @@ where
     ensures over { All (λ p. (p.seat.table_id ≡ board.now)
         × IsIdle p.seat.me.0 × IsOver p.seat.me.0) result.items }
 {
+    let bell = Bell::new(1);
     let count = passes.len();
     for turn in 0..count {
         let pass = passes.remove(0);
-        passes.push_reserved(work(rt, board, pass, checker, gate));
+        passes.push_reserved(work_until_rung(rt, board, pass, checker, gate, &bell));
     }
     passes
 }

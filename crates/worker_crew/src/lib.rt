@@ -8,8 +8,10 @@ mod bell;
 mod crew;
 mod patience;
 mod room;
+mod threaded;
 mod worker;
 
 pub use crew::{Reading, run_crew};
 pub use room::has_room;
+pub use threaded::ThreadedChecker;
 pub use worker::work;

@@ -5,9 +5,11 @@ ghost use Rattle.task_board.specs.Passes.{IsIdle, IsOver};
 
 use crate::bell::Bell;
 use crate::patience::Patience;
+use crate::threaded::ThreadedChecker;
 use board_core::{Checker, Claimed, Gate};
 use dk_model::Verdict;
 use std::sync::Wait;
+use std::thread::Threads;
 use task_board::{Board, WorkerPass};
 
 /// Claims, checks and answers until nothing can be claimed and the board is sealed or stopped. While
@@ -15,7 +17,7 @@ use task_board::{Board, WorkerPass};
 pub fn work<R: Wait, C: Checker, G: Gate>(
     rt: &R,
     board: &Board<C::Job>,
-    pass: WorkerPass<C::Job>,
+    mut pass: WorkerPass<C::Job>,
     checker: &C,
     gate: &G,
 ) -> WorkerPass<C::Job>
@@ -29,11 +31,25 @@ where
     ensures idle { IsIdle result.seat.me.0 }
     ensures over { IsOver result.seat.me.0 }
 {
-    work_until_rung(rt, board, pass, checker, gate, &Bell::new(1))
+    let bell = Bell::new(1);
+    let mut kit = checker.kit();
+    let mut patience = Patience::of(pass.number, &bell);
+    for _ in rt.forever() {
+        match board.claim(rt, &mut pass) {
+            Claimed::Over => return pass,
+            Claimed::Empty => patience.rest(rt, &bell),
+            Claimed::Task(task) => {
+                let verdict = gated(checker, gate, &mut kit, task.number, &*task.job);
+                board.answer(rt, &mut pass, task, verdict);
+                patience = Patience::of(pass.number, &bell);
+            }
+        }
+    }
+    unreachable!()
 }
 
-/// The same, where the bell ends each rest.
-pub fn work_until_rung<R: Wait, C: Checker, G: Gate>(
+/// The same of a checker that may start threads; the bell ends each rest.
+pub fn work_until_rung<R: Threads + Wait + Sync, C: ThreadedChecker, G: Gate + Sync>(
     rt: &R,
     board: &Board<C::Job>,
     mut pass: WorkerPass<C::Job>,
@@ -58,7 +74,9 @@ where
             Claimed::Over => return pass,
             Claimed::Empty => patience.rest(rt, bell),
             Claimed::Task(task) => {
-                let verdict = gated(checker, gate, &mut kit, task.number, &*task.job);
+                gate.enter(task.number);
+                let verdict = checker.check(rt, &mut kit, &*task.job);
+                gate.leave(task.number);
                 board.answer(rt, &mut pass, task, verdict);
                 patience = Patience::of(pass.number, bell);
             }

@@ -1,11 +1,10 @@
 use Rattle.std.proofs.Common.{rules, ◌≡◌, sym, subst, refl, ap, ◌∙◌, All, length, vec_len, arith}
 use Rattle.std.proofs.lemmas.List.Elements.{All-nil}
+use denote.Param.Send.{sendable}
+use Rattle.std.proofs.Crossing.{crosses}
 use Rattle.task_board.specs.Passes.{IsIdle, IsOver}
 use Rattle.task_board.proofs.Alls.{all_put, all_take}
 use Rattle.worker_crew.proofs.crew.fn.run_crew.scope.Goals as goal
-
-pub work_off-passes-requires : goal.work_off-passes-requires
-work_off-passes-requires g c = record { waiting = subst (All (λ p. (p.seat.table_id ≡ c.captures.board.now) × IsIdle p.seat.me.0)) (sym c.into_vec-passes.ensures) c.requires.0 }
 
 pub returns-in_default : goal.returns-in_default
 returns-in_default g c = let e = c.work_off-passes.ensures in let items = c.from_vec.ensures in (
@@ -16,7 +15,7 @@ returns-in_default g c = let e = c.work_off-passes.ensures in let items = c.from
 
 pub loop-stack-init : goal.loop-stack-init
 loop-stack-init g c = let m = c.make_room.ensures in let r = c.in-Ok.ensures in let n = c.len.ensures in record {
-  waiting = subst (All (λ p. (p.seat.table_id ≡ c.captures.board.now) × IsIdle p.seat.me.0)) (sym c.into_vec-passes.ensures) c.requires.0;
+  waiting = subst (All (λ p. (p.seat.table_id ≡ c.captures.board.now) × IsIdle p.seat.me.0)) (sym c.into_vec-passes.ensures) c.requires.7;
   refused = rw m.late (All-nil _);
   started = rw m.handles (All-nil _);
   count = let a = ap length m.late in let b = ap length m.handles in omega (arith, a, b);
@@ -24,9 +23,6 @@ loop-stack-init g c = let m = c.make_room.ensures in let r = c.in-Ok.ensures in 
   late_room = let a = r.late_room in omega (arith, a, n);
   handles_room = let a = r.handles_room in omega (arith, a, n);
 }
-
-pub spawn_scoped_with-requires-clause-runs : goal.spawn_scoped_with-requires-clause-runs
-spawn_scoped_with-requires-clause-runs g c κs h = let t = all_take (λ p. (p.seat.table_id ≡ c.captures.board.now) × IsIdle p.seat.me.0) _ _ _ c.in-Some.ensures.items c.loop-stack.invariant.waiting in (t.1.0, t.1.1)
 
 pub loop-stack-preserved-in-Ok-spawn_scoped_with : goal.loop-stack-preserved-in-Ok-spawn_scoped_with
 loop-stack-preserved-in-Ok-spawn_scoped_with g c = let i = c.loop-stack.invariant in let e = c.push_reserved.ensures in let p = c.in-Some.ensures in
@@ -54,10 +50,6 @@ loop-stack-preserved g c = let i = c.loop-stack.invariant in let e = c.push_rese
       handles_room = i.handles_room;
     }
 
-pub spawn_scoped_with-requires-in-Some-pop : goal.spawn_scoped_with-requires-in-Some-pop
-spawn_scoped_with-requires-in-Some-pop g c κs h = let t = all_take (λ f. (f.1.now ≡ c.captures.board.now) × (f.2.seat.table_id ≡ c.captures.board.now) × IsIdle f.2.seat.me.0) _ _ _ c.in-Some-pop.ensures.items c.loop-worker.invariant.refused in
-    (h.0, (h.1.0, (h.1.1.0, (h.1.1.1.0, (h.1.1.1.1, (t.1.1 ∙ sym t.1.0, t.1.2))))))
-
 pub loop-worker-preserved : goal.loop-worker-preserved
 loop-worker-preserved g c = let i = c.loop-worker.invariant in let e = c.push_reserved-in-Some-pop.ensures in let p = c.in-Some-pop.ensures in let r = c.spawn_scoped_with-in-Some-pop.ensures in
     let t = all_take (λ f. (f.1.now ≡ c.captures.board.now) × (f.2.seat.table_id ≡ c.captures.board.now) × IsIdle f.2.seat.me.0) _ _ _ p.items i.refused in record {
@@ -76,9 +68,6 @@ loop-child-preserved g c = let i = c.loop-child.invariant in let e = c.push_rese
       room = let a = e.capacity in let d = i.room in omega (arith, a, d);
     }
 
-pub work_off-passes-requires-2 : goal.work_off-passes-requires-2
-work_off-passes-requires-2 g c = record { waiting = c.loop-stack.invariant.waiting }
-
 pub returns : goal.returns
 returns g c = let i = c.loop-child.invariant in let items = c.from_vec-2.ensures in (
   c.read-given-2.ensures,
@@ -86,3 +75,16 @@ returns g c = let i = c.loop-child.invariant in let items = c.from_vec-2.ensures
       let z : vec_len c.loop-child.handles ≡ 0 = search rules in let y : vec_len c.loop-worker.late ≡ 0 = search rules in omega (arith, a, b, d, w, s, o, y, z)),
   subst (All (λ p. (p.seat.table_id ≡ c.captures.board.now) × IsIdle p.seat.me.0 × IsOver p.seat.me.0)) (sym items) i.over,
 )
+
+pub work_off-passes-requires-clause-waiting : goal.work_off-passes-requires-clause-waiting
+work_off-passes-requires-clause-waiting g c κs within = subst (All (λ p. (p.seat.table_id ≡ c.captures.board.now) × IsIdle p.seat.me.0)) (sym c.into_vec-passes.ensures) c.requires.7
+
+pub spawn_scoped_with-requires-clause-runs : goal.spawn_scoped_with-requires-clause-runs
+spawn_scoped_with-requires-clause-runs g c κs h = let t = all_take (λ p. (p.seat.table_id ≡ c.captures.board.now) × IsIdle p.seat.me.0) _ _ _ c.in-Some.ensures.items c.loop-stack.invariant.waiting in (
+  (t.1.0, t.1.1),
+  (search (sendable, crosses) depth 40, search (sendable, crosses) depth 40, search (sendable, crosses) depth 40, search (sendable, crosses) depth 40, search (sendable, crosses) depth 40, search (sendable, crosses) depth 40, search (sendable, crosses) depth 40),
+)
+
+pub spawn_scoped_with-requires-in-Some-pop-after_bounds : goal.spawn_scoped_with-requires-in-Some-pop-after_bounds
+spawn_scoped_with-requires-in-Some-pop-after_bounds g c κs h = let t = all_take (λ f. (f.1.now ≡ c.captures.board.now) × (f.2.seat.table_id ≡ c.captures.board.now) × IsIdle f.2.seat.me.0) _ _ _ c.in-Some-pop.ensures.items c.loop-worker.invariant.refused in
+    (t.1.1 ∙ sym t.1.0, t.1.2)
