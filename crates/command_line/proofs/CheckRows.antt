@@ -7,28 +7,29 @@ use Rattle.clap.specs.Simple.{Shape, filled, help_rule, new_shape}
 use Rattle.clap.specs.Takes.{is_given}
 use Rattle.clap.specs.Walk.{Row, Rule, Text, finished, has_row, nothing_held, rows_after, settled, walk, walk_from, with_default}
 use Rattle.command_line.proofs.FaultlessWalk.{UseKeeps, no_first, no_second, settled_keeps, walk_keeps}
-use Rattle.command_line.specs.Words.{budget, budgets, file, quiet, worker_counts, workers}
-use Rattle.command_line.specs.Requests.{CheckRequest, budget_in, check_in, file_in, quiet_in, workers_in}
-use Rattle.command_line.proofs.GoodRows.{AreGood, behind_budget, behind_quiet, budget_row, default_budget, default_quiet, default_workers, file_given, found_good, given_row, no_default, number_given, required_given, use_budget, use_file, use_help, use_quiet, use_workers, workers_row}
+use Rattle.command_line.specs.Words.{budget, budgets, file, quiet, split, worker_counts, workers}
+use Rattle.command_line.specs.Requests.{CheckRequest, budget_in, check_in, file_in, quiet_in, split_in, workers_in}
+use Rattle.command_line.proofs.GoodRows.{AreGood, behind_budget, behind_quiet, budget_row, default_budget, default_quiet, default_workers, file_given, found_good, given_row, no_default, number_given, required_given, use_budget, use_file, use_help, use_quiet, use_split, use_workers, workers_row}
 
 -- `check` as clap builds it
 abbrev pub check_rules : List Rule
-check_rules = filled workers ∷ filled budget ∷ filled quiet ∷ record (filled file) { index = Some 1 } ∷ filled help_rule ∷ []
+check_rules = filled workers ∷ filled split ∷ filled budget ∷ filled quiet ∷ record (filled file) { index = Some 1 } ∷ filled help_rule ∷ []
 
 abbrev pub built_check : Shape
 built_check = record (new_shape (codes "check")) { rules = check_rules; disable_help_subcommand = true; is_built = true }
 
 pub uses_keep : (p : Rule → Bool) → UseKeeps AreGood false (find p check_rules)
-uses_keep p = go (p (filled workers)) (p (filled budget)) (p (filled quiet)) (p (record (filled file) { index = Some 1 })) (p (filled help_rule))
+uses_keep p = go (p (filled workers)) (p (filled split)) (p (filled budget)) (p (filled quiet)) (p (record (filled file) { index = Some 1 })) (p (filled help_rule))
   where
-    go : (w a b c d : Bool) → UseKeeps AreGood false (cond w (Some (filled workers)) (cond a (Some (filled budget)) (cond b (Some (filled quiet))
-        (cond c (Some (record (filled file) { index = Some 1 })) (cond d (Some (filled help_rule)) None)))))
-    go true a b c d = use_workers
-    go false true b c d = use_budget
-    go false false true c d = use_quiet
-    go false false false true d = use_file
-    go false false false false true = use_help
-    go false false false false false = tt
+    go : (w s a b c d : Bool) → UseKeeps AreGood false (cond w (Some (filled workers)) (cond s (Some (filled split)) (cond a (Some (filled budget)) (cond b (Some (filled quiet))
+        (cond c (Some (record (filled file) { index = Some 1 })) (cond d (Some (filled help_rule)) None))))))
+    go true s a b c d = use_workers
+    go false true a b c d = use_split
+    go false false true b c d = use_budget
+    go false false false true c d = use_quiet
+    go false false false false true d = use_file
+    go false false false false false true = use_help
+    go false false false false false false = tt
 
 -- the rows with every default
 abbrev with_defaults : List Row → List Row
@@ -40,8 +41,11 @@ three_defaults rows = with_default (with_default (with_default rows (filled work
 
 defaults_are : (rows : List Row) → with_defaults rows ≡ three_defaults rows
 defaults_are rows =
-    no_default (filled help_rule) (with_default (three_defaults rows) (record (filled file) { index = Some 1 })) refl
-    ∙ no_default (record (filled file) { index = Some 1 }) (three_defaults rows) refl
+    let given = with_default (with_default rows (filled workers)) (filled split) in
+    let behind = with_default (with_default given (filled budget)) (filled quiet) in
+    no_default (filled help_rule) (with_default behind (record (filled file) { index = Some 1 })) refl
+    ∙ (no_default (record (filled file) { index = Some 1 }) behind refl
+    ∙ ap (λ given. with_default (with_default given (filled budget)) (filled quiet)) (no_default (filled split) (with_default rows (filled workers)) refl))
 
 defaults_good : (rows : List Row) → AreGood rows → AreGood (with_defaults rows)
 defaults_good rows g = subst AreGood (sym (defaults_are rows)) (default_quiet _ (default_budget _ (default_workers rows g)))
@@ -59,14 +63,14 @@ has_workers rows =
 
 -- ---- what the rows ask
 
-abbrev asking : Bool → Text → ℕ → ℕ → CheckRequest
-asking q f w b = record { file = f; workers = w; budget = b; quiet = q }
+abbrev asking : Option ℕ → Bool → Text → ℕ → ℕ → CheckRequest
+asking s q f w b = record { file = f; workers = w; split = s; budget = b; quiet = q }
 
 all_some : (rows : List Row) → is_some (file_in rows) ≡ true → is_some (workers_in rows) ≡ true → is_some (budget_in rows) ≡ true → is_some (check_in rows) ≡ true
 all_some rows f w b = go (file_in rows) (workers_in rows) (budget_in rows) f w b
   where
     go : (o : Option Text) (n p : Option ℕ) → is_some o ≡ true → is_some n ≡ true → is_some p ≡ true
-        → is_some (option_and_then (λ (f : Text). option_and_then (λ (w : ℕ). option_map (λ (b : ℕ). asking (quiet_in rows) f w b) p) n) o) ≡ true
+        → is_some (option_and_then (λ (f : Text). option_and_then (λ (w : ℕ). option_map (λ (b : ℕ). asking (split_in rows) (quiet_in rows) f w b) p) n) o) ≡ true
     go None n p f w b = absurd (true≢false (sym f))
     go (Some f) None p e w b = absurd (true≢false (sym w))
     go (Some f) (Some w) None e n b = absurd (true≢false (sym b))

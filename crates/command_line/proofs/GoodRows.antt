@@ -17,7 +17,7 @@ use Rattle.clap.specs.declared.parser.matches.ValueSource.{ValueSource}
 use Rattle.clap.specs.declared.parser.matches.ValueSource.TheVariants.{DefaultValue}
 use Rattle.clap.specs.declared.error.kind.ErrorKind.TheVariants.{InvalidValue, MissingRequiredArgument}
 use Rattle.clap.specs.declared.builder.value_parser.ValueParser.{ValueParser}
-use Rattle.command_line.specs.Words.{budget, budgets, certificate, count, file, name, quiet, script, theorem_counts, worker_counts, workers}
+use Rattle.command_line.specs.Words.{budget, budgets, certificate, count, file, name, quiet, script, split, theorem_counts, worker_counts, workers}
 use Rattle.command_line.specs.Requests.{number_of}
 use Rattle.command_line.proofs.FaultlessWalk.{UseKeeps, no_first, no_second, some_kind}
 
@@ -109,6 +109,11 @@ use_workers (v ∷ vs) rows g e =
     let values : values_fault (filled workers) (v ∷ vs) ≡ [] = no_second (repeat_fault false (codes "workers") rows) _ set in
     let taken = passed worker_counts v (no_first (value_kinds false worker_counts v) _ values) in
     values_good _ _ _ (v ∷ vs) ((λ is. absurd (true≢false (sym is))), (λ is. absurd (true≢false (sym is))), (λ is. (refl, taken)), (λ is. absurd (true≢false (sym is))), (λ is. absurd (true≢false (sym is))), (λ is. absurd (true≢false (sym is))), (λ is. absurd (true≢false (sym is)))) _ (without_good _ rows g)
+
+pub use_split : UseKeeps AreGood false (Some (filled split))
+use_split [] rows g e = absurd (some_kind InvalidValue [] e)
+use_split (v ∷ vs) rows g e =
+    values_good _ _ _ (v ∷ vs) ((λ is. absurd (true≢false (sym is))), (λ is. absurd (true≢false (sym is))), (λ is. absurd (true≢false (sym is))), (λ is. absurd (true≢false (sym is))), (λ is. absurd (true≢false (sym is))), (λ is. absurd (true≢false (sym is))), (λ is. absurd (true≢false (sym is)))) _ (without_good _ rows g)
 
 pub use_quiet : UseKeeps AreGood false (Some (filled quiet))
 use_quiet values rows g e =

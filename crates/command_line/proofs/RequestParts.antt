@@ -5,7 +5,7 @@ use Rattle.clap.specs.Kinds.{IsAmong, Kinds}
 use Rattle.clap.specs.Words.{Row, Text, fault_of, is_simple, subcommand_of}
 use Rattle.clap.specs.declared.error.kind.ErrorKind.{ErrorKind}
 use Rattle.command_line.specs.Words.{program}
-use Rattle.command_line.specs.Requests.{CertifyRequest, CheckRequest, MakeRequest, PruneRequest, RecheckRequest, ReplayRequest, budget_in, certificate_in, certify_in, check_in, count_in, file_in, make_in, name_in, prune_in, quiet_in, recheck_in, replay_in, request_in, request_of, script_in, workers_in}
+use Rattle.command_line.specs.Requests.{CertifyRequest, CheckRequest, MakeRequest, PruneRequest, RecheckRequest, ReplayRequest, budget_in, certificate_in, certify_in, check_in, count_in, file_in, make_in, name_in, prune_in, quiet_in, recheck_in, replay_in, request_in, request_of, script_in, split_in, workers_in}
 
 -- a request by its first part, a second, as the number of workers, and the budget
 module _ {F W Q : Type 0} (made : F → W → ℕ → Q) where
@@ -55,7 +55,7 @@ module _ {F W Q : Type 0} (made : F → W → Q) where
   two_given fs ws f w first second = ap (λ o. two_parts o ws) first ∙ ap (λ o. two_parts (Some f) o) second
 
 abbrev checking : List Row → Text → ℕ → ℕ → CheckRequest
-checking rows f w b = record { file = f; workers = w; budget = b; quiet = quiet_in rows }
+checking rows f w b = record { file = f; workers = w; split = split_in rows; budget = b; quiet = quiet_in rows }
 
 abbrev making : ℕ → ℕ → ℕ → MakeRequest
 making n w b = record { count = n; workers = w; budget = b }
@@ -72,7 +72,7 @@ pub check_no_budget : (rows : List Row) → budget_in rows ≡ None → check_in
 check_no_budget rows e = no_budget (checking rows) (file_in rows) (workers_in rows) (budget_in rows) e
 
 pub check_all : (rows : List Row) (f : Text) (w b : ℕ) → file_in rows ≡ Some f → workers_in rows ≡ Some w → budget_in rows ≡ Some b
-    → check_in rows ≡ Some (record { file = f; workers = w; budget = b; quiet = quiet_in rows })
+    → check_in rows ≡ Some (record { file = f; workers = w; split = split_in rows; budget = b; quiet = quiet_in rows })
 check_all rows f w b file workers budget = all_given (checking rows) (file_in rows) (workers_in rows) (budget_in rows) f w b file workers budget
 
 -- ---- what `make` asks

@@ -8,12 +8,14 @@ use Rattle.clap.specs.ValueTests.{accepts}
 use Rattle.clap.specs.Kinds.{Kinds}
 use Rattle.clap.specs.Words.{Row, Text, fault_of, first_of, one_of, subcommand_of}
 use Rattle.clap.specs.declared.builder.value_parser.ValueParser.{ValueParser}
-use Rattle.command_line.specs.Words.{budgets, program, theorem_counts, worker_counts}
+use Rattle.command_line.specs.Words.{budgets, program, split_sizes, theorem_counts, worker_counts}
 
--- check the file of this name with so many workers, each command with this budget, with `ok` lines unless quiet
+-- check the file of this name with so many workers, each command with this budget, with `ok` lines unless quiet; applications from
+-- so many nodes on are split among threads, or none is
 pub record CheckRequest : Type 0 where
   pub file : List ℕ
   pub workers : ℕ
+  pub split : Option ℕ
   pub budget : ℕ
   pub quiet : Bool
 
@@ -60,7 +62,7 @@ number_of numbers text =
 abbrev pub is_true : Text → Bool
 is_true text = bytes_eq text (codes "true")
 
--- what clap found for FILE, CERT, NAME, SCRIPT, N, `--workers`, `--budget` and `--quiet`, their defaults included
+-- what clap found for FILE, CERT, NAME, SCRIPT, N, `--workers`, `--split`, `--budget` and `--quiet`, their defaults included
 abbrev pub file_in : List Row → Option Text
 file_in rows = first_of (codes "file") rows
 
@@ -79,6 +81,9 @@ count_in rows = option_and_then (number_of theorem_counts) (one_of (codes "count
 abbrev pub workers_in : List Row → Option ℕ
 workers_in rows = option_and_then (number_of worker_counts) (one_of (codes "workers") rows)
 
+abbrev pub split_in : List Row → Option ℕ
+split_in rows = option_and_then (number_of split_sizes) (one_of (codes "split") rows)
+
 abbrev pub budget_in : List Row → Option ℕ
 budget_in rows = option_and_then (number_of budgets) (one_of (codes "budget") rows)
 
@@ -88,7 +93,7 @@ quiet_in rows = option_map_or is_true (one_of (codes "quiet") rows) false
 -- those of each subcommand together
 abbrev pub check_in : List Row → Option CheckRequest
 check_in rows = option_and_then (λ file. option_and_then (λ workers. option_map (λ budget.
-    record { file = file; workers = workers; budget = budget; quiet = quiet_in rows })
+    record { file = file; workers = workers; split = split_in rows; budget = budget; quiet = quiet_in rows })
     (budget_in rows)) (workers_in rows)) (file_in rows)
 
 abbrev pub make_in : List Row → Option MakeRequest

@@ -3,7 +3,7 @@ use Rattle.std.specs.Prelude.{ℕ, List, [], ◌∷◌, ◌++◌, codes}
 
 -- a line for each command
 abbrev pub check_usage : List ℕ
-check_usage = codes "usage: dk_check check [--workers N] [--budget B] [--quiet] FILE" ++ 10 ∷ []
+check_usage = codes "usage: dk_check check [--workers N] [--split S] [--budget B] [--quiet] FILE" ++ 10 ∷ []
 
 abbrev pub make_usage : List ℕ
 make_usage = codes "usage: dk_check make [--workers N] [--budget B] N" ++ 10 ∷ []

@@ -1,5 +1,5 @@
 -- For proofs: the request that the program holds, its bounds, and that clap takes the words.
-use Rattle.std.specs.Prelude.{◌≡◌, ◌≤◌, ℕ, List, [], ⊤}
+use Rattle.std.specs.Prelude.{◌≡◌, ◌≤◌, ℕ, List, [], IfSome, ⊤}
 use Rattle.clap.specs.Words.{Text, fault_of}
 use Rattle.command_line.specs.Words.{program}
 use Rattle.command_line.specs.declared.request.CertifyRequest as given_certify
@@ -14,7 +14,7 @@ use Rattle.command_line.specs.Requests.{CertifyRequest, CheckRequest, MakeReques
 
 -- the request that the program holds
 abbrev pub plain_check : given_check.CheckRequest → CheckRequest
-plain_check r = record { file = r.file.now; workers = r.workers; budget = r.budget; quiet = r.quiet }
+plain_check r = record { file = r.file.now; workers = r.workers; split = r.split; budget = r.budget; quiet = r.quiet }
 
 abbrev pub plain_make : given_make.MakeRequest → MakeRequest
 plain_make r = record { count = r.count; workers = r.workers; budget = r.budget }
@@ -43,6 +43,9 @@ plain_request (given_request.Replay r) = to_replay (plain_replay r)
 abbrev pub IsWorkerCount : ℕ → Type 0
 IsWorkerCount n = (1 ≤ n) × (n ≤ 64)
 
+abbrev pub IsSplitSize : ℕ → Type 0
+IsSplitSize n = (1 ≤ n) × (n ≤ 4294967295)
+
 abbrev pub IsBudget : ℕ → Type 0
 IsBudget n = (1 ≤ n) × (n ≤ 4611686018427387904)
 
@@ -50,7 +53,7 @@ abbrev pub IsTheoremCount : ℕ → Type 0
 IsTheoremCount n = (1 ≤ n) × (n ≤ 100000)
 
 abbrev pub IsInBounds : Request → Type 0
-IsInBounds (to_check r) = IsWorkerCount r.workers × IsBudget r.budget
+IsInBounds (to_check r) = IsWorkerCount r.workers × IsBudget r.budget × IfSome r.split IsSplitSize
 IsInBounds (to_make r) = IsTheoremCount r.count × IsWorkerCount r.workers × IsBudget r.budget
 IsInBounds (to_certify r) = IsBudget r.budget
 IsInBounds (to_recheck r) = ⊤

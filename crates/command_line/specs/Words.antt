@@ -13,6 +13,10 @@ budgets = vp.Unsigned 1 4611686018427387904
 abbrev pub worker_counts : ValueParser
 worker_counts = vp.Unsigned 1 64
 
+-- from how many nodes on an application may be split
+abbrev pub split_sizes : ValueParser
+split_sizes = vp.Unsigned 1 4294967295
+
 -- how many theorems may be made
 abbrev pub theorem_counts : ValueParser
 theorem_counts = vp.Unsigned 1 100000
@@ -23,6 +27,13 @@ workers = record (new_rule (codes "workers")) {
   long = Some (codes "workers");
   parser = Some worker_counts;
   defaults = codes "4" ∷ [];
+}
+
+-- `--split S`
+abbrev pub split : Rule
+split = record (new_rule (codes "split")) {
+  long = Some (codes "split");
+  parser = Some split_sizes;
 }
 
 -- `--budget B`
@@ -44,9 +55,9 @@ quiet = record (new_rule (codes "quiet")) {
 abbrev pub file : Rule
 file = record (new_rule (codes "file")) { required = true }
 
--- `check [--workers N] [--budget B] [--quiet] FILE`
+-- `check [--workers N] [--split S] [--budget B] [--quiet] FILE`
 abbrev pub check : App
-check = with_rule (with_rule (with_rule (with_rule (new_app (codes "check")) workers) budget) quiet) file
+check = with_rule (with_rule (with_rule (with_rule (with_rule (new_app (codes "check")) workers) split) budget) quiet) file
 
 -- N
 abbrev pub count : Rule

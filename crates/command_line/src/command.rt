@@ -2,7 +2,7 @@
 ghost use Rattle.std.specs.Prelude.{◌≡◌, IfOk, map, false};
 ghost use Rattle.std.specs.String.{string_bytes};
 ghost use Rattle.clap.specs.Words.{FailsBy, HasMatchesOf, app_of, fault_of, rule_of, with_subcommand};
-ghost use Rattle.command_line.specs.Words.{budget, certify, check, count, make, program, prune, recheck, replay, workers};
+ghost use Rattle.command_line.specs.Words.{budget, certify, check, count, make, program, prune, recheck, replay, split, workers};
 
 use clap::builder::ValueParser;
 use clap::{Arg, ArgAction, ArgMatches, Command, Error};
@@ -13,6 +13,9 @@ pub const LARGEST_BUDGET: u64 = 4_611_686_018_427_387_904;
 
 /// The most workers; the least is 1.
 pub const MOST_WORKERS: u64 = 64;
+
+/// The most nodes from which on applications are split; the least is 1.
+pub const LARGEST_SPLIT: u64 = 4_294_967_295;
 
 /// The most theorems that are made; the least is 1.
 pub const MOST_THEOREMS: u64 = 100_000;
@@ -25,6 +28,15 @@ fn workers_argument<'a>(alloc: Global) -> Arg<'a>
         .long("workers")
         .default_value("4")
         .value_parser(ValueParser::unsigned(1, MOST_WORKERS))
+}
+
+fn split_argument<'a>(alloc: Global) -> Arg<'a>
+    ensures rule { rule_of result ≡ split }
+    ensures local { result.global ≡ false }
+{
+    Arg::new(alloc, "split")
+        .long("split")
+        .value_parser(ValueParser::unsigned(1, LARGEST_SPLIT))
 }
 
 fn budget_argument<'a>(alloc: Global) -> Arg<'a>
@@ -51,6 +63,7 @@ fn with_check<'a>(alloc: Global, top: Command<'a>) -> Result<Command<'a>, AllocE
     ensures { IfOk result (λ c. app_of c ≡ with_subcommand (app_of top.entry) check.top) }
 {
     let workers = workers_argument(alloc);
+    let split = split_argument(alloc);
     let budget = budget_argument(alloc);
     let quiet = Arg::new(alloc, "quiet")
         .long("quiet")
@@ -58,6 +71,7 @@ fn with_check<'a>(alloc: Global, top: Command<'a>) -> Result<Command<'a>, AllocE
     let file = Arg::new(alloc, "file").required(true);
     let check = Command::new(alloc, "check")
         .arg(workers)?
+        .arg(split)?
         .arg(budget)?
         .arg(quiet)?
         .arg(file)?;

@@ -2,10 +2,10 @@
 ghost use Rattle.std.specs.Prelude.{◌≡◌, ◌↔◌, IfOk, IfSome, IsSome, map, option_and_then, option_map};
 ghost use Rattle.std.specs.String.{string_bytes};
 ghost use Rattle.clap.specs.Words.{found_of, rows_of, subcommand_rows_of};
-ghost use Rattle.command_line.specs.Requests.{budget_in, certify_in, check_in, count_in, make_in, prune_in, quiet_in, recheck_in, replay_in, request_in, request_of, workers_in};
-ghost use Rattle.command_line.specs.Views.{IsBudget, IsInBounds, IsTaken, IsTheoremCount, IsWorkerCount, plain_certify, plain_check, plain_make, plain_prune, plain_recheck, plain_replay, plain_request};
+ghost use Rattle.command_line.specs.Requests.{budget_in, certify_in, check_in, count_in, make_in, prune_in, quiet_in, recheck_in, replay_in, request_in, request_of, split_in, workers_in};
+ghost use Rattle.command_line.specs.Views.{IsBudget, IsInBounds, IsSplitSize, IsTaken, IsTheoremCount, IsWorkerCount, plain_certify, plain_check, plain_make, plain_prune, plain_recheck, plain_replay, plain_request};
 
-use crate::command::{LARGEST_BUDGET, MOST_THEOREMS, MOST_WORKERS, found_in};
+use crate::command::{LARGEST_BUDGET, LARGEST_SPLIT, MOST_THEOREMS, MOST_WORKERS, found_in};
 use clap::ArgMatches;
 use clap::error::ErrorKind;
 use dk_model::NoMemory;
@@ -29,6 +29,8 @@ pub struct CheckRequest<'a> {
     pub file: &'a str,
     /// How many workers check commands.
     pub workers: u32,
+    /// From how many nodes on an application is split among threads; `None` where none is.
+    pub split: Option<u32>,
     /// The units that the check of each command may take.
     pub budget: u64,
     /// Whether to leave out the `ok` lines.
@@ -158,15 +160,18 @@ fn request_in<'a>(name: &str, found: &ArgMatches<'a>) -> Option<Request<'a>>
 fn check_in<'a>(check: &ArgMatches<'a>) -> Option<CheckRequest<'a>>
     ensures value { option_map plain_check result ≡ check_in (rows_of (found_of check.now)) }
     ensures workers { IfSome result (λ q. IsWorkerCount q.workers) }
+    ensures split { IfSome result (λ q. IfSome q.split IsSplitSize) }
     ensures budget { IfSome result (λ q. IsBudget q.budget) }
 {
     let file = check.get_str("file")?;
     let workers = workers_in(check)?;
+    let split = split_in(check);
     let budget = budget_in(check)?;
     let quiet = quiet_in(check);
     Some(CheckRequest {
         file,
         workers,
+        split,
         budget,
         quiet,
     })
@@ -243,6 +248,18 @@ fn workers_in(found: &ArgMatches<'_>) -> Option<u32>
     let workers = found.get_one::<u64>("workers")?;
     if 1 <= workers && workers <= MOST_WORKERS {
         Some(workers as u32)
+    } else {
+        None
+    }
+}
+
+fn split_in(check: &ArgMatches<'_>) -> Option<u32>
+    ensures value { result ≡ split_in (rows_of (found_of check.now)) }
+    ensures bounds { IfSome result IsSplitSize }
+{
+    let nodes = check.get_one::<u64>("split")?;
+    if 1 <= nodes && nodes <= LARGEST_SPLIT {
+        Some(nodes as u32)
     } else {
         None
     }

@@ -1,5 +1,5 @@
 -- Trusted: the rows of `certify` (docs/certificates.md).
-use Rattle.std.specs.Prelude.{◌≡◌, ◌≢◌, ◌⊎◌, ◌≤◌, ℕ, List, ◌++◌, length, Bool, true, false, Option, Some}
+use Rattle.std.specs.Prelude.{◌≡◌, ◌≢◌, ◌⊎◌, ◌≤◌, ℕ, List, ◌++◌, length, Bool, true, false, Option, None, Some}
 use Rattle.dk_io.specs.Bytes.{Books, added}
 use Rattle.dk_io.specs.Causes.{Rose}
 use Rattle.dk_model.specs.PlainCommands.{PlainCommand}
@@ -35,7 +35,7 @@ use Rattle.dk_check_run.specs.Rows.{Cause, books, unread, unopened, memory}
 
 -- it is checked first, with its modules, by so many workers
 abbrev pub checked : CertifyRequest → CheckRequest
-checked q = record { file = q.file; workers = 4; budget = q.budget; quiet = true }
+checked q = record { file = q.file; workers = 4; split = None; budget = q.budget; quiet = true }
 
 -- and its commands are read again, as `recheck` reads them
 abbrev pub file_setting : Limits → CertifyRequest → Books → Setting

@@ -27,7 +27,7 @@ use Rattle.dk_check_run.specs.Rows.{Cause, books, given, unread, unopened, memor
 
 -- the file is checked first, with so many workers
 abbrev pub checked : PruneRequest → CheckRequest
-checked q = record { file = q.file; workers = 4; budget = q.budget; quiet = true }
+checked q = record { file = q.file; workers = 4; split = None; budget = q.budget; quiet = true }
 
 -- and it is read alone
 abbrev pub alone_setting : Limits → PruneRequest → Books → Setting

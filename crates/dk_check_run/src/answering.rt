@@ -164,6 +164,7 @@ fn check_file<R: Threads + Wait + Sync, H: Shelf, K: Sink, G: Gate + Sync>(
         root,
         budget,
         workers,
+        split: request.split,
     };
     match check_books(rt, alloc, asked, shelf, gate) {
         Ok(checked) => put_report(sink, &checked, request),
@@ -238,6 +239,7 @@ fn check_theory<R: Threads + Wait + Sync, K: Sink, G: Gate + Sync>(
         root,
         budget,
         workers,
+        split: None,
     };
     match check_books(rt, alloc, asked, &mut text, gate) {
         Ok(checked) => {

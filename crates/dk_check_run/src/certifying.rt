@@ -124,6 +124,7 @@ pub fn certify_book<R: Threads + Wait + Sync, H: Shelf, K: Sink, G: Gate + Sync>
         root,
         budget,
         workers,
+        split: None,
     };
     match check_books(rt, alloc, asked, shelf, gate) {
         Ok(checked) => match put_other(sink, checked, request) {

@@ -187,7 +187,7 @@ pub(crate) const FILES: [(&str, u8, &str); 57] = [
 ];
 
 /// A file's text, the words, the status and the report. The budgets are counts of units by hand (docs/evaluation.md).
-pub(crate) const ASKED: [(&str, &str, u8, &str); 15] = [
+pub(crate) const ASKED: [(&str, &str, u8, &str); 16] = [
     (
         "nat : Type. z : nat. thm t : nat := z.",
         "check --budget=2 f.dk",
@@ -232,6 +232,7 @@ pub(crate) const ASKED: [(&str, &str, u8, &str); 15] = [
     ),
     (WRONG, "check --quiet f.dk", 1, "refused 4 line 1 E21\n"),
     (WRONG, "check --workers 0 f.dk", 2, USAGE),
+    (WRONG, "check --split 0 f.dk", 2, USAGE),
     (WRONG, "check", 2, USAGE),
     (WRONG, "check --budget=0 f.dk", 2, USAGE),
     (WRONG, "check --budget 99999999999999999999 f.dk", 2, USAGE),
@@ -252,7 +253,7 @@ pub(crate) const NUMBERS: &str =
 pub(crate) const WRONG: &str = "a : Type. b : Type. x : a. thm t : b := x.\n";
 
 pub(crate) const USAGE: &str =
-    "usage: dk_check check [--workers N] [--budget B] [--quiet] FILE\nusage: dk_check make [--workers N] [--budget B] N\nusage: dk_check certify [--budget B] FILE\nusage: dk_check recheck FILE CERT\nusage: dk_check prune [--budget B] NAME FILE\nusage: dk_check replay [--budget B] SCRIPT\n";
+    "usage: dk_check check [--workers N] [--split S] [--budget B] [--quiet] FILE\nusage: dk_check make [--workers N] [--budget B] N\nusage: dk_check certify [--budget B] FILE\nusage: dk_check recheck FILE CERT\nusage: dk_check prune [--budget B] NAME FILE\nusage: dk_check replay [--budget B] SCRIPT\n";
 
 /// The parts of a text, each so often; the status and the last line.
 pub(crate) const LONG: [([(&str, u32); 5], u8, &str); 4] = [

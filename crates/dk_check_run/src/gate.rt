@@ -9,4 +9,8 @@ impl Gate for NoGate {
     fn enter(&self, _: u32) {}
 
     fn leave(&self, _: u32) {}
+
+    fn enter_part(&self, _: u32, _: u32) {}
+
+    fn leave_part(&self, _: u32, _: u32) {}
 }

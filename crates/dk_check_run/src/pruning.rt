@@ -118,6 +118,7 @@ pub fn prune_book<R: Threads + Wait + Sync, H: Shelf, K: Sink, G: Gate + Sync>(
         root,
         budget,
         workers,
+        split: None,
     };
     let mut book = HeldBook {
         shelf: &*shelf,

@@ -146,6 +146,10 @@ impl Gate for Held {
             self.left.store(1, Ordering::SeqCst);
         }
     }
+
+    fn enter_part(&self, _: u32, _: u32) {}
+
+    fn leave_part(&self, _: u32, _: u32) {}
 }
 
 /// Whether a check by two workers, where that of one job waits until that of another is done, is answered as it is due and

@@ -14,23 +14,20 @@ ghost use Rattle.file_check.specs.Lecterns.{EndLeaves, IsBegun, ReadsBooks};
 use crate::book_reading::{BookRead, BookReading};
 use crate::checker::JobChecker;
 use crate::desk::Desk;
-use crate::job::{Job, Worker};
+use crate::job::{Job, STACK, Worker};
 use crate::lectern::Lectern;
 use crate::theory::Theory;
 use board_core::{Book, Gate};
 use book_reader::{Root, Walker};
 use dk_io::Shelf;
 use dk_model::{Limits, Listed, NoMemory};
+use split_check::Spare;
 use std::alloc::Global;
 use std::sync::Wait;
 use std::thread::Threads;
 use task_board::{Board, WorkerPass};
 use verdict_book::{Titles, history_has_report};
 use worker_crew::run_crew;
-
-/// The stack of a thread that works on terms, in bytes. It has room for what nests (docs/DECISIONS.md); a page of it takes
-/// memory only once it is used.
-pub const STACK: usize = 1 << 28;
 
 /// The closed board's book, with what a report shows of its jobs.
 #[derive(Drop)]
@@ -45,6 +42,8 @@ pub struct Asked {
     pub root: Root,
     pub budget: u64,
     pub workers: u32,
+    /// From how many nodes on an argument is worth a thread of its own; `None` where no body is split.
+    pub split: Option<u32>,
 }
 
 /// Why nothing was checked.
@@ -110,7 +109,7 @@ fn take_back<H>(shelf: &mut H)
 // the titles of its jobs.
 fn checked_book<R: Threads + Wait + Sync, H: Shelf, G: Gate + Sync>(
     rt: &R,
-    alloc: Global,
+    checker: JobChecker,
     shelf: &mut H,
     gate: &G,
     opened: (Walker, Table),
@@ -136,7 +135,7 @@ fn checked_book<R: Threads + Wait + Sync, H: Shelf, G: Gate + Sync>(
         desk,
         passes,
     } = table;
-    let checker = JobChecker { alloc };
+    let alloc = checker.alloc;
     let reading = BookReading {
         rt,
         alloc,
@@ -182,6 +181,7 @@ pub fn check_books<R: Threads + Wait + Sync, H: Shelf, G: Gate + Sync>(
         root,
         budget,
         workers,
+        split,
     } = asked;
     let limits = root.limits;
     let Ok(theory) = Theory::new(alloc, &root.own) else {
@@ -193,5 +193,10 @@ pub fn check_books<R: Threads + Wait + Sync, H: Shelf, G: Gate + Sync>(
     let Ok(table) = open_table(alloc, limits, budget, workers, theory) else {
         return Err(Unchecked::NoMemory);
     };
-    Ok(checked_book(rt, alloc, shelf, gate, (walker, table)))
+    let checker = JobChecker {
+        alloc,
+        split,
+        spare: Spare::new(workers as u64 - 1),
+    };
+    Ok(checked_book(rt, checker, shelf, gate, (walker, table)))
 }

@@ -1,18 +1,18 @@
 //! What the reader finds of a command itself, before it is put.
 ghost use Rattle.std.specs.Prelude.{◌≡◌, true, IfOk, IfErr};
 ghost use Rattle.dk_model.specs.Answering.{is_untyped};
-ghost use Rattle.dk_model.specs.Scoping.{plain_command};
 ghost use Rattle.dk_model.specs.Signatures.{maybe_by};
 ghost use Rattle.dk_model.specs.Verdicts.{inferred_type, verdict_of};
+ghost use Rattle.shared_term.specs.Commands.{stored_command};
 ghost use Rattle.shared_term.specs.Storage.{stored_term};
 ghost use Rattle.signature_log.specs.Versions.{entries_of};
 ghost use Rattle.file_check.specs.Findings.{Finds, is_early};
 ghost use Rattle.file_check.specs.Jobs.{IsOtherVerdict};
 
 use crate::job::Worker;
-use command_check::{is_answered, is_untyped};
-use dk_model::{Scoped, Verdict};
-use shared_term::{Found, Stored};
+use command_check::{is_answered_stored, is_untyped_stored};
+use dk_model::Verdict;
+use shared_term::{Found, Stored, StoredCommand};
 use signature_log::Version;
 
 /// What the reader finds of a command itself: the next version needs the type of a definition without a declared one, and
@@ -24,10 +24,10 @@ pub struct Findings {
 }
 
 /// Whether the reader checks the command itself.
-pub fn is_early(command: &Scoped) -> bool
-    ensures { result ≡ is_early (plain_command command.now) }
+pub fn is_early(command: &StoredCommand) -> bool
+    ensures { result ≡ is_early (stored_command command.now) }
 {
-    is_untyped(command) || is_answered(command)
+    is_untyped_stored(command) || is_answered_stored(command)
 }
 
 /// What the reader finds of a command itself, where that is accepted; else its verdict. Of other commands it finds nothing.
@@ -35,18 +35,18 @@ pub fn is_early(command: &Scoped) -> bool
 pub fn find(
     worker: &mut Worker,
     version: &Version,
-    command: &Scoped,
+    command: &StoredCommand,
     budget: u64,
 ) -> Result<Findings, Verdict>
     ensures ok { IfOk result
-        (Finds (entries_of version.now) (plain_command command.now) budget) }
-    ensures accepted { IfOk result (λ _. is_early (plain_command command.now) ≡ true →
-        verdict_of (entries_of version.now) (plain_command command.now) budget
+        (Finds (entries_of version.now) (stored_command command.now) budget) }
+    ensures accepted { IfOk result (λ _. is_early (stored_command command.now) ≡ true →
+        verdict_of (entries_of version.now) (stored_command command.now) budget
         ≡ Verdict.Accepted) }
     ensures err { IfErr result (IsOtherVerdict
-        (verdict_of (entries_of version.now) (plain_command command.now) budget)) }
+        (verdict_of (entries_of version.now) (stored_command command.now) budget)) }
 {
-    if is_answered(command) {
+    if is_answered_stored(command) {
         let found = worker.query(version, command, budget)?;
         return Ok(Findings {
             typ: None,
@@ -62,18 +62,18 @@ pub fn find(
 fn inferred(
     worker: &mut Worker,
     version: &Version,
-    command: &Scoped,
+    command: &StoredCommand,
     budget: u64,
 ) -> Result<Option<Stored>, Verdict>
     ensures ok { IfOk result (λ t. maybe_by stored_term t
-        ≡ inferred_type (entries_of version.now) (plain_command command.now) budget) }
-    ensures accepted { IfOk result (λ _. is_untyped (plain_command command.now) ≡ true →
-        verdict_of (entries_of version.now) (plain_command command.now) budget
+        ≡ inferred_type (entries_of version.now) (stored_command command.now) budget) }
+    ensures accepted { IfOk result (λ _. is_untyped (stored_command command.now) ≡ true →
+        verdict_of (entries_of version.now) (stored_command command.now) budget
         ≡ Verdict.Accepted) }
     ensures err { IfErr result (IsOtherVerdict
-        (verdict_of (entries_of version.now) (plain_command command.now) budget)) }
+        (verdict_of (entries_of version.now) (stored_command command.now) budget)) }
 {
-    if !is_untyped(command) {
+    if !is_untyped_stored(command) {
         return Ok(None);
     }
     match worker.infer(version, command, budget) {

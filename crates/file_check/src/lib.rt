@@ -7,11 +7,12 @@ mod checker;
 mod checking;
 mod desk;
 mod finding;
+mod gate;
 mod halt;
 mod job;
 mod lectern;
 mod shown;
 mod theory;
 
-pub use checking::{Asked, CheckedBook, STACK, Unchecked, check_books};
-pub use job::Job;
+pub use checking::{Asked, CheckedBook, Unchecked, check_books};
+pub use job::{Job, STACK};

@@ -1,11 +1,11 @@
 //! What the commands so far declare, and the job of the next one.
 ghost use Rattle.std.specs.Prelude.{◌≡◌, ◌<◌, ◌++◌, ◌∷◌, [], IfOk, IfErr, OnOk, length};
-ghost use Rattle.dk_model.specs.Scoping.{plain_command};
 ghost use Rattle.dk_model.specs.Signatures.{maybe_by};
 ghost use Rattle.dk_model.specs.Verdicts.{entry_of, verdict_of};
 ghost use Rattle.dk_parser.specs.RawViews.{written_form};
 ghost use Rattle.scope_terms.specs.Names.{reading};
 ghost use Rattle.scope_terms.specs.Reading.{after_entering, after_leaving, no_reading};
+ghost use Rattle.shared_term.specs.Commands.{stored_command};
 ghost use Rattle.shared_term.specs.Storage.{stored_term};
 ghost use Rattle.signature_log.specs.Versions.{entries_of, stored_entry};
 ghost use Rattle.file_report.specs.Outcomes.{no_theory};
@@ -16,10 +16,10 @@ use crate::halt::Located;
 use crate::job::{Job, Worker};
 use crate::shown::shown_with;
 use board_core::Past;
-use command_check::{entry_of, store_command};
-use dk_model::{Entry, Fault, Listed, NoMemory, Scoped, TypeFault, Verdict};
+use command_check::entry_of_stored;
+use dk_model::{Entry, Fault, Listed, NoMemory, TypeFault, Verdict};
 use scope_terms::Names;
-use shared_term::Stored;
+use shared_term::{Making, Stored, StoredCommand};
 use signature_log::Version;
 use std::alloc::Global;
 use std::mem::replace;
@@ -31,6 +31,8 @@ use verdict_book::Title;
 #[derive(Drop)]
 pub struct Theory {
     names: Names,
+    // The memory in which terms are made.
+    making: Making,
     version: Version,
 }
 
@@ -49,17 +51,17 @@ pub struct Prepared {
 fn entry_after(
     alloc: Global,
     version: &Version,
-    command: &Scoped,
+    command: &StoredCommand,
     typ: Option<Stored>,
     budget: u64,
 ) -> Result<Entry<Stored>, Verdict>
     ensures ok { IfOk result (λ e. stored_entry e
-        ≡ entry_of (entries_of version.now) (plain_command command.now)
+        ≡ entry_of (entries_of version.now) (stored_command command.now)
         (maybe_by stored_term typ)) }
     ensures err { IfErr result (IsOtherVerdict
-        (verdict_of (entries_of version.now) (plain_command command.now) budget)) }
+        (verdict_of (entries_of version.now) (stored_command command.now) budget)) }
 {
-    match entry_of(alloc, version, command, typ) {
+    match entry_of_stored(alloc, version, command, typ) {
         Ok(entry) => Ok(entry),
         Err(TypeFault::Refused(code)) => Err(Verdict::Refused(code)),
         Err(TypeFault::Ended) => Err(Verdict::Ended),
@@ -97,6 +99,7 @@ impl Theory {
         enter_module(alloc, &mut names, own)?;
         Ok(Theory {
             names,
+            making: Making::new(alloc),
             version: Version::empty(alloc)?,
         })
     }
@@ -136,27 +139,24 @@ impl Theory {
             (IsOtherVerdict (verdict_in budget self.old (written_form command.raw.form))) }
     {
         let Located { raw, place } = command;
-        let scoped = match self.names.scope(alloc, &raw) {
-            Ok(scoped) => scoped,
+        let stored = match self.names.place(&mut self.making, &raw) {
+            Ok(stored) => stored,
             Err(Fault::Refused(code)) => return Err(Verdict::Refused(code)),
             Err(Fault::NoMemory) => return Err(Verdict::Memory),
         };
-        let Findings { typ, found } = find(worker, &self.version, &scoped, budget)?;
-        let entry = entry_after(alloc, &self.version, &scoped, typ, budget)?;
+        let Findings { typ, found } = find(worker, &self.version, &stored, budget)?;
+        let entry = entry_after(alloc, &self.version, &stored, typ, budget)?;
         let Ok(shown) = shown_with(alloc, &self.names, raw.form, &found) else {
             return Err(Verdict::Memory);
         };
-        let settled = is_early(&scoped);
-        let Ok(command) = store_command(alloc, scoped, &entry) else {
-            return Err(Verdict::Memory);
-        };
+        let settled = is_early(&stored);
         let Ok(before) = self.advance(alloc, entry) else {
             return Err(Verdict::Memory);
         };
         let title = Title { shown, place };
         let job = Job {
             version: before,
-            command,
+            command: stored,
             budget,
             title: Past::of(&title),
         };

@@ -1,4 +1,4 @@
-use Rattle.std.proofs.Common.{◌≡◌, ◌∙◌, ap, codes, Some, None, sym}
+use Rattle.std.proofs.Common.{◌≡◌, ◌∙◌, ap, ap₂, codes, Some, None, sym}
 use Rattle.std.specs.Option.{option_map}
 use Rattle.clap.proofs.WalkLemmas.{first_value-rows}
 use Rattle.clap.specs.Words.{found_of, rows_of}
@@ -32,5 +32,5 @@ returns-clause-value c =
     let file : file_in rows ≡ Some c.in_ok-file.file.now = sym (first_value-rows found (codes "file")) ∙ (sym c.get_str.ensures ∙ ap (option_map (λ s. s.now)) c.in_ok-file.was) in
     let workers : workers_in rows ≡ Some c.in_ok-workers.workers = sym c.workers_in.ensures.value ∙ c.in_ok-workers.was in
     let budget : budget_in rows ≡ Some c.in_ok-budget.budget = sym c.budget_in.ensures.value ∙ c.in_ok-budget.was in
-    ap (λ q. Some (record { file = c.in_ok-file.file.now; workers = c.in_ok-workers.workers; budget = c.in_ok-budget.budget; quiet = q })) c.quiet_in-quiet.ensures
+    ap₂ (λ s q. Some (record { file = c.in_ok-file.file.now; workers = c.in_ok-workers.workers; split = s; budget = c.in_ok-budget.budget; quiet = q })) c.split_in-split.ensures.value c.quiet_in-quiet.ensures
     ∙ sym (check_all rows c.in_ok-file.file.now c.in_ok-workers.workers c.in_ok-budget.budget file workers budget)

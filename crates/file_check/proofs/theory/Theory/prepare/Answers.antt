@@ -1,6 +1,6 @@
 use Rattle.std.proofs.Common.{◌≡◌, ◌∙◌, ◌++◌, ◌∷◌, [], true, ap, refl, sym}
 use Rattle.std.specs.Option.{option_map}
-use Rattle.dk_model.specs.Scoping.{PlainCommand, plain_command}
+use Rattle.dk_model.specs.Scoping.{PlainCommand}
 use Rattle.dk_model.specs.Signatures.{PlainEntry, PlainSignature}
 use Rattle.dk_model.specs.Verdicts.{entry_of, inferred_type, verdict_of}
 use Rattle.dk_parser.specs.RawViews.{written_form}
@@ -8,6 +8,7 @@ use Rattle.scope_terms.specs.Names.{reading}
 use Rattle.scope_terms.specs.Reading.{Reading}
 use Rattle.scope_terms.specs.Scopes.{Scoping, Symbols, scoped}
 use Rattle.scope_terms.specs.declared.names.Names.{Names}
+use Rattle.shared_term.specs.Commands.{stored_command}
 use Rattle.shared_term.specs.Finding.{plain_found}
 use Rattle.signature_log.specs.Versions.{entries_of}
 use Rattle.verdict_book.specs.Titles.{shown_in}
@@ -25,23 +26,17 @@ same_theory : (a b : Theory) → a.names ≡ b.names → a.signature ≡ b.signa
 same_theory a b names signature =
     ap (λ (n : Symbols). theory n a.signature) names ∙ ap (theory b.names) signature
 
-pub store_command-requires : goal.store_command-requires
-store_command-requires c =
-    let S = entries_of c.args.self.now.version in
-    record { signature = S; inferred = inferred_type S (plain_command c.in-Ok.scoped) c.args.budget; is = c.in_ok-entry.ensures.ok ∙ ap (entry_of S (plain_command c.in-Ok.scoped)) c.in_ok-typ.ensures.ok.typ }
-
 pub returns-clause-ok : goal.returns-clause-ok
 returns-clause-ok c =
     let old = c.args.self.now in
     let budget = c.args.budget in
     let form = written_form c.args.command.raw.form in
-    let command = plain_command c.in-Ok.scoped in
+    let command = stored_command c.in-Ok.stored in
     let S = entries_of old.version in
     let advanced = c.in-Ok-advance.ensures in
-    let stored = c.in-Ok-store_command.ensures in
     record {
       signature = ap entries_of advanced.before;
-      command = c.in-Ok.ensures.ok ∙ ap scoped (sym stored);
+      command = c.in-Ok.ensures.ok;
       budget_is = refl;
       place_is = refl;
       shown_is =
@@ -49,13 +44,11 @@ returns-clause-ok c =
           ap (shown_in home) (c.in-Ok-shown_with.ensures ∙ ap (λ (r : Reading). shown_with (words_in r) form (option_map plain_found c.in_ok-typ.field-0.found)) c.in-Ok.ensures.added)
           ∙ shown_next (reading old.names) home S budget form command c.in_ok-typ.field-0 c.in-Ok.ensures.ok c.in_ok-typ.ensures.ok;
       title = sym c.of.ensures;
-      early = c.is_early-settled.ensures ∙ sym (ap is_early stored);
+      early = c.is_early-settled.ensures;
       settled = λ is.
           let early : is_early command ≡ true = sym c.is_early-settled.ensures ∙ is in (
-            ap is_early stored ∙ early,
-            ap (λ (d : PlainCommand). verdict_of (entries_of c.in-Ok-advance.before) d budget) stored
-                ∙ ap (λ v. verdict_of (entries_of v) command budget) advanced.before
-                ∙ c.in_ok-typ.ensures.accepted early,
+            early,
+            ap (λ v. verdict_of (entries_of v) command budget) advanced.before ∙ c.in_ok-typ.ensures.accepted early,
           );
       theory = same_theory (theory_of c.advance.new.self) (theory_in budget old form) (ap (λ (n : Names). (reading n).symbols) advanced.kept ∙ ap (λ (r : Reading). r.symbols) c.in-Ok.ensures.added)
           (advanced.after ∙ ap (λ (e : PlainEntry). S ++ e ∷ []) (c.in_ok-entry.ensures.ok ∙ ap (entry_of S command) c.in_ok-typ.ensures.ok.typ) ∙ ap (λ (s : Scoping PlainCommand). S ++ scoped_entry S budget s) (sym c.in-Ok.ensures.ok));
