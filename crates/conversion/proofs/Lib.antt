@@ -11,5 +11,4 @@ mod Evaluating
 mod Comparing
 mod Waiting
 mod Pooling
-mod Treeing
 pub mod Raising

@@ -2,7 +2,6 @@ pub mod Machine
 pub mod Fillings
 pub mod Tables
 pub mod Reducers
-pub mod Rules
 pub mod Pausing
 pub mod Turning
 pub mod Pending
@@ -10,4 +9,3 @@ pub mod Waiting
 pub mod Owned
 pub mod Given
 pub mod Clauses
-pub mod Trees

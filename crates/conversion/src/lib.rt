@@ -5,7 +5,6 @@
 #![tactic(auto)]
 
 mod brought;
-mod calls;
 mod compare;
 mod evaluate;
 mod known;
@@ -15,12 +14,9 @@ mod mentions;
 mod normal;
 mod putting;
 mod reducer;
-mod rules;
 mod selection;
 mod state;
 mod table;
-mod trees;
 mod turn;
-mod walks;
 
 pub use state::PoolReducer;

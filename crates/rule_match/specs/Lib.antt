@@ -1,9 +1,4 @@
-pub mod Keys
-pub mod Rows
-pub mod Branches
-pub mod Groups
-pub mod Sides
-pub mod Trees
+pub mod Rules
 pub mod Columns
 pub mod Standing
 pub mod Trying

@@ -49,7 +49,6 @@ returns-in-None-clause-serves c =
       values = s.values;
       normals = s.normals;
       answers = s.answers;
-      trees = s.trees;
     }
 
 pub returns-in_ok-body-in-Some-Body-clause-serves : goal.returns-in_ok-body-in-Some-Body-clause-serves
@@ -68,5 +67,4 @@ returns-in_ok-body-in-Some-Body-clause-serves c =
       values = s.values;
       normals = s.normals;
       answers = s.answers;
-      trees = s.trees;
     }
