@@ -1,3 +1,4 @@
+mod Lending
 pub mod Refining
 mod Grouping
 pub mod AlongTests

@@ -2,6 +2,7 @@
 use Rattle.std.specs.Prelude.{ℕ, ◌≡◌, List, [], ◌++◌, map, get_or}
 use Rattle.std.specs.declared.vec.Vec.{Vec}
 use Rattle.std.specs.declared.alloc.Global.{Global}
+use Rattle.std.specs.Borrow.{Bor}
 use Rattle.dk_model.specs.Trees.{star}
 use Rattle.dk_model.specs.Signatures.{Pattern, PlainRule, pattern_by}
 use Rattle.dk_model.specs.Matrix.{blank, cell}
@@ -35,6 +36,10 @@ rule_at rules i = get_or rules i no_rule
 -- a row, as one of a symbol with these rules
 abbrev pub row : List PlainRule → Row → PlainRow
 row rules r = record { cells = map plain_cell r.cells.items; rule = rule_at rules r.at }
+
+-- rows that are lent
+abbrev pub lent : List (Bor Row) → List Row
+lent rows = map (λ (b : Bor Row). b.now) rows
 
 -- that these cells were put behind the old ones
 abbrev pub Appends : Vec Cell Global → Vec Cell Global → List PlainCell → Type 0

@@ -6,7 +6,7 @@ ghost use Rattle.dk_model.specs.Matrix.{cell_at};
 ghost use Rattle.dk_model.specs.Matrix.{Row as PlainRow};
 ghost use Rattle.rule_tree.specs.declared.key.Key.{Key};
 ghost use Rattle.rule_tree.specs.Keys.{is_kept, comes_before, rows_by};
-ghost use Rattle.rule_tree.specs.Rows.{plain_cell, row as row_of};
+ghost use Rattle.rule_tree.specs.Rows.{plain_cell, lent, row as row_of};
 ghost use Rattle.rule_tree.specs.Groups.{KeepSame, AreBeside, AreGroups};
 
 use crate::cell::{Cell, Row};
@@ -66,30 +66,34 @@ fn may_be_kept(row: &Row, column: usize, pivot: Key, before: bool) -> bool
     }
 }
 
-/// A copy of the row.
-fn copied<'v>(alloc: Global, row: &Row<'v>) -> Result<Row<'v>, NoMemory>
-    ensures { IfOk result (λ copy. (rules : List PlainRule) → row_of rules copy ≡ row_of rules row.now) }
+/// The rows, lent one by one.
+fn lent_rows<'r, 'v>(alloc: Global, rows: &'r [Row<'v>]) -> Result<Vec<&'r Row<'v>>, NoMemory>
+    ensures { IfOk result (λ all. lent all.items ≡ rows.now) }
 {
-    let cells = Vec::from_slice(alloc, row.cells.as_slice())?;
-    Ok(Row { cells, at: row.at })
+    let mut all = Vec::with_capacity(alloc, rows.len())?;
+    for row in rows {
+        all.push(row)?;
+    }
+    Ok(all)
 }
 
 /// The rows that may be kept for a head on this side of the pivot.
-fn half<'v>(
+fn half<'r, 'v>(
     alloc: Global,
-    rows: &[Row<'v>],
+    rows: &[&'r Row<'v>],
     column: usize,
     pivot: Key,
     before: bool,
-) -> Result<Vec<Row<'v>>, NoMemory>
+) -> Result<Vec<&'r Row<'v>>, NoMemory>
     ensures { IfOk result (λ half. (rules : List PlainRule) (key : Key) → comes_before key pivot ≡ before
-        → rows_by key column (map (row_of rules) half.items)
-        ≡ rows_by key column (map (row_of rules) rows.now)) }
+        → rows_by key column (map (row_of rules) (lent half.items))
+        ≡ rows_by key column (map (row_of rules) (lent rows.now))) }
 {
     let mut half = Vec::new(alloc);
-    for row in rows {
+    for at in 0..rows.len() {
+        let row = rows[at];
         if may_be_kept(row, column, pivot, before) {
-            half.push(copied(alloc, row)?)?;
+            half.push(row)?;
         }
     }
     Ok(half)
@@ -112,11 +116,11 @@ fn push_groups<'v>(
     alloc: Global,
     column: usize,
     keys: &[Key],
-    rows: &[Row<'v>],
+    rows: &[&Row<'v>],
     groups: &mut Vec<Group<'v>>,
 ) -> Result<(), NoMemory>
     ensures { OnOk result ((rules : List PlainRule) (all : List PlainRow)
-        → KeepSame keys.now column (map (row_of rules) rows.now) all
+        → KeepSame keys.now column (map (row_of rules) (lent rows.now)) all
         → AreGroups rules column all groups.old.items → AreGroups rules column all groups.new.items) }
 {
     if keys.len() < 2 {
@@ -152,7 +156,8 @@ pub(crate) fn grouped<'v>(
         → AreGroups rules column (map (row_of rules) rows.now) groups.items) }
 {
     let keys = keys_of(alloc, rows, column)?;
+    let all = lent_rows(alloc, rows)?;
     let mut groups = Vec::new(alloc);
-    push_groups(alloc, column, keys.as_slice(), rows, &mut groups)?;
+    push_groups(alloc, column, keys.as_slice(), all.as_slice(), &mut groups)?;
     Ok(groups)
 }

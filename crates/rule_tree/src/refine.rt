@@ -3,7 +3,7 @@ ghost use Rattle.std.specs.Prelude.{◌≡◌, ◌+◌, ◌<◌, [], ◌∷◌, 
 ghost use Rattle.dk_model.specs.Signatures.{PlainRule};
 ghost use Rattle.dk_model.specs.Matrix.{blank, cell, is_rigid, rigid_at, cell_at};
 ghost use Rattle.rule_tree.specs.Keys.{is_kept, has_symbol, has_variable, has_abstraction, parts, cells_after, cells_when_kept, rows_by};
-ghost use Rattle.rule_tree.specs.Rows.{pattern_cell, plain_cell, row as row_of, Appends};
+ghost use Rattle.rule_tree.specs.Rows.{pattern_cell, plain_cell, lent, row as row_of, Appends};
 
 use crate::cell::{Cell, Row};
 use crate::key::Key;
@@ -244,13 +244,14 @@ pub(crate) fn refined_rows<'v>(
     alloc: Global,
     key: Key,
     at: usize,
-    rows: &[Row<'v>],
+    rows: &[&Row<'v>],
 ) -> Result<Vec<Row<'v>>, NoMemory>
     ensures { IfOk result (λ kept. (rules : List PlainRule)
-        → map (row_of rules) kept.items ≡ rows_by key at (map (row_of rules) rows.now)) }
+        → map (row_of rules) kept.items ≡ rows_by key at (map (row_of rules) (lent rows.now))) }
 {
     let mut kept = Vec::new(alloc);
-    for row in rows {
+    for number in 0..rows.len() {
+        let row = rows[number];
         let cell = cell_of(row.cells.as_slice(), at);
         if is_kept(key, &cell) {
             let refined = refined_row(alloc, parts(key), at, row)?;
