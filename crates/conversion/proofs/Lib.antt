@@ -11,4 +11,5 @@ mod Evaluating
 mod Comparing
 mod Waiting
 mod Pooling
+mod Treeing
 pub mod Raising

@@ -18,7 +18,7 @@ use Rattle.rule_match.specs.declared.matcher.Answer.{Answer}
 use Rattle.rule_match.specs.declared.matcher.Answer.TheVariants.{Value as Told}
 use Rattle.rule_match.specs.declared.matcher.Ask.TheVariants.{Evaluate}
 use Rattle.rule_match.specs.declared.matcher.Matcher.{Matcher}
-use Rattle.rule_tree.specs.Rows.{rule_at}
+use Rattle.rule_match.specs.Rows.{rule_at}
 use Rattle.rule_match.specs.Matching.{Awaits, AsksFor, answered, told_value, term_in}
 use Rattle.rule_match.proofs.Opening.{arguments_wound}
 use Rattle.rule_match.proofs.Larger.{value_asked, value_answered}

@@ -85,10 +85,11 @@ serves_grown S r ns n e h = record {
   values = values_grown S r.pool ns r.values e h.values;
   normals = normals_grown S r.pool ns r.normals e h.normals;
   answers = answers_grown S r.pool ns r.answers e h.answers;
+  trees = h.trees;
 }
 
 pub serves_again : (S : PlainSignature) (r : PoolReducer) (n : ℕ) → Serves S r → Serves S (record r { nested = n })
-serves_again S r n h = record { loaded = h.loaded; heads = h.heads; values = h.values; normals = h.normals; answers = h.answers }
+serves_again S r n h = record { loaded = h.loaded; heads = h.heads; values = h.values; normals = h.normals; answers = h.answers; trees = h.trees }
 
 -- one more entry
 

@@ -1,5 +1,5 @@
 -- The turns of the weak head form.
-use Rattle.std.proofs.Common.{List, [], ◌∷◌, ◌++◌, ◌≡◌, ◌-◌, ◌<◌, ℕ, zero, suc, true, false, Some, None, Result, refl, ap, ◌∙◌, sym as flip, subst, arith, length, take, map}
+use Rattle.std.proofs.Common.{List, [], ◌∷◌, ◌++◌, ◌≡◌, ◌-◌, ◌<◌, ℕ, zero, suc, true, false, Some, None, Result, refl, ap, ◌∙◌, sym as flip, subst, arith, length, take, drop, map}
 use Rattle.std.specs.Prelude.{slice_get}
 use Rattle.std.proofs.lemmas.List.{length-map, take-map}
 use Rattle.dk_model.specs.Trees.{Tree, symbol, apply, bare}
@@ -19,7 +19,8 @@ use Rattle.rule_match.specs.declared.matcher.Answer.{Answer}
 use Rattle.rule_match.specs.declared.matcher.Answer.TheVariants.{Begin}
 use Rattle.rule_match.specs.declared.matcher.Stage.{Stage}
 use Rattle.rule_match.specs.Columns.{plain, column}
-use Rattle.rule_match.specs.Matching.{IsMatcher, IsAnswer, Stands, rows_after, answered}
+use Rattle.rule_match.specs.Remaining.{rows_left}
+use Rattle.rule_match.specs.Matching.{IsMatcher, IsAnswer, Stands, answered}
 use Rattle.rule_match.proofs.Opening.{arguments_wound, length_from_top, map_from_top, plain_arguments}
 use Rattle.conversion.specs.declared.selection.Selection.{Selection}
 use Rattle.conversion.specs.declared.turn.Turn.{Turn}
@@ -151,8 +152,8 @@ module _ (S : PlainSignature) (ns : List Node) (ids : List TermId) (k : ℕ) (ru
       ∙ ap (λ (l : List Tree). map unbound (take (width (length ids) rules) l)) (map_from_top (term ns) ids ∙ flip (arguments_wound (symbol k) (behind ns ids) refl))
       ∙ (λ i. map unbound (take (width (counted i) (is i)) (arguments (wound (symbol k) (behind ns ids)))))
 
-  rows_are : rows_after rules s.matcher s.matcher.tried ≡ rows S k (wound (symbol k) (behind ns ids))
-  rows_are = b.starts.rows ∙ (λ i. rows_for (counted i) (width (counted i) (is i)) (is i))
+  rows_are : drop s.matcher.tried (rows_left rules s.matcher.left) ≡ rows S k (wound (symbol k) (behind ns ids))
+  rows_are = ap (λ (j : ℕ). drop j (rows_left rules s.matcher.left)) b.starts.tried ∙ b.starts.rows ∙ (λ i. rows_for (counted i) (width (counted i) (is i)) (is i))
 
   named : rules ≡ rules_of S s.symbol
   named = is ∙ ap (rules_of S) (flip b.named)

@@ -2,6 +2,7 @@ pub mod Machine
 pub mod Fillings
 pub mod Tables
 pub mod Reducers
+pub mod Rules
 pub mod Pausing
 pub mod Turning
 pub mod Pending
@@ -9,3 +10,4 @@ pub mod Waiting
 pub mod Owned
 pub mod Given
 pub mod Clauses
+pub mod Trees

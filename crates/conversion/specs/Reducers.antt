@@ -14,6 +14,7 @@ use Rattle.conversion.specs.declared.state.Head.{Head}
 use Rattle.conversion.specs.declared.state.Head.TheVariants.{Stands, Unfolds}
 use Rattle.conversion.specs.declared.state.PoolReducer.{PoolReducer}
 use Rattle.conversion.specs.Tables.{Remembers}
+use Rattle.conversion.specs.Trees.{AreTrees}
 
 -- the right side of the rule at a place among those of a symbol
 abbrev pub right_at : PlainSignature → ℕ → ℕ → Option Tree
@@ -73,3 +74,4 @@ pub record Serves (S : PlainSignature) (r : PoolReducer) : Type 0 where
   pub values : AreValues S r.pool r.values
   pub normals : AreNormals S r.pool r.normals
   pub answers : AreAnswers S r.pool r.answers
+  pub trees : AreTrees S r.trees

@@ -6,8 +6,8 @@ ghost use Rattle.signature_log.specs.Versions.{entries_of};
 ghost use Rattle.conversion.specs.Reducers.{Serves, IsLoaded};
 
 use crate::PoolReducer;
+use crate::rules::rule_at;
 use dk_model::NoMemory;
-use rule_match::rule_at;
 use shared_term::TermId;
 use signature_log::Version;
 

@@ -7,10 +7,12 @@ ghost use Rattle.conversion.specs.Machine.{is_application};
 ghost use Rattle.conversion.specs.declared.compare.HeadPairs.TheVariants.{Alike, Differ};
 ghost use Rattle.conversion.specs.Pending.{pending, pair_compared, AreSteps, AreOpen, AreHeads, head_pairs, TakesApart, GivesPair};
 ghost use Rattle.conversion.specs.Reducers.{Serves};
+ghost use Rattle.conversion.specs.Trees.{AreTrees};
 ghost use Rattle.conversion.specs.Clauses.{Compares};
 
 use crate::PoolReducer;
 use crate::state::Answer;
+use crate::trees::Trees;
 use dk_model::{NoMemory, NodeOf, Stop};
 use shared_term::{Node, Pool, TermId};
 use signature_log::Version;
@@ -48,6 +50,7 @@ impl PoolReducer {
     pub(crate) fn compare(
         &mut self,
         version: &Version,
+        trees: &Trees,
         t: TermId,
         u: TermId,
         left: &mut u64,
@@ -55,6 +58,7 @@ impl PoolReducer {
         requires t { t.0 < length self.old.pool }
         requires u { u.0 < length self.old.pool }
         requires serves { Serves (entries_of version.now) self.old }
+        requires trees { AreTrees (entries_of version.now) trees.now }
         ensures gives { Compares version.now self.old t u left.old result left.new }
         ensures keeps { Extends self.old.pool self.new.pool }
         ensures serves { Serves (entries_of version.now) self.new }
@@ -62,12 +66,12 @@ impl PoolReducer {
         ensures turned { OnOk result (left.new < left.old) }
     {
         let mut work = Vec::new(self.alloc);
-        let mut alike = self.compare_pair(version, t, u, &mut work, left)?;
+        let mut alike = self.compare_pair(version, trees, t, u, &mut work, left)?;
         while let Some(step) = work.pop() {
             match step {
                 Step::Pair(first, second) => {
                     if alike {
-                        alike = self.compare_pair(version, first, second, &mut work, left)?;
+                        alike = self.compare_pair(version, trees, first, second, &mut work, left)?;
                     }
                 }
                 Step::Conclude(first, second, before) => {
@@ -86,6 +90,7 @@ impl PoolReducer {
     fn compare_pair(
         &mut self,
         version: &Version,
+        trees: &Trees,
         t: TermId,
         u: TermId,
         work: &mut Vec<Step>,
@@ -98,6 +103,7 @@ impl PoolReducer {
             (pair_compared (entries_of version.now) (term self.old.pool t) (term self.old.pool u) left.old)
             left.old work.old.items }
         requires serves { Serves (entries_of version.now) self.old }
+        requires trees { AreTrees (entries_of version.now) trees.now }
         ensures gives { GivesPair (entries_of version.now)
             (pair_compared (entries_of version.now) (term self.old.pool t) (term self.old.pool u) left.old
             (pending self.old.pool work.old.items)) self.new.pool result work.new.items left.new }
@@ -123,8 +129,8 @@ impl PoolReducer {
         }
         let before = *left;
         *left -= 1;
-        let x = self.evaluate(version, t, left)?;
-        let y = self.evaluate(version, u, left)?;
+        let x = self.evaluate(version, trees, t, left)?;
+        let y = self.evaluate(version, trees, u, left)?;
         push_step(work, Step::Conclude(t, u, before))?;
         let alike = parts(&self.pool, x, y, work)?;
         Ok(alike)

@@ -4,6 +4,7 @@ ghost use Rattle.shared_term.specs.Pools.{Extends};
 ghost use Rattle.signature_log.specs.Versions.{entries_of};
 ghost use Rattle.conversion.specs.Machine.{AreWithin};
 ghost use Rattle.conversion.specs.Reducers.{Serves};
+ghost use Rattle.conversion.specs.Trees.{AreTrees};
 ghost use Rattle.conversion.specs.Turning.{IsNext, next_rank, turn_rank};
 ghost use Rattle.conversion.specs.Clauses.{Evaluates, Turns};
 
@@ -11,6 +12,7 @@ use crate::PoolReducer;
 use crate::machine::wind;
 use crate::selection::Selection;
 use crate::state::Value;
+use crate::trees::Trees;
 use crate::turn::Turn;
 use dk_model::{NoMemory, Stop};
 use rule_match::{Answer, Matcher};
@@ -50,11 +52,13 @@ impl PoolReducer {
     pub(crate) fn evaluate(
         &mut self,
         version: &Version,
+        trees: &Trees,
         whole: TermId,
         left: &mut u64,
     ) -> Result<TermId, Stop>
         requires whole { whole.0 < length self.old.pool }
         requires serves { Serves (entries_of version.now) self.old }
+        requires trees { AreTrees (entries_of version.now) trees.now }
         ensures gives { Evaluates version.now self.old whole left.old result self.new left.new }
         ensures keeps { Extends self.old.pool self.new.pool }
         ensures serves { Serves (entries_of version.now) self.new }
@@ -69,7 +73,7 @@ impl PoolReducer {
             return Ok(found.id);
         }
         let before = *left;
-        let id = self.evaluated(version, whole, left)?;
+        let id = self.evaluated(version, trees, whole, left)?;
         let units = before - *left;
         self.values.put(whole.number(), 0, Value { id, units });
         Ok(id)
@@ -81,11 +85,13 @@ impl PoolReducer {
     fn evaluated(
         &mut self,
         version: &Version,
+        trees: &Trees,
         whole: TermId,
         left: &mut u64,
     ) -> Result<TermId, Stop>
         requires whole { whole.0 < length self.old.pool }
         requires serves { Serves (entries_of version.now) self.old }
+        requires trees { AreTrees (entries_of version.now) trees.now }
         ensures gives { Evaluates version.now self.old whole left.old result self.new left.new }
         ensures keeps { Extends self.old.pool self.new.pool }
         ensures serves { Serves (entries_of version.now) self.new }
@@ -95,7 +101,7 @@ impl PoolReducer {
         let mut stack = Vec::new(self.alloc);
         let mut next = Next::Whole(whole);
         loop {
-            match self.turn(version, next, &mut stack, left)? {
+            match self.turn(version, trees, next, &mut stack, left)? {
                 Turn::Goes(term) => next = Next::Whole(term),
                 Turn::Selects(selection) => next = Next::Goes(selection),
                 Turn::Asks(pause) => {
@@ -129,6 +135,7 @@ impl PoolReducer {
     fn turn<'v>(
         &mut self,
         version: &'v Version,
+        trees: &'v Trees,
         next: Next<'v>,
         stack: &mut Vec<TermId>,
         left: &mut u64,
@@ -136,6 +143,7 @@ impl PoolReducer {
         requires next { IsNext (entries_of version.now) (length self.old.pool) next }
         requires stack { AreWithin (length self.old.pool) stack.old.items }
         requires serves { Serves (entries_of version.now) self.old }
+        requires trees { AreTrees (entries_of version.now) trees.now }
         ensures gives { Turns version.now self.old next.entry stack.old left.old result self.new stack.new
             left.new }
         ensures stack { OnOk result (AreWithin (length self.new.pool) stack.new.items) }
@@ -148,9 +156,9 @@ impl PoolReducer {
         match next {
             Next::Whole(term) => {
                 let head = unwind(&self.pool, term, stack)?;
-                self.turn_head(version, head, stack, left)
+                self.turn_head(version, trees, head, stack, left)
             }
-            Next::Goes(selection) => self.turn_selection(version, selection, stack, left),
+            Next::Goes(selection) => self.turn_selection(version, trees, selection, stack, left),
         }
     }
 }

@@ -5,6 +5,7 @@
 #![tactic(auto)]
 
 mod brought;
+mod calls;
 mod compare;
 mod evaluate;
 mod known;
@@ -14,9 +15,12 @@ mod mentions;
 mod normal;
 mod putting;
 mod reducer;
+mod rules;
 mod selection;
 mod state;
 mod table;
+mod trees;
 mod turn;
+mod walks;
 
 pub use state::PoolReducer;

@@ -5,10 +5,12 @@ ghost use Rattle.shared_term.specs.Pools.{term, Extends};
 ghost use Rattle.signature_log.specs.Versions.{entries_of};
 ghost use Rattle.conversion.specs.Clauses.{Normalises};
 ghost use Rattle.conversion.specs.Reducers.{Serves};
+ghost use Rattle.conversion.specs.Trees.{AreTrees};
 ghost use Rattle.conversion.specs.Waiting.{AreFrames, IsFrame, AreWaiting, IsWaiting, resumed, continued, value_due, GivesPart, TakesValueApart};
 
 use crate::PoolReducer;
 use crate::state::Value;
+use crate::trees::Trees;
 use dk_model::{NoMemory, NodeOf, Stop};
 use shared_term::{Pool, TermId};
 use signature_log::Version;
@@ -52,11 +54,13 @@ impl PoolReducer {
     pub(crate) fn normalise(
         &mut self,
         version: &Version,
+        trees: &Trees,
         whole: TermId,
         left: &mut u64,
     ) -> Result<TermId, Stop>
         requires whole { whole.0 < length self.old.pool }
         requires serves { Serves (entries_of version.now) self.old }
+        requires trees { AreTrees (entries_of version.now) trees.now }
         ensures gives { Normalises version.now self.old whole left.old result self.new left.new }
         ensures keeps { Extends self.old.pool self.new.pool }
         ensures serves { Serves (entries_of version.now) self.new }
@@ -64,9 +68,9 @@ impl PoolReducer {
         ensures turned { OnOk result (left.new < left.old) }
     {
         let mut frames = Vec::new(self.alloc);
-        let mut value = self.descend(version, whole, &mut frames, left)?;
+        let mut value = self.descend(version, trees, whole, &mut frames, left)?;
         while let Some(frame) = frames.pop() {
-            value = self.resume(version, frame, value, &mut frames, left)?;
+            value = self.resume(version, trees, frame, value, &mut frames, left)?;
         }
         Ok(value)
     }
@@ -77,6 +81,7 @@ impl PoolReducer {
     fn resume(
         &mut self,
         version: &Version,
+        trees: &Trees,
         frame: Frame,
         value: TermId,
         frames: &mut Vec<Frame>,
@@ -91,6 +96,7 @@ impl PoolReducer {
             (continued (entries_of version.now) self.old.pool frame (term self.old.pool value) left.old)
             left.old frames.old.items }
         requires serves { Serves (entries_of version.now) self.old }
+        requires trees { AreTrees (entries_of version.now) trees.now }
         ensures gives { GivesPart (entries_of version.now) (resumed (entries_of version.now) self.old.pool frames.old.items
             (continued (entries_of version.now) self.old.pool frame (term self.old.pool value) left.old))
             self.new.pool result frames.new.items left.new }
@@ -102,20 +108,20 @@ impl PoolReducer {
         match frame {
             Frame::Argument(argument) => {
                 push_frame(frames, Frame::Function(value))?;
-                self.descend(version, argument, frames, left)
+                self.descend(version, trees, argument, frames, left)
             }
             Frame::Function(function) => Ok(self.pool.intern(NodeOf::App(function, value))?),
             Frame::Body => Ok(self.pool.intern(NodeOf::Abs(None, value))?),
             Frame::Annotation(body) => {
                 push_frame(frames, Frame::Annotated(value))?;
-                self.descend(version, body, frames, left)
+                self.descend(version, trees, body, frames, left)
             }
             Frame::Annotated(annotation) => Ok(
                 self.pool.intern(NodeOf::Abs(Some(annotation), value))?,
             ),
             Frame::Domain(codomain) => {
                 push_frame(frames, Frame::Codomain(value))?;
-                self.descend(version, codomain, frames, left)
+                self.descend(version, trees, codomain, frames, left)
             }
             Frame::Codomain(domain) => Ok(self.pool.intern(NodeOf::Prod(domain, value))?),
             Frame::Conclude(whole, before) => {
@@ -134,6 +140,7 @@ impl PoolReducer {
     fn descend(
         &mut self,
         version: &Version,
+        trees: &Trees,
         whole: TermId,
         frames: &mut Vec<Frame>,
         left: &mut u64,
@@ -143,6 +150,7 @@ impl PoolReducer {
         requires waiting { AreWaiting (entries_of version.now) self.old.pool
             (normal_of (entries_of version.now) left.old (term self.old.pool whole)) left.old frames.old.items }
         requires serves { Serves (entries_of version.now) self.old }
+        requires trees { AreTrees (entries_of version.now) trees.now }
         ensures gives { GivesPart (entries_of version.now) (resumed (entries_of version.now) self.old.pool frames.old.items
             (normal_of (entries_of version.now) left.old (term self.old.pool whole)))
             self.new.pool result frames.new.items left.new }
@@ -166,7 +174,7 @@ impl PoolReducer {
             }
             let before = *left;
             *left -= 1;
-            let value = self.evaluate(version, part, left)?;
+            let value = self.evaluate(version, trees, part, left)?;
             push_frame(frames, Frame::Conclude(part, before))?;
             let next = take_apart(&self.pool, value, frames)?;
             match next {

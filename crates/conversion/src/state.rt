@@ -2,6 +2,8 @@
 ghost use Rattle.std.specs.Prelude.{◌≡◌, IfOk};
 
 use crate::table::Table;
+use crate::trees::Trees;
+use crate::walks::Walks;
 use dk_model::NoMemory;
 use shared_term::{Pool, TermId};
 use std::alloc::Global;
@@ -44,6 +46,9 @@ pub struct PoolReducer {
     pub(crate) normals: Table<Value>,
     /// The answers of comparisons, each by its two terms.
     pub(crate) answers: Table<Answer>,
+    /// The trees of symbols whose rules were gone through often. A call from outside takes them out while it runs.
+    pub(crate) trees: Trees,
+    pub(crate) walks: Walks,
     /// How many comparisons and normal forms that rules ask for are inside each other.
     pub(crate) nested: u32,
 }
@@ -91,6 +96,7 @@ impl PoolReducer {
                 units: 0,
             },
         )?;
+        let walks = Walks::new(alloc)?;
         Ok(PoolReducer {
             alloc,
             pool,
@@ -99,6 +105,8 @@ impl PoolReducer {
             values,
             normals,
             answers,
+            trees: Trees::new(alloc),
+            walks,
             nested: 0,
         })
     }
@@ -120,6 +128,8 @@ impl PoolReducer {
         self.values.clear();
         self.normals.clear();
         self.answers.clear();
+        self.trees = Trees::new(self.alloc);
+        self.walks.clear();
     }
 }
 

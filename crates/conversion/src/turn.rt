@@ -1,27 +1,31 @@
 //! A turn of the weak head form: a contraction, a body, a rule of the head symbol, or the end.
-ghost use Rattle.std.specs.Prelude.{◌≡◌, ℕ, ◌+◌, ◌≤◌, ◌<◌, IfOk, OnOk, false, length};
+ghost use Rattle.std.specs.Prelude.{◌≡◌, ℕ, ◌+◌, ◌≤◌, ◌<◌, IfSome, IfOk, OnOk, false, length};
 ghost use Rattle.dk_model.specs.Trees.{symbol as symbol_term};
 ghost use Rattle.dk_model.specs.SymbolRules.{rules_of};
 ghost use Rattle.shared_term.specs.Pools.{term, Extends};
 ghost use Rattle.shared_term.specs.Changes.{AreCaptures};
 ghost use Rattle.signature_log.specs.Rows.{row_rules};
 ghost use Rattle.signature_log.specs.Versions.{entries_of};
-ghost use Rattle.rule_tree.specs.Rows.{rule_at};
+ghost use Rattle.rule_match.specs.Rows.{rule_at};
 ghost use Rattle.rule_match.specs.Matching.{IsMatcher, Stands, Awaits};
+ghost use Rattle.rule_match.specs.Trees.{IsTree};
 ghost use Rattle.rule_match.specs.declared.matcher.Ask.TheVariants.{Evaluate};
 ghost use Rattle.conversion.specs.Machine.{AreWithin, is_application};
 ghost use Rattle.conversion.specs.Pausing.{IsSelection, StartsOver};
 ghost use Rattle.conversion.specs.Reducers.{Serves};
+ghost use Rattle.conversion.specs.Trees.{AreTrees};
 ghost use Rattle.conversion.specs.Turning.{turn_rank, Waits};
 ghost use Rattle.conversion.specs.Clauses.{TurnsHead, TurnsSymbol, TurnsSelection, PutsRight, Normalises, Compares};
 
 use crate::PoolReducer;
 use crate::evaluate::Pause;
 use crate::putting::{Filling, put};
-use crate::selection::{Selection, told};
+use crate::rules::rule_at;
+use crate::selection::{Selection, left_sides, told};
 use crate::state::{Head, deeper};
+use crate::trees::{MOST_TREES, Trees};
 use dk_model::{NoMemory, NodeOf, Stop};
-use rule_match::{Answer, Ask, Matcher, rule_at};
+use rule_match::{Answer, Ask, Matcher, Tree};
 use shared_term::TermId;
 use signature_log::{Row, Rows, Version};
 use std::alloc::Global;
@@ -46,6 +50,7 @@ impl PoolReducer {
     pub(crate) fn turn_head<'v>(
         &mut self,
         version: &'v Version,
+        trees: &'v Trees,
         head: TermId,
         stack: &mut Vec<TermId>,
         left: &mut u64,
@@ -54,6 +59,7 @@ impl PoolReducer {
         requires alone { is_application (term self.old.pool head) ≡ false }
         requires stack { AreWithin (length self.old.pool) stack.old.items }
         requires serves { Serves (entries_of version.now) self.old }
+        requires trees { AreTrees (entries_of version.now) trees.now }
         ensures gives { TurnsHead version.now self.old head stack.old left.old result self.new stack.new
             left.new }
         ensures stack { OnOk result (AreWithin (length self.new.pool) stack.new.items) }
@@ -75,7 +81,7 @@ impl PoolReducer {
                 None => Ok(Turn::Stands(head)),
             },
             NodeOf::Sym(k) => {
-                let turn = self.turn_symbol(version, k, head, stack.as_slice())?;
+                let turn = self.turn_symbol(version, trees, k, head, stack.as_slice(), *left)?;
                 Ok(turn)
             }
             NodeOf::Star => Ok(Turn::Stands(head)),
@@ -93,14 +99,17 @@ impl PoolReducer {
     fn turn_symbol<'v>(
         &mut self,
         version: &'v Version,
+        trees: &'v Trees,
         symbol: u32,
         head: TermId,
         stack: &[TermId],
+        left: u64,
     ) -> Result<Turn<'v>, NoMemory>
         requires head { head.0 < length self.old.pool }
         requires symbol { term self.old.pool head ≡ symbol_term symbol }
         requires stack { AreWithin (length self.old.pool) stack.now }
         requires serves { Serves (entries_of version.now) self.old }
+        requires trees { AreTrees (entries_of version.now) trees.now }
         ensures gives { IfOk result (TurnsSymbol version.now self.old symbol stack.now self.new) }
         ensures keeps { Extends self.old.pool self.new.pool }
         ensures serves { Serves (entries_of version.now) self.new }
@@ -108,7 +117,7 @@ impl PoolReducer {
         match self.heads.find(symbol, 0) {
             Some(Head::Stands) => Ok(Turn::Stands(head)),
             Some(Head::Unfolds(body)) => Ok(Turn::Goes(body)),
-            None => self.turn_by_rules(version, symbol, head, stack),
+            None => self.turn_by_rules(version, trees, symbol, head, stack, left),
         }
     }
 
@@ -117,14 +126,17 @@ impl PoolReducer {
     fn turn_by_rules<'v>(
         &mut self,
         version: &'v Version,
+        trees: &'v Trees,
         symbol: u32,
         head: TermId,
         stack: &[TermId],
+        left: u64,
     ) -> Result<Turn<'v>, NoMemory>
         requires head { head.0 < length self.old.pool }
         requires symbol { term self.old.pool head ≡ symbol_term symbol }
         requires stack { AreWithin (length self.old.pool) stack.now }
         requires serves { Serves (entries_of version.now) self.old }
+        requires trees { AreTrees (entries_of version.now) trees.now }
         ensures gives { IfOk result (TurnsSymbol version.now self.old symbol stack.now self.new) }
         ensures keeps { Extends self.old.pool self.new.pool }
         ensures serves { Serves (entries_of version.now) self.new }
@@ -141,7 +153,12 @@ impl PoolReducer {
                 Ok(Turn::Goes(body))
             }
             Some(Row::Rule(_)) => {
-                let selection = selection_before(self.alloc, rules, symbol, stack)?;
+                let tree = trees.find(symbol);
+                let room = tree.is_none() && trees.len() < MOST_TREES;
+                if self.walks.wants_tree(symbol, rules.len(), left, room) {
+                    return Err(NoMemory);
+                }
+                let selection = selection_before(self.alloc, &rules, tree, symbol, stack)?;
                 Ok(Turn::Selects(selection))
             }
         }
@@ -154,6 +171,7 @@ impl PoolReducer {
     pub(crate) fn turn_selection<'v>(
         &mut self,
         version: &'v Version,
+        trees: &'v Trees,
         selection: Selection<'v>,
         stack: &mut Vec<TermId>,
         left: &mut u64,
@@ -161,6 +179,7 @@ impl PoolReducer {
         requires selection { IsSelection (entries_of version.now) (length self.old.pool) selection }
         requires stack { AreWithin (length self.old.pool) stack.old.items }
         requires serves { Serves (entries_of version.now) self.old }
+        requires trees { AreTrees (entries_of version.now) trees.now }
         ensures gives { TurnsSelection version.now self.old selection.entry stack.old left.old result
             self.new stack.new left.new }
         ensures stack { OnOk result (AreWithin (length self.new.pool) stack.new.items) }
@@ -183,7 +202,7 @@ impl PoolReducer {
             }
             Ask::Evaluate(column) => self.ask(version, symbol, matcher, column, stack, left),
             Ask::Escape(part) => {
-                let normal = self.normalise_inside(version, part, left)?;
+                let normal = self.normalise_inside(version, trees, part, left)?;
                 Ok(Turn::Selects(Selection {
                     symbol,
                     matcher,
@@ -191,7 +210,7 @@ impl PoolReducer {
                 }))
             }
             Ask::Same(first, second) => {
-                let alike = self.compare_inside(version, first, second, left)?;
+                let alike = self.compare_inside(version, trees, first, second, left)?;
                 Ok(Turn::Selects(Selection {
                     symbol,
                     matcher,
@@ -207,11 +226,13 @@ impl PoolReducer {
     fn normalise_inside(
         &mut self,
         version: &Version,
+        trees: &Trees,
         part: TermId,
         left: &mut u64,
     ) -> Result<TermId, Stop>
         requires part { part.0 < length self.old.pool }
         requires serves { Serves (entries_of version.now) self.old }
+        requires trees { AreTrees (entries_of version.now) trees.now }
         ensures gives { Normalises version.now self.old part left.old result self.new left.new }
         ensures keeps { Extends self.old.pool self.new.pool }
         ensures serves { Serves (entries_of version.now) self.new }
@@ -220,7 +241,7 @@ impl PoolReducer {
     {
         let nested = self.nested;
         self.nested = deeper(nested)?;
-        let normal = self.normalise(version, part, left);
+        let normal = self.normalise(version, trees, part, left);
         self.nested = nested;
         normal
     }
@@ -231,6 +252,7 @@ impl PoolReducer {
     fn compare_inside(
         &mut self,
         version: &Version,
+        trees: &Trees,
         first: TermId,
         second: TermId,
         left: &mut u64,
@@ -238,6 +260,7 @@ impl PoolReducer {
         requires first { first.0 < length self.old.pool }
         requires second { second.0 < length self.old.pool }
         requires serves { Serves (entries_of version.now) self.old }
+        requires trees { AreTrees (entries_of version.now) trees.now }
         ensures gives { Compares version.now self.old first second left.old result left.new }
         ensures keeps { Extends self.old.pool self.new.pool }
         ensures serves { Serves (entries_of version.now) self.new }
@@ -246,7 +269,7 @@ impl PoolReducer {
     {
         let nested = self.nested;
         self.nested = deeper(nested)?;
-        let alike = self.compare(version, first, second, left);
+        let alike = self.compare(version, trees, first, second, left);
         self.nested = nested;
         alike
     }
@@ -331,17 +354,23 @@ impl PoolReducer {
     }
 }
 
-/// The selection for a symbol before the arguments of a stack, at its start.
+/// The selection for a symbol before the arguments of a stack, at its start: by the symbol's tree, where it has one that has
+/// nodes.
 fn selection_before<'v>(
     alloc: Global,
-    rules: Rows<'v>,
+    rules: &Rows<'v>,
+    tree: Option<&'v Tree>,
     symbol: u32,
     stack: &[TermId],
 ) -> Result<Selection<'v>, NoMemory>
-    ensures starts { IfOk result (λ s. StartsOver (row_rules symbol rules.entry) symbol stack.now s) }
+    requires tree { IfSome tree (λ t. IsTree (row_rules symbol rules.now) t.now) }
+    ensures starts { IfOk result (λ s. StartsOver (row_rules symbol rules.now) symbol stack.now s) }
     ensures within { IfOk result (λ s. (n : ℕ) → AreWithin n stack.now → IsMatcher n s.matcher) }
 {
-    let matcher = Matcher::start(alloc, rules, symbol, stack)?;
+    let matcher = match tree {
+        Some(tree) if tree.nodes() > 0 => Matcher::start(alloc, tree, stack)?,
+        _ => Matcher::walk(alloc, left_sides(alloc, rules, symbol)?, stack)?,
+    };
     Ok(Selection {
         symbol,
         matcher,

@@ -1,5 +1,5 @@
 -- A matcher in a larger pool, and what it goes on with once an answer is there.
-use Rattle.std.proofs.Common.{List, Option, Some, None, Vec, Global, ◌≡◌, ◌+◌, ◌<◌, ℕ, Bool, true, false, refl, ap, ◌∙◌, sym as flip, subst, length, if◌then◌else◌}
+use Rattle.std.proofs.Common.{List, Option, Some, None, Vec, Global, ◌≡◌, ◌+◌, ◌<◌, ℕ, Bool, true, false, refl, ap, ◌∙◌, sym as flip, subst, drop, length, if◌then◌else◌}
 use Rattle.dk_model.specs.Trees.{Tree}
 use Rattle.dk_model.specs.Signatures.{PlainRule, PlainSignature}
 use Rattle.dk_model.specs.Units.{Units, bind}
@@ -15,11 +15,12 @@ use Rattle.rule_match.specs.declared.matcher.Ask.TheVariants.{Evaluate, Escape, 
 use Rattle.rule_match.specs.declared.matcher.Stage.{Stage}
 use Rattle.rule_match.specs.declared.matcher.Stage.TheVariants.{Begins, Evaluates, Escapes, Compares, Guards, Ends}
 use Rattle.rule_match.specs.declared.matcher.Matcher.{Matcher}
-use Rattle.rule_tree.specs.Rows.{row, rule_at}
+use Rattle.rule_match.specs.Rows.{row, rule_at}
 use Rattle.rule_match.specs.Columns.{plain}
+use Rattle.rule_match.specs.Remaining.{rows_left}
 use Rattle.rule_match.specs.Trying.{column_at}
 use Rattle.rule_match.specs.Standing.{with_value, after_cell, cell_normal, cell_compared, guard_compared, finished, decided}
-use Rattle.rule_match.specs.Matching.{rows_after, IsMatcher, IsAnswer, Awaits, AwaitsValue, AsksFor, answered, told_value, term_in, after_compared, after_guard, after_normal}
+use Rattle.rule_match.specs.Matching.{IsMatcher, IsAnswer, Awaits, AwaitsValue, AsksFor, answered, told_value, term_in, after_compared, after_guard, after_normal}
 use Rattle.rule_match.proofs.Telling.{alike_fits}
 use Rattle.rule_match.proofs.Growing.{columns_grown, columns_within, captures_grown, captures_within}
 
@@ -28,6 +29,7 @@ matcher_grown old new m x h = record {
   columns = columns_within old new m.columns.items x h.columns;
   captures = captures_within old new m.captures.items x h.captures;
   tried = h.tried;
+  placed = h.placed;
   stage = h.stage;
 }
 
@@ -40,23 +42,23 @@ module _ (S : PlainSignature) (rules : List PlainRule) (old new : List Node) (m 
 
   pub value_grown : (st : Stage) (v : Tree) (n : ℕ) → told_value S rules new m st v n ≡ told_value S rules old m st v n
   value_grown Begins v n = refl
-  value_grown (Evaluates i) v n = λ j. with_value S (cols j) (rows_after rules m m.tried) i (column_at (cols j) i).depth v n
+  value_grown (Evaluates i) v n = λ j. with_value S (cols j) (drop m.tried (rows_left rules m.left)) i (column_at (cols j) i).depth v n
   value_grown (Escapes i) v n = refl
   value_grown (Compares i) v n = refl
   value_grown (Guards i) v n = refl
   value_grown Ends v n = refl
 
   compared_grown : (i : ℕ) (b : Bool) (n : ℕ)
-      → bind (bind (cell_compared (column_at (plain new m.columns.items) i) (captured_terms new m.captures.items) b n) (after_cell (normal_of S) (comparison_of S) (row rules m.row).cells (plain new m.columns.items) i)) (finished S (row rules m.row) (rows_after rules m (m.tried + 1)))
-      ≡ bind (bind (cell_compared (column_at (plain old m.columns.items) i) (captured_terms old m.captures.items) b n) (after_cell (normal_of S) (comparison_of S) (row rules m.row).cells (plain old m.columns.items) i)) (finished S (row rules m.row) (rows_after rules m (m.tried + 1)))
+      → bind (bind (cell_compared (column_at (plain new m.columns.items) i) (captured_terms new m.captures.items) b n) (after_cell (normal_of S) (comparison_of S) (row rules m.row).cells (plain new m.columns.items) i)) (finished S (row rules m.row) (drop (m.tried + 1) (rows_left rules m.left)))
+      ≡ bind (bind (cell_compared (column_at (plain old m.columns.items) i) (captured_terms old m.captures.items) b n) (after_cell (normal_of S) (comparison_of S) (row rules m.row).cells (plain old m.columns.items) i)) (finished S (row rules m.row) (drop (m.tried + 1) (rows_left rules m.left)))
   compared_grown i b n = λ j.
-      bind (bind (cell_compared (column_at (cols j) i) (caps j) b n) (after_cell (normal_of S) (comparison_of S) (row rules m.row).cells (cols j) i)) (finished S (row rules m.row) (rows_after rules m (m.tried + 1)))
+      bind (bind (cell_compared (column_at (cols j) i) (caps j) b n) (after_cell (normal_of S) (comparison_of S) (row rules m.row).cells (cols j) i)) (finished S (row rules m.row) (drop (m.tried + 1) (rows_left rules m.left)))
 
   guard_grown : (i : ℕ) (b : Bool) (n : ℕ)
-      → bind (guard_compared (comparison_of S) (row rules m.row).cells (plain new m.columns.items) (i + 1) (captured_terms new m.captures.items) b n) (decided S (row rules m.row) (rows_after rules m (m.tried + 1)) (plain new m.columns.items) (captured_terms new m.captures.items))
-      ≡ bind (guard_compared (comparison_of S) (row rules m.row).cells (plain old m.columns.items) (i + 1) (captured_terms old m.captures.items) b n) (decided S (row rules m.row) (rows_after rules m (m.tried + 1)) (plain old m.columns.items) (captured_terms old m.captures.items))
+      → bind (guard_compared (comparison_of S) (row rules m.row).cells (plain new m.columns.items) (i + 1) (captured_terms new m.captures.items) b n) (decided S (row rules m.row) (drop (m.tried + 1) (rows_left rules m.left)) (plain new m.columns.items) (captured_terms new m.captures.items))
+      ≡ bind (guard_compared (comparison_of S) (row rules m.row).cells (plain old m.columns.items) (i + 1) (captured_terms old m.captures.items) b n) (decided S (row rules m.row) (drop (m.tried + 1) (rows_left rules m.left)) (plain old m.columns.items) (captured_terms old m.captures.items))
   guard_grown i b n = λ j.
-      bind (guard_compared (comparison_of S) (row rules m.row).cells (cols j) (i + 1) (caps j) b n) (decided S (row rules m.row) (rows_after rules m (m.tried + 1)) (cols j) (caps j))
+      bind (guard_compared (comparison_of S) (row rules m.row).cells (cols j) (i + 1) (caps j) b n) (decided S (row rules m.row) (drop (m.tried + 1) (rows_left rules m.left)) (cols j) (caps j))
 
   -- an answer, and how a selection that asked for it goes on, in the larger pool
 
@@ -91,7 +93,7 @@ module _ (S : PlainSignature) (rules : List PlainRule) (old new : List Node) (m 
   normal_told (Evaluates i) t u due n k h e = absurd h
   normal_told (Escapes i) t u due n k h e =
       h n ∙ ap (λ (y : Units Tree). bind y (after_normal S rules old m i)) e
-      ∙ flip (λ j. bind (bind (cell_normal (normal_of S) (comparison_of S) (cell_at (row rules m.row).cells i) (column_at (cols j) i) (caps j) (term new u) k) (after_cell (normal_of S) (comparison_of S) (row rules m.row).cells (cols j) i)) (finished S (row rules m.row) (rows_after rules m (m.tried + 1))))
+      ∙ flip (λ j. bind (bind (cell_normal (normal_of S) (comparison_of S) (cell_at (row rules m.row).cells i) (column_at (cols j) i) (caps j) (term new u) k) (after_cell (normal_of S) (comparison_of S) (row rules m.row).cells (cols j) i)) (finished S (row rules m.row) (drop (m.tried + 1) (rows_left rules m.left))))
   normal_told (Compares i) t u due n k h e = absurd h
   normal_told (Guards i) t u due n k h e = absurd h
   normal_told Ends t u due n k h e = absurd h

@@ -15,33 +15,49 @@ use Rattle.dk_model.specs.declared.memory.NoMemory.{NoMemory}
 use Rattle.shared_term.specs.declared.id.TermId.{TermId}
 use Rattle.shared_term.specs.Pools.{Node as PoolNode, term, Extends}
 use Rattle.shared_term.specs.Changes.{AreCaptures, captured_terms}
-use Rattle.rule_tree.specs.declared.cell.Cell.{Cell as HeldCell}
-use Rattle.rule_tree.specs.declared.cell.Row.{Row as HeldRow}
+use Rattle.rule_match.specs.declared.cell.Cell.{Cell as HeldCell}
 use Rattle.rule_match.specs.declared.value.Column.{Column as HeldColumn}
 use Rattle.rule_match.specs.declared.row.NextGuard.{NextGuard}
 use Rattle.rule_match.specs.declared.row.Passage.{Passage}
 use Rattle.rule_match.specs.declared.matcher.Ask.{Ask}
 use Rattle.rule_match.specs.declared.matcher.Matcher.{Matcher}
-use Rattle.rule_tree.specs.Rows.{plain_cell}
+use Rattle.rule_match.specs.Rows.{plain_cell}
 use Rattle.rule_match.specs.Columns.{plain, column, AreColumns}
 use Rattle.rule_match.specs.Trying.{column_at, guards_due as next_due, row_due, GuardsPass, RowPasses}
-use Rattle.rule_match.specs.Matching.{Stands, Asks, IsHere}
+use Rattle.rule_match.specs.Matching.{Stands, Asks}
 use Rattle.rule_match.proofs.Growing.{columns_grown, captures_grown}
 use Rattle.rule_match.proofs.Through.{at_cell, set_again}
 use Rattle.rule_match.specs.Standing.{put_before, passed, after_cell, cell_normal, cell_compared, others_in, guards_from, guard_compared, finished, decided, capturing, guarding, with_value}
 
--- the first of the rows
+-- rows one after another
 
-module _ (S : PlainSignature) (n : ℕ) (cols : List Column) (all : List Row) where
-  pub select_none : all ≡ [] → selection_of S n cols all ≡ Some (None, n)
-  select_none e = ap (selection_of S n cols) e ∙ selection_is S n cols []
+next_suc : {A : Type 0} (xs : List A) (i : ℕ) (x : A) → slice_get xs i ≡ Some x → drop i xs ≡ x ∷ drop (suc i) xs
+next_suc [] i x e = cc
+next_suc (y ∷ xs) zero x e = let q : y ≡ x = cc in ap (λ z. z ∷ xs) q
+next_suc (y ∷ xs) (suc i) x e = next_suc xs i x e
 
-  module _ (r : Row) (rest : List Row) (there : all ≡ r ∷ rest) where
+pub next_there : {A : Type 0} (xs : List A) (i : ℕ) (x : A) → slice_get xs i ≡ Some x → drop i xs ≡ x ∷ drop (i + 1) xs
+next_there xs i x e = next_suc xs i x e ∙ ap (λ (k : ℕ). x ∷ drop k xs) (let h : suc i ≡ i + 1 = omega arith in h)
+
+pub none_there : {A : Type 0} (xs : List A) (i : ℕ) → slice_get xs i ≡ None → drop i xs ≡ []
+none_there [] zero e = refl
+none_there [] (suc i) e = refl
+none_there (y ∷ xs) zero e = cc
+none_there (y ∷ xs) (suc i) e = none_there xs i e
+
+module _ (S : PlainSignature) (n : ℕ) (cols : List Column) (rows : List Row) (i : ℕ) where
+  pub select_none : slice_get rows i ≡ None → selection_of S n cols (drop i rows) ≡ Some (None, n)
+  select_none e = ap (selection_of S n cols) (none_there rows i e) ∙ selection_is S n cols []
+
+  module _ (r : Row) (there : slice_get rows i ≡ Some r) where
+    abbrev rest : List Row
+    rest = drop (i + 1) rows
+
     abbrev from : List Row → List Column → ℕ → Units (Option Selected)
     from rs cs m = select_from (normal_of S) (comparison_of S) (whnf_of S) (selection_of S) rs cs m
 
-    begun : selection_of S n cols all ≡ from (r ∷ rest) cols n
-    begun = ap (selection_of S n cols) there ∙ selection_is S n cols (r ∷ rest)
+    begun : selection_of S n cols (drop i rows) ≡ from (r ∷ rest) cols n
+    begun = ap (selection_of S n cols) (next_there rows i r there) ∙ selection_is S n cols (r ∷ rest)
 
     abbrev loose : Units RowTrial → Units (Option Selected)
     loose x = bind x (λ trial m. elim trial.captures [ None ↦ from rest trial.columns m | Some captures ↦ Some (Some (record { captures = captures; rule = r.rule }), m) ])
@@ -79,7 +95,7 @@ module _ (S : PlainSignature) (n : ℕ) (cols : List Column) (all : List Row) wh
     by_captures None = refl
     by_captures (Some p) = by_trial p.0.captures p.0.columns p.1
 
-    pub select_loose : rigid_at r.cells ≡ None → selection_of S n cols all ≡ capturing S r rest cols 0 (replicate r.rule.vars None) n
+    pub select_loose : rigid_at r.cells ≡ None → selection_of S n cols (drop i rows) ≡ capturing S r rest cols 0 (replicate r.rule.vars None) n
     select_loose e = begun ∙ ap rigid e ∙ by_captures (captures_of_row (normal_of S) (comparison_of S) r.cells cols n (replicate r.rule.vars None))
 
     module _ (at : ℕ) (e : rigid_at r.cells ≡ Some at) where
@@ -90,12 +106,12 @@ module _ (S : PlainSignature) (n : ℕ) (cols : List Column) (all : List Row) wh
             selection_of S m (take at cols ++ record { depth = column.depth; term = value } ∷ new ++ drop (at + 1) cols) (refined_rows value (length new) at (r ∷ rest)))
       ]
 
-      pub select_missing : slice_get cols at ≡ None → selection_of S n cols all ≡ Some (None, n)
+      pub select_missing : slice_get cols at ≡ None → selection_of S n cols (drop i rows) ≡ Some (None, n)
       select_missing q = begun ∙ ap rigid e ∙ ap at_column q
 
-      pub select_rigid : (c : Column) → slice_get cols at ≡ Some c → selection_of S n cols all ≡ bind (whnf_of S n c.term) (with_value S cols all at c.depth)
+      pub select_rigid : (c : Column) → slice_get cols at ≡ Some c → selection_of S n cols (drop i rows) ≡ bind (whnf_of S n c.term) (with_value S cols (drop i rows) at c.depth)
       select_rigid c q = begun ∙ ap rigid e ∙ ap at_column q
-          ∙ (λ j. bind (whnf_of S n c.term) (with_value S cols (flip there j) at c.depth))
+          ∙ (λ j. bind (whnf_of S n c.term) (with_value S cols (flip (next_there rows i r there) j) at c.depth))
 
 -- a row once an answer is there
 
@@ -196,39 +212,6 @@ pub asks_on : (result : Result Ask NoMemory) (ns : List PoolNode) (m m0 m1 : Mat
     → IfOk result (λ ask. (rules : List PlainRule) → Stands rules m1 → Asks rules ns m ask (due rules)) → IfOk result (λ ask. (rules : List PlainRule) → Stands rules m0 → Asks rules ns m ask (due' rules))
 asks_on (Ok ask) ns m m0 m1 due due' f e h = λ rules s. asks_same rules ns m ask (due rules) (due' rules) (e rules s) (h rules (f rules s))
 asks_on (Err stop) ns m m0 m1 due due' f e h = tt
-
--- the same at a row that is the first one left
-
-pub asks_here : (result : Result Ask NoMemory) (ns : List PoolNode) (m m0 m1 : Matcher) (r : HeldRow) (due due' : List PlainRule → PlainSignature → ℕ → Units (Option Selected))
-    → ((rules : List PlainRule) → Stands rules m0 → Stands rules m1) → ((rules : List PlainRule) → Stands rules m0 → IsHere rules m0 r → (S : PlainSignature) (n : ℕ) → due' rules S n ≡ due rules S n)
-    → IfOk result (λ ask. (rules : List PlainRule) → Stands rules m1 → Asks rules ns m ask (due rules))
-    → IfOk result (λ ask. (rules : List PlainRule) → Stands rules m0 → IsHere rules m0 r → Asks rules ns m ask (due' rules))
-asks_here (Ok ask) ns m m0 m1 r due due' f e h = λ rules s q. asks_same rules ns m ask (due rules) (due' rules) (e rules s q) (h rules (f rules s))
-asks_here (Err stop) ns m m0 m1 r due due' f e h = tt
-
--- the same where something more is known
-
-pub asks_from : (result : Result Ask NoMemory) (ns : List PoolNode) (m m0 m1 : Matcher) (P : List PlainRule → Type 0) (due due' : List PlainRule → PlainSignature → ℕ → Units (Option Selected))
-    → ((rules : List PlainRule) → Stands rules m0 → Stands rules m1) → ((rules : List PlainRule) → Stands rules m0 → P rules)
-    → ((rules : List PlainRule) → Stands rules m0 → (S : PlainSignature) (n : ℕ) → due' rules S n ≡ due rules S n)
-    → IfOk result (λ ask. (rules : List PlainRule) → Stands rules m1 → P rules → Asks rules ns m ask (due rules))
-    → IfOk result (λ ask. (rules : List PlainRule) → Stands rules m0 → Asks rules ns m ask (due' rules))
-asks_from (Ok ask) ns m m0 m1 P due due' f q e h = λ rules s. asks_same rules ns m ask (due rules) (due' rules) (e rules s) (h rules (f rules s) (q rules s))
-asks_from (Err stop) ns m m0 m1 P due due' f q e h = tt
-
-pub asks_where : (result : Result Ask NoMemory) (ns : List PoolNode) (m m0 : Matcher) (P Q : List PlainRule → Type 0) (due due' : List PlainRule → PlainSignature → ℕ → Units (Option Selected))
-    → ((rules : List PlainRule) → Stands rules m0 → P rules → Q rules) → ((rules : List PlainRule) → Stands rules m0 → P rules → (S : PlainSignature) (n : ℕ) → due' rules S n ≡ due rules S n)
-    → IfOk result (λ ask. (rules : List PlainRule) → Stands rules m0 → Q rules → Asks rules ns m ask (due rules))
-    → IfOk result (λ ask. (rules : List PlainRule) → Stands rules m0 → P rules → Asks rules ns m ask (due' rules))
-asks_where (Ok ask) ns m m0 P Q due due' f e h = λ rules s p. asks_same rules ns m ask (due rules) (due' rules) (e rules s p) (h rules s (f rules s p))
-asks_where (Err stop) ns m m0 P Q due due' f e h = tt
-
-pub asks_whatever : (result : Result Ask NoMemory) (ns : List PoolNode) (m m0 : Matcher) (P : List PlainRule → Type 0) (due due' : List PlainRule → PlainSignature → ℕ → Units (Option Selected))
-    → ((rules : List PlainRule) → Stands rules m0 → P rules → (S : PlainSignature) (n : ℕ) → due' rules S n ≡ due rules S n)
-    → IfOk result (λ ask. (rules : List PlainRule) → Stands rules m0 → Asks rules ns m ask (due rules))
-    → IfOk result (λ ask. (rules : List PlainRule) → Stands rules m0 → P rules → Asks rules ns m ask (due' rules))
-asks_whatever (Ok ask) ns m m0 P due due' e h = λ rules s p. asks_same rules ns m ask (due rules) (due' rules) (e rules s p) (h rules s)
-asks_whatever (Err stop) ns m m0 P due due' e h = tt
 
 -- the guards of a row
 

@@ -8,9 +8,9 @@ use Rattle.dk_model.specs.Matrix.{is_bare}
 use Rattle.dk_model.specs.Matrix.{Column as PlainColumn}
 use Rattle.shared_term.specs.declared.id.TermId.{TermId}
 use Rattle.shared_term.specs.Pools.{Node, term}
-use Rattle.rule_tree.specs.declared.key.Key.TheVariants.{Abstraction}
+use Rattle.rule_match.specs.declared.key.Key.TheVariants.{Abstraction}
 use Rattle.rule_match.specs.declared.value.Column.{Column}
-use Rattle.rule_tree.specs.Keys.{key_at, key_of}
+use Rattle.rule_match.specs.Keys.{key_at, key_of}
 use Rattle.rule_match.specs.Columns.{AreWithin, behind, wound, from_top, is_application, column, argument_column, AreColumns, IsHeadOf}
 
 -- a stack from its top

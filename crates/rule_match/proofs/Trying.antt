@@ -16,13 +16,13 @@ use Rattle.shared_term.specs.declared.id.TermId.{TermId}
 use Rattle.shared_term.specs.Pools.{Node, term, Extends, Moves}
 use Rattle.shared_term.specs.Storage.{stored_term}
 use Rattle.shared_term.specs.Changes.{AreCaptures, captured_terms}
-use Rattle.rule_tree.specs.declared.cell.Cell.{Cell}
+use Rattle.rule_match.specs.declared.cell.Cell.{Cell}
 use Rattle.rule_match.specs.declared.value.Column.{Column}
 use Rattle.rule_match.specs.declared.row.Step.{Step}
 use Rattle.rule_match.specs.declared.row.Step.TheVariants.{Captures as Catches}
 use Rattle.rule_match.specs.declared.row.Caught.{Caught}
 use Rattle.rule_match.specs.declared.row.Caught.TheVariants.{On, Escapes, Compares}
-use Rattle.rule_tree.specs.Rows.{plain_cell}
+use Rattle.rule_match.specs.Rows.{plain_cell}
 use Rattle.rule_match.specs.Columns.{column, plain, AreColumns}
 use Rattle.rule_match.specs.Standing.{passed, after_cell, cell_normal, cell_compared, guards_from, guard_compared}
 use Rattle.rule_match.specs.Trying.{step_cell, ActsAs, IsGuard, HasGuard, Records, CellSteps, cell_due, column_at}

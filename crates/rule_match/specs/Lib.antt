@@ -1,4 +1,9 @@
-pub mod Rules
+pub mod Keys
+pub mod Rows
+pub mod Branches
+pub mod Groups
+pub mod Sides
+pub mod Trees
 pub mod Columns
 pub mod Standing
 pub mod Trying

@@ -1,10 +1,9 @@
 -- For callers: what a matcher stands for: what is left of a selection, and what it asks for next.
-use Rattle.std.specs.Prelude.{ℕ, ◌≡◌, ◌<◌, ◌+◌, ◌^◌, Option, Some, None, Bool, true, false, List, [], ◌∷◌, ◌++◌, map, length, take, slice_get}
+use Rattle.std.specs.Prelude.{ℕ, ◌≡◌, ◌<◌, ◌+◌, ◌^◌, Option, Some, None, Bool, true, false, List, map, length, take, drop}
 use Rattle.dk_model.specs.Trees.{Tree}
 use Rattle.dk_model.specs.Signatures.{PlainRule, PlainSignature}
 use Rattle.dk_model.specs.Units.{Units, bind}
 use Rattle.dk_model.specs.Matrix.{cell_at, rows_for, width}
-use Rattle.dk_model.specs.Matrix.{Row as PlainRow}
 use Rattle.dk_model.specs.Selection.{Selected}
 use Rattle.dk_model.specs.Evaluation.{whnf_of, comparison_of, normal_of}
 use Rattle.dk_model.specs.Equations.{selection_of}
@@ -18,12 +17,9 @@ use Rattle.rule_match.specs.declared.matcher.Ask.TheVariants.{Evaluate, Escape, 
 use Rattle.rule_match.specs.declared.matcher.Stage.{Stage}
 use Rattle.rule_match.specs.declared.matcher.Stage.TheVariants.{Begins, Evaluates, Escapes, Compares, Guards, Ends}
 use Rattle.rule_match.specs.declared.matcher.Matcher.{Matcher}
-use Rattle.rule_tree.specs.declared.cell.Row.{Row}
-use Rattle.rule_tree.specs.Rows.{row, rule_at}
-use Rattle.rule_tree.specs.Along.{rule_rows}
-use Rattle.rule_tree.specs.declared.along.Test.{Test}
+use Rattle.rule_match.specs.Rows.{row, rule_at}
 use Rattle.rule_match.specs.Columns.{plain, argument_column, from_top, AreColumns}
-use Rattle.rule_match.specs.Remaining.{source_rules, rows_left, IsLeft}
+use Rattle.rule_match.specs.Remaining.{rows_left, IsSource, IsLeftOf, rule_count, ArePlaced}
 use Rattle.rule_match.specs.Trying.{column_at}
 use Rattle.rule_match.specs.Standing.{after_cell, cell_normal, cell_compared, guard_compared, finished, decided, capturing, guarding, with_value}
 
@@ -42,22 +38,18 @@ pub record IsTried (count at tried : ℕ) : Type 0 where
 
 -- that, while an answer for the row that is tried is awaited
 abbrev pub Tries : ℕ → ℕ → ℕ → Stage → Type 0
-Tries count at tried (Evaluates i) = IsTried count at tried
 Tries count at tried (Escapes i) = IsTried count at tried
 Tries count at tried (Compares i) = IsTried count at tried
 Tries count at tried (Guards i) = IsTried count at tried
 Tries count at tried stage = Unit {0}
 
--- the rules of a matcher
-abbrev pub matcher_rules : Matcher → List PlainRule
-matcher_rules m = source_rules m.source
-
--- the terms of a matcher are of a pool of so many nodes, and the row that it tries has the place of a rule
+-- the terms of a matcher are of a pool of so many nodes, and its rows have the places of rules
 pub record IsMatcher (n : ℕ) (m : Matcher) : Type 0 where
   pub columns : AreColumns n m.columns.items
   pub captures : AreCaptures n m.captures.items
   pub stage : IsStage (length m.columns.items) (length m.row.cells.items) m.stage
-  pub tried : Tries (length (matcher_rules m)) m.row.at m.tried m.stage
+  pub tried : Tries (rule_count m.source) m.row.at m.tried m.stage
+  pub placed : ArePlaced m.source m.left
 
 -- the answer is of the kind that was asked for last, and its term of a pool of so many nodes
 abbrev pub IsAnswer : ℕ → Stage → Answer → Type 0
@@ -93,35 +85,10 @@ IsAsk n (Same a b) = (a.0 < n) × (b.0 < n)
 IsAsk n (Take at cs) = AreCaptures n cs.items
 IsAsk n Nothing = Unit {0}
 
--- the row is that of its rule along these tests
-abbrev pub IsMade : List PlainRule → Matcher → List Test → Row → Type 0
-IsMade rules m tests r = row rules r ∷ [] ≡ rule_rows m.source.width tests (slice_get rules r.at)
-
--- so is the row that asked for a value
-abbrev pub HasAsked : List PlainRule → Matcher → Stage → Type 0
-HasAsked rules m (Evaluates i) = IsMade rules m m.tests.items m.row
-HasAsked rules m stage = Unit {0}
-
 -- the rules are these, and the rows left are theirs
 pub record Stands (rules : List PlainRule) (m : Matcher) : Type 0 where
-  pub source : matcher_rules m ≡ rules
-  pub left : IsLeft rules m.source.width m.tests.items m.left
-  pub asked : HasAsked rules m m.stage
-
--- the row that asked for a value was made along the tests before this last one
-pub record AskedBefore (rules : List PlainRule) (m : Matcher) (test : Test) : Type 0 where
-  pub tests : List Test
-  pub tests_are : m.tests.items ≡ tests ++ test ∷ []
-  pub made : IsMade rules m tests m.row
-
--- the rows that are left of a matcher once so many of its rules are done with
-abbrev pub rows_after : List PlainRule → Matcher → ℕ → List PlainRow
-rows_after rules m tried = rows_left rules m.source.width m.tests.items m.left tried
-
--- the row is the first one that is left
-pub record IsHere (rules : List PlainRule) (m : Matcher) (r : Row) : Type 0 where
-  pub first : rows_after rules m m.tried ≡ row rules r ∷ rows_after rules m (m.tried + 1)
-  pub made : IsMade rules m m.tests.items r
+  pub source : IsSource rules m.source
+  pub left : IsLeftOf rules m.source m.left
 
 -- the term that stands in a column
 abbrev pub term_in : List PoolNode → Matcher → ℕ → Tree
@@ -130,43 +97,43 @@ term_in ns m i = (column_at (plain ns m.columns.items) i).term
 module _ (S : PlainSignature) (rules : List PlainRule) (ns : List PoolNode) (m : Matcher) where
   -- the selection of the rows that were not tried
   abbrev pub selects : ℕ → Units (Option Selected)
-  selects n = selection_of S n (plain ns m.columns.items) (rows_after rules m m.tried)
+  selects n = selection_of S n (plain ns m.columns.items) (drop m.tried (rows_left rules m.left))
 
   -- the selection once the row that is tried has failed
   abbrev pub fails : ℕ → Units (Option Selected)
-  fails n = selection_of S n (plain ns m.columns.items) (rows_after rules m (m.tried + 1))
+  fails n = selection_of S n (plain ns m.columns.items) (drop (m.tried + 1) (rows_left rules m.left))
 
   -- the selection while the row that is tried captures, from the cell at `i` on
   abbrev pub captures_due : ℕ → ℕ → Units (Option Selected)
-  captures_due i n = capturing S (row rules m.row) (rows_after rules m (m.tried + 1)) (plain ns m.columns.items) i (captured_terms ns m.captures.items) n
+  captures_due i n = capturing S (row rules m.row) (drop (m.tried + 1) (rows_left rules m.left)) (plain ns m.columns.items) i (captured_terms ns m.captures.items) n
 
   -- the same while its guards are compared
   abbrev pub guards_due : ℕ → ℕ → Units (Option Selected)
-  guards_due i n = guarding S (row rules m.row) (rows_after rules m (m.tried + 1)) (plain ns m.columns.items) i (captured_terms ns m.captures.items) n
+  guards_due i n = guarding S (row rules m.row) (drop (m.tried + 1) (rows_left rules m.left)) (plain ns m.columns.items) i (captured_terms ns m.captures.items) n
 
   -- what is left once a column has its value
   abbrev pub after_value : ℕ → Tree → ℕ → Units (Option Selected)
-  after_value i v n = with_value S (plain ns m.columns.items) (rows_after rules m m.tried) i (column_at (plain ns m.columns.items) i).depth v n
+  after_value i v n = with_value S (plain ns m.columns.items) (drop m.tried (rows_left rules m.left)) i (column_at (plain ns m.columns.items) i).depth v n
 
   -- once a part has its normal form
   abbrev pub after_normal : ℕ → Tree → ℕ → Units (Option Selected)
   after_normal i u n =
       bind (bind (cell_normal (normal_of S) (comparison_of S) (cell_at (row rules m.row).cells i) (column_at (plain ns m.columns.items) i) (captured_terms ns m.captures.items) u n)
       (after_cell (normal_of S) (comparison_of S) (row rules m.row).cells (plain ns m.columns.items) i))
-      (finished S (row rules m.row) (rows_after rules m (m.tried + 1)))
+      (finished S (row rules m.row) (drop (m.tried + 1) (rows_left rules m.left)))
 
   -- once a part was compared with what its variable captured before
   abbrev pub after_compared : ℕ → Bool → ℕ → Units (Option Selected)
   after_compared i alike n =
       bind (bind (cell_compared (column_at (plain ns m.columns.items) i) (captured_terms ns m.captures.items) alike n)
       (after_cell (normal_of S) (comparison_of S) (row rules m.row).cells (plain ns m.columns.items) i))
-      (finished S (row rules m.row) (rows_after rules m (m.tried + 1)))
+      (finished S (row rules m.row) (drop (m.tried + 1) (rows_left rules m.left)))
 
   -- once a part was compared with the guard
   abbrev pub after_guard : ℕ → Bool → ℕ → Units (Option Selected)
   after_guard i alike n =
       bind (guard_compared (comparison_of S) (row rules m.row).cells (plain ns m.columns.items) (i + 1) (captured_terms ns m.captures.items) alike n)
-      (decided S (row rules m.row) (rows_after rules m (m.tried + 1)) (plain ns m.columns.items) (captured_terms ns m.captures.items))
+      (decided S (row rules m.row) (drop (m.tried + 1) (rows_left rules m.left)) (plain ns m.columns.items) (captured_terms ns m.captures.items))
 
   -- the selection `due` asks for this first, and goes on with the answer; or it comes to this
   abbrev pub AsksFor : Stage → Ask → (ℕ → Units (Option Selected)) → Type 0
@@ -203,5 +170,6 @@ pub record Asks (rules : List PlainRule) (ns : List PoolNode) (m : Matcher) (ask
 pub record IsStart (rules : List PlainRule) (args : List TermId) (m : Matcher) : Type 0 where
   pub stands : Stands rules m
   pub columns : m.columns.items ≡ map (argument_column 0) (take (width (length args) rules) (from_top args))
-  pub rows : rows_after rules m m.tried ≡ rows_for (length args) (width (length args) rules) rules
+  pub rows : rows_left rules m.left ≡ rows_for (length args) (width (length args) rules) rules
+  pub tried : m.tried ≡ 0
   pub stage : m.stage ≡ Begins

@@ -12,7 +12,7 @@ use Rattle.shared_term.specs.declared.id.TermId.{TermId}
 use Rattle.shared_term.specs.Pools.{Node, term}
 use Rattle.shared_term.specs.Storage.{stored_term}
 use Rattle.shared_term.specs.Changes.{captured_terms, capture_id}
-use Rattle.rule_tree.specs.declared.cell.Cell.{Cell}
+use Rattle.rule_match.specs.declared.cell.Cell.{Cell}
 use Rattle.rule_match.specs.declared.value.Column.{Column}
 use Rattle.rule_match.specs.declared.row.Step.{Step}
 use Rattle.rule_match.specs.declared.row.Step.TheVariants.{Passes, Captures as Catches, Guards}
@@ -21,7 +21,7 @@ use Rattle.rule_match.specs.declared.row.Caught.TheVariants.{On, Escapes, Compar
 use Rattle.rule_match.specs.declared.row.Passage.{Passage}
 use Rattle.rule_match.specs.declared.row.Passage.TheVariants.{Through, Escapes as EscapesAt, Compares as ComparesAt}
 use Rattle.rule_match.specs.declared.row.NextGuard.{NextGuard}
-use Rattle.rule_tree.specs.Rows.{plain_cell}
+use Rattle.rule_match.specs.Rows.{plain_cell}
 use Rattle.rule_match.specs.Columns.{column, plain}
 use Rattle.rule_match.specs.Standing.{passed, after_cell, cell_normal, cell_compared, guards_from, guard_compared}
 

@@ -1,271 +1,274 @@
-//! The rules that may be left of a selection: those of a node of their tree, then those behind the tree. A row is made where
-//! it is tried, of its rule, along the tests that the selection has passed.
-ghost use Rattle.std.specs.Prelude.{◌≡◌, ◌<◌, ◌≤◌, ◌+◌, ◌^◌, ℕ, List, Some, IsTrue, IfOk, IfSome, length, slice_get, drop, max};
-ghost use Rattle.std.specs.Option.{option_map};
+//! The rows that are left of a selection: those of a node, or rows that were worked out.
+ghost use Rattle.std.specs.Prelude.{◌≡◌, ◌≤◌, ◌<◌, ◌+◌, ◌^◌, IfOk, IfSome, List, slice_get, map, drop};
+ghost use Rattle.std.specs.Option.{option_copied, option_map};
 ghost use Rattle.dk_model.specs.Signatures.{PlainRule};
-ghost use Rattle.dk_model.specs.Matrix.{width};
-ghost use Rattle.signature_log.specs.Rows.{row_rules};
-ghost use Rattle.rule_tree.specs.declared.along.Test.{Test};
-ghost use Rattle.rule_tree.specs.Rows.{rule_at as rule_of};
-ghost use Rattle.rule_tree.specs.Along.{row_list, rule_rows};
-ghost use Rattle.rule_tree.specs.Trees.{IsTree};
-ghost use Rattle.rule_match.specs.Rules.{plain_rule_of};
-ghost use Rattle.rule_match.specs.Remaining.{source_rules, candidates, IsStanding, IsLeft, Begins, GoesOn, IsStandingAfter, IsNextRow};
+ghost use Rattle.dk_model.specs.Matrix.{rows_for, width, width as width_of};
+ghost use Rattle.rule_match.specs.Rows.{row as row_of};
+ghost use Rattle.rule_match.specs.declared.left.Left.TheVariants.{Kept, Whole};
+ghost use Rattle.rule_match.specs.Keys.{rows_by};
+ghost use Rattle.rule_match.specs.Sides.{AreLeftSides};
+ghost use Rattle.rule_match.specs.Branches.{IsNode};
+ghost use Rattle.rule_match.specs.Trees.{IsTree};
+ghost use Rattle.rule_match.specs.Remaining.{rows_left, IsLeft, Follows, GoesOn, IsRoot, IsSource, IsLeftOf, HasVariables, WalksFrom, rule_count};
 
-use crate::rules::{SymbolRule, rule_at};
+use crate::branch::{Node, found};
+use crate::cell::{Row, seen_row, seen_rows};
+use crate::key::Key;
+use crate::refine::{refined_rows, untried};
+use crate::side::{rows_for, width};
+use crate::tree::Tree;
+use crate::walk::{LeftSide, walked_kept, walked_row, walked_rows, walked_width, widest_side};
 use dk_model::NoMemory;
-use rule_tree::{Node, Row, Test, Tree, row_along};
-use signature_log::Rows;
 use std::alloc::Global;
 
-/// Where the rules of a selection stand, and over how many columns it begins.
-#[derive(Clone, Copy)]
-pub(crate) struct Source<'t> {
-    pub(crate) symbol: u32,
-    pub(crate) rules: Rows<'t>,
-    pub(crate) width: usize,
-}
-
-/// A node of a tree.
-#[derive(Clone, Copy)]
-pub(crate) struct Standing<'t> {
-    pub(crate) tree: &'t Tree,
-    pub(crate) node: &'t Node,
-}
-
-/// The rules that may be left, by their places. Whether one of them is left is seen when its row is made.
-#[derive(Clone, Copy)]
-pub(crate) struct Left<'t> {
-    /// The node of the tests that were passed, as long as the tree has one.
-    pub(crate) standing: Option<Standing<'t>>,
-    /// Those of the last node.
-    pub(crate) places: &'t [usize],
-    /// The first one that the tree isn't of.
-    pub(crate) behind: usize,
-}
-
-/// A row that is left, and how many of the rules before it are done with.
+/// The rows that are left.
 #[derive(Drop)]
-pub(crate) struct NextRow<'t> {
-    pub(crate) tried: usize,
-    pub(crate) row: Row<'t>,
+pub(crate) enum Left<'t> {
+    /// Those of a node.
+    Kept(&'t Node),
+    /// All rules, none of which has more patterns than there are arguments, as rows of so many cells.
+    Whole(usize),
+    Walked(Vec<Row<'t>>),
 }
 
-/// How many of the first rules have a tree and at most `count` patterns each, and the greatest number of patterns of these.
-#[tactic(auto, using(crate::proofs::Putting::front_wide))]
-fn front_width(tree: Option<&Tree>, count: usize) -> (usize, usize)
-    ensures within { result.1 ≤ count }
-    ensures width { (rules : List PlainRule) → IfSome tree.entry (λ t. IsTree rules t.now)
-        → max result.1 (width count (drop result.0 rules)) ≡ width count rules }
+/// Where the rules of a selection stand.
+#[derive(Drop)]
+pub(crate) enum Source<'t> {
+    Tree(&'t Tree),
+    /// Where they were declared: they have no tree.
+    Sides(Vec<LeftSide<'t>>),
+}
+
+/// The row of the rule at a place.
+fn whole_row<'t>(
+    alloc: Global,
+    source: &Source<'t>,
+    width: usize,
+    at: usize,
+) -> Result<Option<Row<'t>>, NoMemory>
+    ensures is { IfOk result (λ o. (rules : List PlainRule) → IsSource rules source.now
+        → IsLeftOf rules source.now (Whole width)
+        → option_map (row_of rules) o ≡ slice_get (rows_for width width rules) at) }
+    ensures counted { IfOk result (λ o. IfSome o (λ _. at + 1 < 2 ^ 64)) }
 {
-    if let Some(tree) = tree {
-        if tree.width() <= count {
-            return (tree.rule_count(), tree.width());
-        }
-    }
-    (0, 0)
-}
-
-/// How many columns the rules of at most `count` patterns need.
-pub(crate) fn width_before(rules: &Rows, symbol: u32, tree: Option<&Tree>, count: usize) -> usize
-    requires { IfSome tree (λ t. IsTree (row_rules symbol rules.now) t.now) }
-    ensures within { result ≤ count }
-    ensures width { result ≡ width count (row_rules symbol rules.now) }
-{
-    let (from, before) = front_width(tree, count);
-    let mut width = before;
-    for at in from..rules.len() as usize {
-        let patterns = rule_at(rules, symbol, at as u32).pattern_count();
-        if patterns <= count && width < patterns {
-            width = patterns;
-        }
-    }
-    width
-}
-
-impl<'t> Source<'t> {
-    /// The rule at a place, if there is one.
-    #[tactic(auto, using(crate::proofs::Leaving::rule_past))]
-    pub(crate) fn rule(&self, at: usize) -> Option<SymbolRule<'t>>
-        ensures { option_map plain_rule_of result ≡ slice_get (source_rules self.now) at }
-    {
-        if at < self.rules.len() as usize {
-            Some(rule_at(&self.rules, self.symbol, at as u32))
-        } else {
-            None
-        }
-    }
-
-    /// How many variables the rule at a place has.
-    #[tactic(auto, using(crate::proofs::Leaving::rule_absent))]
-    pub(crate) fn variable_count(&self, at: usize) -> u32
-        requires { at < length (source_rules self.now) }
-        ensures { result ≡ (rule_of (source_rules self.now) at).vars }
-    {
-        match self.rule(at) {
-            Some(rule) => rule.variable_count(),
-            None => unreachable!(),
-        }
-    }
-
-    /// The row of the rule at a place as the tests leave it, where they leave it.
-    fn row_of(
-        &self,
-        alloc: Global,
-        place: usize,
-        tests: &[Test],
-    ) -> Result<Option<Row<'t>>, NoMemory>
-        ensures rows { IfOk result (λ o. row_list (source_rules self.now) o
-            ≡ rule_rows self.now.width tests.now (slice_get (source_rules self.now) place)) }
-        ensures there { IfOk result (λ o. IfSome o (λ r. r.at < length (source_rules self.now))) }
-        ensures at { IfOk result (λ o. IfSome o (λ r. r.at ≡ place)) }
-    {
-        match self.rule(place) {
-            Some(rule) => row_along(alloc, self.width, rule.patterns(), place, tests),
+    match source {
+        Source::Tree(_) => Ok(None),
+        Source::Sides(sides) => match sides.get(at) {
+            Some(side) => Ok(Some(walked_row(alloc, width, *side, at)?)),
             None => Ok(None),
-        }
-    }
-
-    /// Whether this rule is the one that stands there among those that may be left.
-    pub(crate) fn stands_at(&self, left: &Left<'t>, tried: usize, at: usize) -> bool
-        ensures is { IsTrue result
-            → slice_get (candidates (length (source_rules self.now)) left.now) tried ≡ Some at }
-        ensures counted { IsTrue result → tried + 1 < 2 ^ 64 }
-    {
-        let rules = self.rules.len();
-        let total = left.count(rules);
-        if tried >= total {
-            return false;
-        }
-        left.place_at(rules, tried) == at
-    }
-
-    /// The first row that is left from this one of the rules on.
-    pub(crate) fn next_row(
-        &self,
-        alloc: Global,
-        left: &Left<'t>,
-        tests: &[Test],
-        from: usize,
-    ) -> Result<Option<NextRow<'t>>, NoMemory>
-        ensures { IfOk result (IsNextRow (source_rules self.now) self.now.width tests.now left.now from) }
-    {
-        let rules = self.rules.len();
-        let total = left.count(rules);
-        for tried in from..total {
-            let place = left.place_at(rules, tried);
-            match self.row_of(alloc, place, tests)? {
-                None => {}
-                Some(row) => return Ok(Some(NextRow { tried, row })),
-            }
-        }
-        Ok(None)
+        },
     }
 }
 
-impl<'t> Standing<'t> {
-    /// The node behind this test, where the tree has one.
-    fn after(&self, tried: usize, test: Test) -> Option<Standing<'t>>
-        ensures { IfSome result (λ next. (rules : List PlainRule) (w : ℕ) (tests : List Test) (places : List ℕ)
-            → IsStanding rules w tests places self.now
-            → IsStandingAfter rules w tests places tried test next) }
-    {
-        match self.tree.after(self.node, tried, test) {
-            Some(node) => Some(Standing {
-                tree: self.tree,
-                node,
-            }),
-            None => None,
-        }
+/// The row at a place.
+pub(crate) fn row_at<'t>(
+    alloc: Global,
+    source: &Source<'t>,
+    left: &Left<'t>,
+    at: usize,
+) -> Result<Option<Row<'t>>, NoMemory>
+    ensures is { IfOk result (λ o. (rules : List PlainRule) → IsSource rules source.now
+        → IsLeftOf rules source.now left.now
+        → option_map (row_of rules) o ≡ slice_get (rows_left rules left.now) at) }
+    ensures counted { IfOk result (λ o. IfSome o (λ _. at + 1 < 2 ^ 64)) }
+{
+    match left {
+        Left::Kept(node) => match node.rows.get(at) {
+            Some(row) => Ok(Some(seen_row(alloc, row)?)),
+            None => Ok(None),
+        },
+        Left::Whole(width) => whole_row(alloc, source, *width, at),
+        Left::Walked(rows) => match rows.get(at) {
+            Some(row) => {
+                let cells = Vec::from_slice(alloc, row.cells.as_slice())?;
+                Ok(Some(Row { cells, at: row.at }))
+            }
+            None => Ok(None),
+        },
     }
 }
 
-impl<'t> Left<'t> {
-    /// All rules: those of the first node, where there is one for so many columns, and those behind its tree.
-    pub(crate) fn all(tree: Option<&'t Tree>, width: usize) -> Left<'t>
-        ensures { (rules : List PlainRule) → IfSome tree.entry (λ t. IsTree rules t.now)
-            → Begins rules width result }
-    {
-        if let Some(tree) = tree {
-            if let Some(node) = tree.root(width) {
-                return Left {
-                    standing: Some(Standing { tree, node }),
-                    places: node.places(),
-                    behind: tree.rule_count(),
-                };
-            }
+/// The node at a place.
+fn node_at<'t>(tree: &'t Tree, place: usize) -> Option<&'t Node>
+    ensures { option_copied result ≡ slice_get tree.now.nodes.items place }
+{
+    tree.nodes.as_slice().get(place)
+}
+
+/// The node that a test at this column goes to.
+fn branch_for<'t>(
+    tree: &'t Tree,
+    node: &'t Node,
+    tried: usize,
+    key: Key,
+    column: usize,
+) -> Option<&'t Node>
+    ensures { IfSome result (λ child. (rules : List PlainRule) → IsTree rules tree.now
+        → IsNode rules tree.now.nodes.items node.now
+        → Follows rules tree.now node.now tried key column child.now) }
+{
+    if node.tried != tried || node.column != column {
+        return None;
+    }
+    match found(node.branches.as_slice(), key) {
+        Some(place) => node_at(tree, place),
+        None => None,
+    }
+}
+
+/// The node that the tree goes to from the rows that are left, where it has one for this head.
+fn next_node<'t>(
+    source: &Source<'t>,
+    left: &Left<'t>,
+    tried: usize,
+    key: Key,
+    column: usize,
+) -> Option<&'t Node>
+    ensures { IfSome result (λ child. (rules : List PlainRule) → IsSource rules source.now
+        → IsLeftOf rules source.now left.now
+        → GoesOn rules source.now left.now tried key column (Kept child)) }
+{
+    match source {
+        Source::Tree(tree) => match left {
+            Left::Kept(node) => branch_for(tree, node, tried, key, column),
+            Left::Whole(_) => None,
+            Left::Walked(_) => None,
+        },
+        Source::Sides(_) => None,
+    }
+}
+
+/// The rows of all rules that are kept where the value of this column has this head.
+fn whole_for<'t>(
+    alloc: Global,
+    source: &Source<'t>,
+    width: usize,
+    tried: usize,
+    key: Key,
+    column: usize,
+) -> Result<Vec<Row<'t>>, NoMemory>
+    ensures { IfOk result (λ kept. (rules : List PlainRule) → IsSource rules source.now
+        → IsLeftOf rules source.now (Whole width)
+        → map (row_of rules) kept.items ≡ rows_by key column (drop tried (rows_for width width rules))) }
+{
+    match source {
+        Source::Tree(_) => Ok(Vec::new(alloc)),
+        Source::Sides(sides) => walked_kept(alloc, sides.as_slice(), width, tried, key, column),
+    }
+}
+
+/// The rows that are kept where the value of this column has this head, worked out.
+fn walked_for<'t>(
+    alloc: Global,
+    source: &Source<'t>,
+    left: &Left<'t>,
+    tried: usize,
+    key: Key,
+    column: usize,
+) -> Result<Vec<Row<'t>>, NoMemory>
+    ensures { IfOk result (λ kept. (rules : List PlainRule) → IsSource rules source.now
+        → IsLeftOf rules source.now left.now
+        → map (row_of rules) kept.items ≡ rows_by key column (drop tried (rows_left rules left.now))) }
+{
+    match left {
+        Left::Kept(node) => {
+            let rows = seen_rows(alloc, node.rows.as_slice())?;
+            refined_rows(alloc, key, column, untried(rows.as_slice(), tried))
         }
-        Left {
-            standing: None,
-            places: &[],
-            behind: 0,
+        Left::Whole(width) => whole_for(alloc, source, *width, tried, key, column),
+        Left::Walked(rows) => refined_rows(alloc, key, column, untried(rows.as_slice(), tried)),
+    }
+}
+
+/// The rows that are kept where the value of this column has this head.
+pub(crate) fn kept_for<'t>(
+    alloc: Global,
+    source: &Source<'t>,
+    left: &Left<'t>,
+    tried: usize,
+    key: Key,
+    column: usize,
+) -> Result<Left<'t>, NoMemory>
+    ensures { IfOk result (λ next. (rules : List PlainRule) → IsSource rules source.now
+        → IsLeftOf rules source.now left.now → GoesOn rules source.now left.now tried key column next) }
+{
+    if let Some(child) = next_node(source, left, tried, key, column) {
+        return Ok(Left::Kept(child));
+    }
+    let kept = walked_for(alloc, source, left, tried, key, column)?;
+    Ok(Left::Walked(kept))
+}
+
+/// How many variables a rule has.
+pub(crate) fn variable_count(source: &Source, at: usize) -> u32
+    requires { at < rule_count source.now }
+    ensures { (rules : List PlainRule) → IsSource rules source.now → HasVariables rules at result }
+{
+    match source {
+        Source::Tree(tree) => tree.sides[at].vars,
+        Source::Sides(sides) => sides[at].vars,
+    }
+}
+
+/// How many columns the rules need before so many arguments.
+pub(crate) fn width_before(tree: &Tree, count: usize) -> usize
+    ensures within { result ≤ count }
+    ensures width { (rules : List PlainRule) → IsTree rules tree.now → result ≡ width count rules }
+{
+    if count >= tree.widest {
+        tree.widest
+    } else {
+        width(count, tree.sides.as_slice()).min(count)
+    }
+}
+
+/// The rows of the rules before so many arguments.
+#[tactic(auto, using(crate::proofs::Following::root_rows))]
+pub(crate) fn left_before<'t>(
+    alloc: Global,
+    tree: &'t Tree,
+    count: usize,
+    width: usize,
+) -> Result<Left<'t>, NoMemory>
+    ensures rows { IfOk result (λ left. (rules : List PlainRule) → IsTree rules tree.now
+        → width ≡ width_of count rules → rows_left rules left ≡ rows_for count width rules) }
+    ensures is { IfOk result (λ left. (rules : List PlainRule) → IsTree rules tree.now
+        → IsLeft rules tree.now left) }
+{
+    if count >= tree.widest {
+        if let Some(root) = root_of(tree) {
+            return Ok(Left::Kept(root));
         }
     }
+    Ok(Left::Walked(rows_for(alloc, count, width, tree.sides.as_slice())?))
+}
 
-    /// How many rules may be left of so many.
-    #[tactic(auto, using(crate::proofs::Leaving::counted))]
-    fn count(&self, rules: u32) -> usize
-        ensures is { result ≡ length (candidates rules self.now) }
-        ensures fits { result < 2 ^ 64 }
-    {
-        let beyond = (rules as usize).saturating_sub(self.behind);
-        self.places.len() + beyond
+/// The rows of rules without a tree before so many arguments, and how many columns they have.
+pub(crate) fn walked_before<'t>(
+    alloc: Global,
+    sides: &[LeftSide<'t>],
+    count: usize,
+) -> Result<(usize, Left<'t>), NoMemory>
+    ensures within { IfOk result (λ r. r.0 ≤ count) }
+    ensures begins { IfOk result (λ r. (rules : List PlainRule) → AreLeftSides rules sides.now
+        → WalksFrom rules count r.0 r.1) }
+{
+    let widest = widest_side(sides);
+    if widest <= count {
+        return Ok((widest, Left::Whole(widest)));
     }
+    let width = walked_width(count, sides);
+    let rows = walked_rows(alloc, count, width, sides)?;
+    Ok((width, Left::Walked(rows)))
+}
 
-    /// The place of a rule that may be left.
-    fn place_at(&self, rules: u32, at: usize) -> usize
-        ensures { at < length (candidates rules self.now)
-            → slice_get (candidates rules self.now) at ≡ Some result }
-    {
-        match self.places.get(at) {
-            Some(place) => *place,
-            None => {
-                let beyond = at.saturating_sub(self.places.len());
-                self.behind.saturating_add(beyond)
-            }
-        }
-    }
-
-    /// The node behind this test, where the tree has one. The rules behind the tree have no tests.
-    fn standing_after(&self, tried: usize, test: Test) -> Option<Standing<'t>>
-        ensures is { IfSome result (λ next. (rules : List PlainRule) (w : ℕ) (tests : List Test)
-            → IsLeft rules w tests self.now
-            → IsStandingAfter rules w tests self.now.places.now tried test next) }
-        ensures within { IfSome result (λ _. tried ≤ length self.now.places.now) }
-    {
-        if tried >= self.places.len() {
-            return None;
-        }
-        match self.standing {
-            Some(standing) => standing.after(tried, test),
-            None => None,
-        }
-    }
-
-    /// The rules that may be left after this test of those behind the first `tried`, and how many of them are done with.
-    #[tactic(auto, using(crate::proofs::Leaving::goes_without))]
-    pub(crate) fn after(&self, tried: usize, test: Test) -> (Left<'t>, usize)
-        ensures { (rules : List PlainRule) (w : ℕ) (tests : List Test) → IsLeft rules w tests self.now
-            → GoesOn rules w tests self.now tried test result.0 result.1 }
-    {
-        match self.standing_after(tried, test) {
-            Some(standing) => {
-                let places = standing.node.places();
-                let left = Left {
-                    standing: Some(standing),
-                    places,
-                    behind: self.behind,
-                };
-                (left, 0)
-            }
-            None => {
-                let left = Left {
-                    standing: None,
-                    places: self.places,
-                    behind: self.behind,
-                };
-                (left, tried)
-            }
-        }
+/// The first node.
+fn root_of<'t>(tree: &'t Tree) -> Option<&'t Node>
+    ensures { IfSome result (λ node. (rules : List PlainRule) → IsTree rules tree.now
+        → IsRoot rules tree.now node.now) }
+{
+    match tree.root {
+        Some(place) => node_at(tree, place),
+        None => None,
     }
 }

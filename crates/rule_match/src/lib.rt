@@ -1,14 +1,23 @@
-//! The selection of a rule of a symbol by asking for one answer after another.
+//! Matching trees: the rules of a symbol compiled to tests of heads, and the selection of a rule by asking for one
+//! answer after another.
 //!
-//! The meaning is `selection_of` of dk_model (docs/evaluation.md). Begin at `Matcher::next`; then src/left.rt, which rules
-//! are left, and src/row.rt, what a row captures.
+//! The meaning is `selection_of` of dk_model (docs/evaluation.md). Begin at `Tree` and `Matcher::next`.
 #![tactic(auto)]
 
+mod branch;
+mod cell;
+mod group;
+mod key;
 mod left;
 mod matcher;
+mod nodes;
+mod refine;
 mod row;
-mod rules;
+mod side;
+mod tree;
 mod value;
+mod walk;
 
 pub use matcher::{Answer, Ask, Matcher};
-pub use rules::{SymbolRule, rule_at};
+pub use tree::{Tree, compile};
+pub use walk::LeftSide;

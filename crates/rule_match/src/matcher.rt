@@ -1,21 +1,28 @@
 //! The selection of a rule by asking for one answer after another.
 ghost use Rattle.std.specs.Prelude.{◌≡◌, ℕ, ◌<◌, [], None, IfOk, OnOk, List, length, vec_len, replicate};
 ghost use Rattle.dk_model.specs.Signatures.{PlainRule};
+ghost use Rattle.dk_model.specs.Matrix.{width};
 ghost use Rattle.shared_term.specs.Pools.{Node, term, Extends};
-ghost use Rattle.signature_log.specs.Rows.{row_rules};
-ghost use Rattle.rule_tree.specs.Rows.{plain_cell};
+ghost use Rattle.rule_match.specs.Rows.{plain_cell};
 ghost use Rattle.rule_match.specs.Columns.{AreColumns, AreWithin};
+ghost use Rattle.rule_match.specs.Sides.{AreLeftSides};
+ghost use Rattle.rule_match.specs.Remaining.{rule_count};
 ghost use Rattle.rule_match.specs.Standing.{others_in};
-ghost use Rattle.rule_match.specs.declared.matcher.Stage.TheVariants.{Begins, Evaluates};
-ghost use Rattle.rule_match.specs.Matching.{IsMatcher, matcher_rules, IsTried, IsAnswer, IsAsk, Awaits, Stands, AskedBefore, Asks, IsStart, selects, captures_due, guards_due, after_value, after_normal, after_compared, after_guard, answered, fails, term_in, IsHere};
+ghost use Rattle.rule_match.specs.Trees.{IsTree, IsPlaced};
+ghost use Rattle.rule_match.specs.declared.matcher.Stage.TheVariants.{Begins};
+ghost use Rattle.rule_match.specs.Matching.{IsMatcher, IsTried, IsAnswer, IsAsk, Awaits, Stands, Asks, IsStart, selects, captures_due, guards_due, after_value, after_normal, after_compared, after_guard, answered, fails, term_in};
 
-use crate::left::{Left, Source, width_before};
+use crate::cell::{Cell, Row};
+use crate::left::{
+    Left, Source, kept_for, left_before, row_at, variable_count, walked_before, width_before,
+};
+use crate::refine::{cell_of, rigid_at};
 use crate::row::{Passage, mentions_others, next_guard, pass};
+use crate::tree::Tree;
 use crate::value::{Column, column_of, first_columns, put_column, spliced, taken_apart};
+use crate::walk::LeftSide;
 use dk_model::{NoMemory, Pat};
-use rule_tree::{Cell, Row, Test, after_test, cell_of, rigid_at};
 use shared_term::{Pool, TermId};
-use signature_log::Rows;
 use std::alloc::Global;
 use std::mem;
 
@@ -69,10 +76,8 @@ pub struct Matcher<'t> {
     pub(crate) alloc: Global,
     pub(crate) source: Source<'t>,
     pub(crate) columns: Vec<Column>,
-    /// Of the heads of the values, in the order in which they came.
-    pub(crate) tests: Vec<Test>,
     pub(crate) left: Left<'t>,
-    /// How many of the rules that may be left are done with.
+    /// How many of the rows were tried since the last value.
     pub(crate) tried: usize,
     /// The row that is tried.
     pub(crate) row: Row<'t>,
@@ -111,12 +116,11 @@ fn mentions_still(pool: &mut Pool, cell: Cell, depth: u64, part: TermId) -> Resu
     }
 }
 
-/// A matcher of these columns and rules at its start.
+/// A matcher of these columns and rows at its start.
 fn begun<'t>(alloc: Global, source: Source<'t>, columns: Vec<Column>, left: Left<'t>) -> Matcher<'t>
     ensures source { result.source ≡ source.entry }
     ensures columns { result.columns ≡ columns }
     ensures left { result.left ≡ left.entry }
-    ensures tests { result.tests.items ≡ [] }
     ensures tried { result.tried ≡ 0 }
     ensures captures { result.captures.items ≡ [] }
     ensures begins { result.stage ≡ Begins }
@@ -125,7 +129,6 @@ fn begun<'t>(alloc: Global, source: Source<'t>, columns: Vec<Column>, left: Left
         alloc,
         source,
         columns,
-        tests: Vec::new(alloc),
         left,
         tried: 0,
         row: Row {
@@ -138,28 +141,39 @@ fn begun<'t>(alloc: Global, source: Source<'t>, columns: Vec<Column>, left: Left
 }
 
 impl<'t> Matcher<'t> {
-    /// The selection of a rule of this symbol for these arguments, at its start. The arguments lie on a stack, the first one
+    /// The selection of a rule of the tree for these arguments, at its start. The arguments lie on a stack, the first one
     /// on top.
     pub fn start(
         alloc: Global,
-        rules: Rows<'t>,
-        symbol: u32,
+        tree: &'t Tree,
         arguments: &[TermId],
     ) -> Result<Matcher<'t>, NoMemory>
-        ensures starts { IfOk result (IsStart (row_rules symbol rules.entry) arguments.now) }
+        requires { IsPlaced tree.now }
+        ensures starts { IfOk result (λ m. (rules : List PlainRule) → IsTree rules tree.now
+            → IsStart rules arguments.now m) }
         ensures within { IfOk result (λ m. (n : ℕ) → AreWithin n arguments.now → IsMatcher n m) }
         ensures begins { IfOk result (λ m. m.stage ≡ Begins) }
     {
-        let tree = rules.tree();
-        let width = width_before(&rules, symbol, tree, arguments.len());
+        let width = width_before(tree, arguments.len());
+        let left = left_before(alloc, tree, arguments.len(), width)?;
         let columns = first_columns(alloc, width, arguments)?;
-        let source = Source {
-            symbol,
-            rules,
-            width,
-        };
-        let left = Left::all(tree, width);
-        Ok(begun(alloc, source, columns, left))
+        Ok(begun(alloc, Source::Tree(tree), columns, left))
+    }
+
+    /// The same of rules that have no tree, by their left sides.
+    pub fn walk(
+        alloc: Global,
+        sides: Vec<LeftSide<'t>>,
+        arguments: &[TermId],
+    ) -> Result<Matcher<'t>, NoMemory>
+        ensures starts { IfOk result (λ m. (rules : List PlainRule) → AreLeftSides rules sides.entry.items
+            → IsStart rules arguments.now m) }
+        ensures within { IfOk result (λ m. (n : ℕ) → AreWithin n arguments.now → IsMatcher n m) }
+        ensures begins { IfOk result (λ m. m.stage ≡ Begins) }
+    {
+        let (width, left) = walked_before(alloc, sides.as_slice(), arguments.len())?;
+        let columns = first_columns(alloc, width, arguments)?;
+        Ok(begun(alloc, Source::Sides(sides), columns, left))
     }
 
     /// The term that stands in this column.
@@ -222,58 +236,35 @@ impl<'t> Matcher<'t> {
         ensures within { OnOk result (IsMatcher (length pool.new) self.new) }
         ensures keeps { Extends pool.old pool.new }
     {
-        match self
-            .source
-            .next_row(self.alloc, &self.left, self.tests.as_slice(), self.tried)?
-        {
+        match row_at(self.alloc, &self.source, &self.left, self.tried)? {
             None => {
                 self.stage = Stage::Ends;
                 Ok(Ask::Nothing)
             }
-            Some(next) => {
-                self.tried = next.tried;
-                self.stage = Stage::Begins;
-                self.begin_row(pool, next.row)
-            }
-        }
-    }
-
-    /// A row, which is the first one that is left.
-    fn begin_row(&mut self, pool: &mut Pool, row: Row<'t>) -> Result<Ask, NoMemory>
-        requires within { IsMatcher (length pool.old) self.old }
-        requires tried { IsTried (length (matcher_rules self.old)) row.at self.old.tried }
-        ensures asks { IfOk result (λ ask. (rules : List PlainRule) → Stands rules self.old
-            → IsHere rules self.old row.entry
-            → Asks rules pool.new self.new ask (λ S. selects S rules pool.old self.old)) }
-        ensures awaits { IfOk result (Awaits self.new.stage) }
-        ensures asked { IfOk result (IsAsk (length pool.new)) }
-        ensures within { OnOk result (IsMatcher (length pool.new) self.new) }
-        ensures keeps { Extends pool.old pool.new }
-    {
-        match rigid_at(row.cells.as_slice()) {
-            Some(at) => {
-                if at >= self.columns.len() {
-                    self.stage = Stage::Ends;
-                    return Ok(Ask::Nothing);
+            Some(row) => match rigid_at(row.cells.as_slice()) {
+                Some(at) => {
+                    if at >= self.columns.len() {
+                        self.stage = Stage::Ends;
+                        return Ok(Ask::Nothing);
+                    }
+                    self.stage = Stage::Evaluates(at);
+                    Ok(Ask::Evaluate(at))
                 }
-                self.row = row;
-                self.stage = Stage::Evaluates(at);
-                Ok(Ask::Evaluate(at))
-            }
-            None => {
-                let count = self.source.variable_count(row.at);
-                self.captures = no_captures(self.alloc, count)?;
-                self.row = row;
-                self.stage = Stage::Begins;
-                self.go_through(pool, 0)
-            }
+                None => {
+                    let count = variable_count(&self.source, row.at);
+                    self.captures = no_captures(self.alloc, count)?;
+                    self.row = row;
+                    self.stage = Stage::Begins;
+                    self.go_through(pool, 0)
+                }
+            },
         }
     }
 
     /// The row after the one that failed.
     fn next_row(&mut self, pool: &mut Pool) -> Result<Ask, NoMemory>
         requires within { IsMatcher (length pool.old) self.old }
-        requires tried { IsTried (length (matcher_rules self.old)) self.old.row.at self.old.tried }
+        requires tried { IsTried (rule_count self.old.source) self.old.row.at self.old.tried }
         ensures asks { IfOk result (λ ask. (rules : List PlainRule) → Stands rules self.old
             → Asks rules pool.new self.new ask (λ S. fails S rules pool.old self.old)) }
         ensures awaits { IfOk result (Awaits self.new.stage) }
@@ -289,7 +280,7 @@ impl<'t> Matcher<'t> {
     /// The cells of the row that is tried, from this place on.
     fn go_through(&mut self, pool: &mut Pool, from: usize) -> Result<Ask, NoMemory>
         requires within { IsMatcher (length pool.old) self.old }
-        requires tried { IsTried (length (matcher_rules self.old)) self.old.row.at self.old.tried }
+        requires tried { IsTried (rule_count self.old.source) self.old.row.at self.old.tried }
         ensures asks { IfOk result (λ ask. (rules : List PlainRule) → Stands rules self.old
             → Asks rules pool.new self.new ask (λ S. captures_due S rules pool.old self.old from)) }
         ensures awaits { IfOk result (Awaits self.new.stage) }
@@ -319,7 +310,7 @@ impl<'t> Matcher<'t> {
     /// The guards of the row that is tried, from this place on.
     fn go_guarding(&mut self, pool: &mut Pool, from: usize) -> Result<Ask, NoMemory>
         requires within { IsMatcher (length pool.old) self.old }
-        requires tried { IsTried (length (matcher_rules self.old)) self.old.row.at self.old.tried }
+        requires tried { IsTried (rule_count self.old.source) self.old.row.at self.old.tried }
         ensures asks { IfOk result (λ ask. (rules : List PlainRule) → Stands rules self.old
             → Asks rules pool.new self.new ask (λ S. guards_due S rules pool.old self.old from)) }
         ensures awaits { IfOk result (Awaits self.new.stage) }
@@ -350,7 +341,6 @@ impl<'t> Matcher<'t> {
     fn put_value(&mut self, pool: &mut Pool, at: usize, value: TermId) -> Result<Ask, NoMemory>
         requires within { IsMatcher (length pool.old) self.old }
         requires at { at < vec_len self.old.columns }
-        requires evaluates { self.old.stage ≡ Evaluates at }
         requires value { value.0 < length pool.old }
         ensures asks { IfOk result (λ ask. (rules : List PlainRule) → Stands rules self.old
             → Asks rules pool.new self.new ask
@@ -362,43 +352,18 @@ impl<'t> Matcher<'t> {
     {
         let depth = column_of(self.columns.as_slice(), at).depth;
         let (key, parts) = taken_apart(self.alloc, pool, depth, value)?;
-        let test = Test { column: at, key };
-        let (left, tried) = self.left.after(self.tried, test);
-        self.tests.push(test)?;
-        self.left = left;
-        self.tried = tried;
+        self.left = kept_for(self.alloc, &self.source, &self.left, self.tried, key, at)?;
+        self.tried = 0;
         let columns = mem::replace(&mut self.columns, Vec::new(self.alloc));
         self.columns = spliced(columns, at, value, parts)?;
         self.stage = Stage::Begins;
-        self.try_again(pool, test)
-    }
-
-    /// The row that asked for a value, as this last test leaves it; where it rules the row out, the first one that is left.
-    fn try_again(&mut self, pool: &mut Pool, test: Test) -> Result<Ask, NoMemory>
-        requires within { IsMatcher (length pool.old) self.old }
-        requires there { self.old.row.at < length (matcher_rules self.old) }
-        ensures asks { IfOk result (λ ask. (rules : List PlainRule) → Stands rules self.old
-            → AskedBefore rules self.old test
-            → Asks rules pool.new self.new ask (λ S. selects S rules pool.old self.old)) }
-        ensures awaits { IfOk result (Awaits self.new.stage) }
-        ensures asked { IfOk result (IsAsk (length pool.new)) }
-        ensures within { OnOk result (IsMatcher (length pool.new) self.new) }
-        ensures keeps { Extends pool.old pool.new }
-    {
-        let stands = self.source.stands_at(&self.left, self.tried, self.row.at);
-        if !stands {
-            return self.try_row(pool);
-        }
-        match after_test(self.alloc, &self.row, test)? {
-            Some(row) => self.begin_row(pool, row),
-            None => self.next_row(pool),
-        }
+        self.try_row(pool)
     }
 
     /// Goes on with the normal form of this column's part.
     fn put_normal(&mut self, pool: &mut Pool, at: usize, part: TermId) -> Result<Ask, NoMemory>
         requires within { IsMatcher (length pool.old) self.old }
-        requires tried { IsTried (length (matcher_rules self.old)) self.old.row.at self.old.tried }
+        requires tried { IsTried (rule_count self.old.source) self.old.row.at self.old.tried }
         requires at { at < vec_len self.old.columns }
         requires cell { at < vec_len self.old.row.cells }
         requires part { part.0 < length pool.old }
@@ -424,7 +389,7 @@ impl<'t> Matcher<'t> {
     /// Goes on once this column's part was compared with what its variable captured before.
     fn captured(&mut self, pool: &mut Pool, at: usize, alike: bool) -> Result<Ask, NoMemory>
         requires within { IsMatcher (length pool.old) self.old }
-        requires tried { IsTried (length (matcher_rules self.old)) self.old.row.at self.old.tried }
+        requires tried { IsTried (rule_count self.old.source) self.old.row.at self.old.tried }
         requires at { at < vec_len self.old.columns }
         ensures asks { IfOk result (λ ask. (rules : List PlainRule) → Stands rules self.old
             → Asks rules pool.new self.new ask
@@ -443,7 +408,7 @@ impl<'t> Matcher<'t> {
     /// Goes on once this column's part was compared with the guard.
     fn guarded(&mut self, pool: &mut Pool, at: usize, alike: bool) -> Result<Ask, NoMemory>
         requires within { IsMatcher (length pool.old) self.old }
-        requires tried { IsTried (length (matcher_rules self.old)) self.old.row.at self.old.tried }
+        requires tried { IsTried (rule_count self.old.source) self.old.row.at self.old.tried }
         requires at { at < vec_len self.old.columns }
         ensures asks { IfOk result (λ ask. (rules : List PlainRule) → Stands rules self.old
             → Asks rules pool.new self.new ask

@@ -5,13 +5,13 @@ ghost use Rattle.dk_model.specs.Units.{Units};
 ghost use Rattle.dk_model.specs.Captures.{mentions_others, captured};
 ghost use Rattle.shared_term.specs.Pools.{term, Extends, Moves};
 ghost use Rattle.shared_term.specs.Changes.{AreCaptures, captured_terms, capture_id};
-ghost use Rattle.rule_tree.specs.Rows.{plain_cell};
+ghost use Rattle.rule_match.specs.Rows.{plain_cell};
 ghost use Rattle.rule_match.specs.Columns.{plain, AreColumns};
 ghost use Rattle.rule_match.specs.Trying.{ActsAs, IsGuard, HasGuard, Records, CellSteps, RowPasses, GuardsPass, AreCaught, ArePassed};
 
+use crate::cell::Cell;
 use crate::value::{Column, column_of};
 use dk_model::{NoMemory, Pat};
-use rule_tree::Cell;
 use shared_term::{Pool, Stored, TermId};
 use std::alloc::Global;
 

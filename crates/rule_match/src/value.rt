@@ -4,11 +4,11 @@ ghost use Rattle.dk_model.specs.Trees.{Tree};
 ghost use Rattle.dk_model.specs.Spines.{arguments};
 ghost use Rattle.dk_model.specs.Matrix.{opened_columns, is_bare};
 ghost use Rattle.shared_term.specs.Pools.{term, denoted};
-ghost use Rattle.rule_tree.specs.Keys.{key_at, key_of};
+ghost use Rattle.rule_match.specs.Keys.{key_at, key_of};
 ghost use Rattle.rule_match.specs.Columns.{value_put, plain, argument_column, behind, from_top, AreWithin, AreColumns, IsHeadOf};
 
+use crate::key::Key;
 use dk_model::{NoMemory, NodeOf};
-use rule_tree::Key;
 use shared_term::{Node, Pool, TermId, unwind};
 use std::alloc::Global;
 

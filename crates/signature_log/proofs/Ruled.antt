@@ -76,7 +76,3 @@ ruled_more es new e old table made before adds k =
     ∙ (ap (λ rs. declared_rules k (map (entry_by stored_term) es) ++ rules_of_head k rs) (sym (stored_rules e))
     ∙ (sym (declared_more k (map (entry_by stored_term) es) (entry_by stored_term e))
     ∙ ap (declared_rules k) (sym (ap (map (entry_by stored_term)) made ∙ map-append (entry_by stored_term) es (e ∷ []))))))
-
--- and none more behind them
-pub adds_further : (old middle new : Table) (rules : List PlainRule) → AddsRules old middle rules → AddsRules middle new [] → AddsRules old new rules
-adds_further old middle new rules first second k = second k ∙ (append-nil (listed_rules (table_at middle k)) ∙ first k)

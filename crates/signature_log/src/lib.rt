@@ -3,7 +3,6 @@
 //! Begin at `Version`; then `Reducer`, evaluation over a version whatever stands for terms.
 #![tactic(auto)]
 
-mod bare_tree;
 mod blocks;
 mod boxing;
 mod branch;
@@ -23,7 +22,6 @@ mod rule_list;
 mod slots;
 mod steps;
 mod storing;
-mod symbol_rules;
 mod table;
 mod version;
 

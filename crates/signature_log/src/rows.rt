@@ -1,15 +1,12 @@
 //! The rules of a symbol: its body, then its declared rules in file order.
-ghost use Rattle.std.specs.Prelude.{◌≡◌, ℕ, ◌↔◌, None, IfSome, length, slice_get};
-ghost use Rattle.rule_tree.specs.Trees.{IsTree};
+ghost use Rattle.std.specs.Prelude.{◌≡◌, ℕ, length, slice_get};
 ghost use Rattle.std.specs.Option.{option_copied, option_map};
 ghost use Rattle.signature_log.specs.Versions.{row_rule};
 ghost use Rattle.signature_log.specs.Rows.{row_rules};
 ghost use Rattle.signature_log.specs.Placed.{listed_rules};
 
-use crate::bare_tree::BareTree;
-use crate::symbol_rules::SymbolRules;
+use crate::rule_list::RuleList;
 use dk_model::Rule;
-use rule_tree::Tree;
 use shared_term::Stored;
 
 /// A rule of a symbol.
@@ -25,11 +22,10 @@ pub enum Row<'a> {
 #[derive(Clone, Copy)]
 pub struct Rows<'a> {
     body: Option<&'a Stored>,
-    declared: Option<&'a SymbolRules>,
-    bare: &'a BareTree,
+    declared: Option<&'a RuleList>,
 }
 
-fn declared_row<'a>(declared: Option<&'a SymbolRules>, at: u32) -> Option<Row<'a>>
+fn declared_row<'a>(declared: Option<&'a RuleList>, at: u32) -> Option<Row<'a>>
     ensures { (k : ℕ) → option_map (row_rule k) result
         ≡ slice_get (listed_rules (option_copied declared.entry)) at }
 {
@@ -43,18 +39,10 @@ fn declared_row<'a>(declared: Option<&'a SymbolRules>, at: u32) -> Option<Row<'a
 }
 
 impl<'a> Rows<'a> {
-    pub(crate) fn new(
-        body: Option<&'a Stored>,
-        declared: Option<&'a SymbolRules>,
-        bare: &'a BareTree,
-    ) -> Rows<'a>
-        ensures { result ≡ record { body = body.entry; declared = declared.entry; bare = bare.entry } }
+    pub(crate) fn new(body: Option<&'a Stored>, declared: Option<&'a RuleList>) -> Rows<'a>
+        ensures { result ≡ record { body = body.entry; declared = declared.entry } }
     {
-        Rows {
-            body,
-            declared,
-            bare,
-        }
+        Rows { body, declared }
     }
 
     pub fn len(&self) -> u32
@@ -83,21 +71,6 @@ impl<'a> Rows<'a> {
                 }
             }
             None => declared_row(self.declared, i),
-        }
-    }
-
-    /// The tree of these rules, or of the first ones; None exactly where there are no rules. A symbol with a body unfolds
-    /// whatever rules stand behind it, so its tree is of none.
-    pub fn tree(&self) -> Option<&'a Tree>
-        ensures none { (k : ℕ) → result ≡ None ↔ length (row_rules k self.now) ≡ 0 }
-        ensures is { (k : ℕ) → IfSome result (λ t. IsTree (row_rules k self.now) t.now) }
-    {
-        if self.len() == 0 {
-            return None;
-        }
-        match (self.body, self.declared) {
-            (None, Some(rules)) => Some(rules.tree()),
-            _ => Some(self.bare.tree()),
         }
     }
 }

@@ -10,29 +10,29 @@ use crate::cells::Cells;
 use crate::fork::Fork;
 use crate::held::Held;
 use crate::place::Place;
+use crate::rule_list::RuleList;
 use crate::slots::Slots;
-use crate::symbol_rules::SymbolRules;
 use dk_model::{Entry, NoMemory};
 use std::alloc::Global;
 use std::marker::Brand;
 use std::sync::ledger::{Blank, Ledger};
 
 /// Four levels of blocks: of 32 cells, then of 32 blocks, and as many blocks as the largest number asks for.
-pub type RuleTable = Fork<Fork<Fork<Cells<SymbolRules>>>>;
+pub type RuleTable = Fork<Fork<Fork<Cells<RuleList>>>>;
 
-/// The rules of a symbol with one more.
+/// The list of a symbol with one rule more.
 fn listed<L: Ledger>(
     alloc: Global,
     table: &RuleTable,
     symbol: u64,
     place: Place,
     steps: &mut Steps<L>,
-) -> Result<SymbolRules, NoMemory>
+) -> Result<RuleList, NoMemory>
     ensures { IfOk result (λ list. list ≡ places_in (table_at table.now symbol) ++ place ∷ []) }
 {
     match table.find(symbol) {
         Some(list) => list.append(alloc, place, steps),
-        None => SymbolRules::one(alloc, place, steps),
+        None => RuleList::one(alloc, place, steps),
     }
 }
 
@@ -57,41 +57,6 @@ fn rule_count(held: &Held) -> usize
         Entry::Rules(rules) => rules.len(),
         Entry::Symbol { .. } => 0,
     }
-}
-
-/// The table with a new tree for a symbol, where too many of its rules are behind the one that it has.
-fn with_tree(alloc: Global, table: &RuleTable, symbol: u64) -> Result<RuleTable, NoMemory>
-    ensures { IfOk result (λ t. AddsRules table.now t []) }
-{
-    match table.find(symbol) {
-        Some(rules) if rules.outgrows() => {
-            let compiled = rules.compiled(alloc)?;
-            table.put(alloc, symbol, compiled)
-        }
-        _ => table.share(),
-    }
-}
-
-/// The symbol of the rule at a place of an entry.
-fn head_at(held: &Held, at: usize) -> u64 {
-    match held.entry() {
-        Entry::Rules(rules) => match rules.as_slice().get(at) {
-            Some(rule) => rule.head as u64,
-            None => 0,
-        },
-        Entry::Symbol { .. } => 0,
-    }
-}
-
-/// The table with trees for the symbols of the rules of an entry, each of nearly all rules of its symbol.
-fn with_trees(alloc: Global, table: RuleTable, held: &Held) -> Result<RuleTable, NoMemory>
-    ensures { IfOk result (λ t. AddsRules table t []) }
-{
-    let mut all = table;
-    for at in 0..rule_count(held) {
-        all = with_tree(alloc, &all, head_at(held, at))?;
-    }
-    Ok(all)
 }
 
 fn counted<L: Ledger>(
@@ -121,6 +86,5 @@ pub fn with_entry(alloc: Global, table: &RuleTable, held: &Held) -> Result<RuleT
     if rule_count(held) == 0 {
         return table.share();
     }
-    let all = counted::<Brand>(alloc, table, held, Blank::new(1))?;
-    with_trees(alloc, all, held)
+    counted::<Brand>(alloc, table, held, Blank::new(1))
 }

@@ -7,7 +7,6 @@ ghost use Rattle.dk_model.specs.SymbolRules.{rules_of, body_rule};
 ghost use Rattle.signature_log.specs.Versions.{stored_entry, entries_of};
 ghost use Rattle.signature_log.specs.Rows.{row_rules, body_rows};
 
-use crate::bare_tree::BareTree;
 use crate::blocks::Share;
 use crate::boxing::box_entry;
 use crate::entries::Entries;
@@ -32,8 +31,6 @@ pub struct Version {
     alloc: Global,
     entries: Entries,
     rules: RuleTable,
-    /// For the symbols that have a body.
-    bare: BareTree,
 }
 
 impl Model for Version {
@@ -81,7 +78,6 @@ impl Version {
             alloc,
             entries: Entries::empty(alloc)?,
             rules: Fork::empty(alloc)?,
-            bare: BareTree::new(alloc)?,
         })
     }
 
@@ -124,12 +120,10 @@ impl Version {
         let held = Held::new(entry);
         let rules = with_entry(self.alloc, &self.rules, &held)?;
         let entries = self.entries.append(self.alloc, held, steps)?;
-        let bare = self.bare.share()?;
         Ok(Version {
             alloc: self.alloc,
             entries,
             rules,
-            bare,
         })
     }
 
@@ -157,7 +151,6 @@ impl Version {
             alloc: self.alloc,
             entries: self.entries.share()?,
             rules: self.rules.share()?,
-            bare: self.bare.share()?,
         })
     }
 
@@ -181,6 +174,6 @@ impl Version {
     {
         let body = body_of(self.get(symbol));
         let declared = self.rules.find(symbol as u64);
-        Rows::new(body, declared, &self.bare)
+        Rows::new(body, declared)
     }
 }

@@ -16,12 +16,6 @@ use Rattle.shared_term.specs.contracts.id.TermId as TermId
 use Rattle.shared_term.specs.contracts.short.ShortNode as ShortNode
 use Rattle.shared_term.specs.contracts.packed.Packed as Packed
 use Rattle.shared_term.specs.contracts.stored.Stored as Stored
-use Rattle.rule_tree.specs.contracts.along.Test as TreeTest
-use Rattle.rule_tree.specs.contracts.branch.Branch as TreeBranch
-use Rattle.rule_tree.specs.contracts.branch.Node as TreeNode
-use Rattle.rule_tree.specs.contracts.key.Key as TreeKey
-use Rattle.rule_tree.specs.contracts.tree.Tree as Tree
-use Rattle.signature_log.specs.contracts.bare_tree.BareTree as BareTree
 use Rattle.signature_log.specs.contracts.branch.Branch as Branch
 use Rattle.signature_log.specs.contracts.cells.Cells as Cells
 use Rattle.signature_log.specs.contracts.chain.Chain as Chain
@@ -33,7 +27,6 @@ use Rattle.signature_log.specs.contracts.many.Many as Many
 use Rattle.signature_log.specs.contracts.place.Place as Place
 use Rattle.signature_log.specs.contracts.rule_list.Listing as Listing
 use Rattle.signature_log.specs.contracts.rule_list.RuleList as RuleList
-use Rattle.signature_log.specs.contracts.symbol_rules.SymbolRules as SymbolRules
 use Rattle.signature_log.specs.contracts.version.Version as Version
 use Rattle.infer_check.specs.contracts.context.Context as Context
 use Rattle.split_parts.specs.contracts.part.PartOut as PartOut
@@ -161,47 +154,11 @@ stored_send = let a = packed_send in search (sendable, crosses) depth 40 fits 20
 pub stored_sync : IsSync Stored.the_row
 stored_sync = let a = packed_sync in search (sendable, crosses) depth 40 fits 20000
 
-pat_send : IsSend (Pat.the_row Stored.the_row)
+pub pat_send : IsSend (Pat.the_row Stored.the_row)
 pat_send = let a = stored_send in search (sendable, crosses, PatKnot.crosses) depth 40 fits 20000
 
 pat_sync : IsSync (Pat.the_row Stored.the_row)
 pat_sync = let a = stored_sync in search (sendable, crosses, PatKnot.crosses) depth 40 fits 20000
-
-tree_key_send : IsSend TreeKey.the_field.row
-tree_key_send = search (sendable, crosses) depth 40 fits 20000
-
-tree_key_sync : IsSync TreeKey.the_field.row
-tree_key_sync = search (sendable, crosses) depth 40 fits 20000
-
-tree_test_send : IsSend TreeTest.the_row
-tree_test_send = let a = tree_key_send in search (sendable, crosses) depth 40 fits 20000
-
-tree_test_sync : IsSync TreeTest.the_row
-tree_test_sync = let a = tree_key_sync in search (sendable, crosses) depth 40 fits 20000
-
-tree_branch_send : IsSend TreeBranch.the_row
-tree_branch_send = let a = tree_key_send in search (sendable, crosses) depth 40 fits 20000
-
-tree_branch_sync : IsSync TreeBranch.the_row
-tree_branch_sync = let a = tree_key_sync in search (sendable, crosses) depth 40 fits 20000
-
-tree_node_send : IsSend TreeNode.the_row
-tree_node_send = let a = tree_test_send in let b = tree_branch_send in search (sendable, crosses) depth 40 fits 20000
-
-tree_node_sync : IsSync TreeNode.the_row
-tree_node_sync = let a = tree_test_sync in let b = tree_branch_sync in search (sendable, crosses) depth 40 fits 20000
-
-tree_send : IsSend Tree.the_row
-tree_send = let a = tree_node_send in search (sendable, crosses) depth 40 fits 20000
-
-tree_sync : IsSync Tree.the_row
-tree_sync = let a = tree_node_sync in search (sendable, crosses) depth 40 fits 20000
-
-bare_send : IsSend BareTree.the_row
-bare_send = let a = tree_send in let b = tree_sync in search (sendable, crosses) depth 40
-
-bare_sync : IsSync BareTree.the_row
-bare_sync = let a = tree_send in let b = tree_sync in search (sendable, crosses) depth 40
 
 stored_rule_send : IsSend (Rule.the_row Stored.the_row)
 stored_rule_send = let a = stored_send in let b = pat_send in search (sendable, crosses) depth 40 fits 20000
@@ -245,20 +202,14 @@ list_send = let a = listing_send in search sendable depth 20
 list_sync : IsSync RuleList.the_row
 list_sync = let a = listing_sync in search sendable depth 20
 
-symbol_rules_send : IsSend SymbolRules.the_row
-symbol_rules_send = let a = list_send in let b = tree_send in let c = tree_sync in search (sendable, crosses) depth 40
-
-symbol_rules_sync : IsSync SymbolRules.the_row
-symbol_rules_sync = let a = list_sync in let b = tree_send in let c = tree_sync in search (sendable, crosses) depth 40
-
 abbrev blocks : RattleType
-blocks = Cells.the_row SymbolRules.the_row
+blocks = Cells.the_row RuleList.the_row
 
 blocks_send : IsSend blocks
-blocks_send = cells_send SymbolRules.the_row symbol_rules_send symbol_rules_sync
+blocks_send = cells_send RuleList.the_row list_send list_sync
 
 blocks_sync : IsSync blocks
-blocks_sync = cells_sync SymbolRules.the_row symbol_rules_send symbol_rules_sync
+blocks_sync = cells_sync RuleList.the_row list_send list_sync
 
 fork_1_send : IsSend (Fork.the_row blocks)
 fork_1_send = fork_send blocks blocks_send blocks_sync
@@ -295,10 +246,10 @@ entries_sync : IsSync Entries.the_row
 entries_sync = let a = three_sync group group_send group_sync in let b = chain_sync Held.the_row held_send held_sync in search sendable depth 20
 
 pub version_send : IsSend Version.the_row
-version_send = let a = entries_send in let b = table_send in let c = bare_send in search sendable depth 20
+version_send = let a = entries_send in let b = table_send in search sendable depth 20
 
 pub version_sync : IsSync Version.the_row
-version_sync = let a = entries_sync in let b = table_sync in let c = bare_sync in search sendable depth 20
+version_sync = let a = entries_sync in let b = table_sync in search sendable depth 20
 
 -- what the threads of one check share: its steps, and the crew where what it runs on and its gate may be shared
 out_sync : IsSync PartOut.the_field.row

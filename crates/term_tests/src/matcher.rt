@@ -2,25 +2,43 @@
 ghost use Rattle.std.specs.Prelude.{◌<◌, length, IfOk};
 ghost use Rattle.rule_match.specs.Columns.{AreWithin};
 ghost use Rattle.rule_match.specs.Matching.{IsMatcher, Awaits};
+ghost use Rattle.rule_match.specs.Trees.{IsPlaced};
 ghost use Rattle.shared_term.specs.Pools.{Extends};
 
 use crate::texts::{Parts, version_of_text};
-use dk_model::{Entry, NoMemory, NodeOf};
-use rule_match::{Answer, Ask, Matcher};
-use rule_tree::compile;
-use shared_term::{Pool, TermId};
-use signature_log::{Row as RuleRow, Version};
+use dk_model::{Entry, NoMemory, NodeOf, Rule};
+use rule_match::{Answer, Ask, LeftSide, Matcher, Tree, compile};
+use shared_term::{Pool, Stored, TermId};
+use signature_log::Version;
 use std::alloc::Global;
 
-/// The symbol of the rules of the last command of a version.
-fn last_symbol(version: &Version) -> u32 {
+/// The rules of the last command of a version.
+fn last_rules(version: &Version) -> &[Rule<Stored>] {
     match version.get(version.len().saturating_sub(1)) {
-        Some(Entry::Rules(rules)) => match rules.as_slice().first() {
-            Some(rule) => rule.head,
-            None => 0,
-        },
-        _ => 0,
+        Some(Entry::Rules(rules)) => rules.as_slice(),
+        _ => &[],
     }
+}
+
+fn compiled(alloc: Global, rules: &[Rule<Stored>]) -> Result<Tree, NoMemory>
+    ensures { IfOk result IsPlaced }
+{
+    let mut sides = Vec::new(alloc);
+    for rule in rules {
+        sides.push(LeftSide {
+            patterns: rule.pats.as_slice(),
+            vars: rule.vars,
+        })?;
+    }
+    compile(alloc, sides.as_slice())
+}
+
+/// The tree of the rules that end a text.
+fn tree_of(alloc: Global, parts: &[(&str, u32)]) -> Result<Tree, NoMemory>
+    ensures { IfOk result IsPlaced }
+{
+    let version = version_of_text(alloc, parts)?;
+    compiled(alloc, last_rules(&version))
 }
 
 /// What the selection asks for once it is told whether two terms are alike, or that a term stands; where it asks for
@@ -68,14 +86,14 @@ fn is_taken(ask: &Ask, arguments: &[TermId], due: Option<Taken>) -> bool {
 fn selects(
     alloc: Global,
     pool: &mut Pool,
-    version: &Version,
+    tree: &Tree,
     arguments: [TermId; 2],
     row: &Row,
 ) -> Result<bool, NoMemory>
-    requires { AreWithin (length pool.old) arguments }
+    requires within { AreWithin (length pool.old) arguments }
+    requires placed { IsPlaced tree.now }
 {
-    let symbol = last_symbol(version);
-    let mut matcher = Matcher::start(alloc, version.rules_of(symbol), symbol, &arguments)?;
+    let mut matcher = Matcher::start(alloc, tree, &arguments)?;
     let ask = matcher.next(pool, Answer::Begin)?;
     let is_asked = match &ask {
         Ask::Evaluate(column) => *column == 0 && row.alike.is_none(),
@@ -101,7 +119,7 @@ enum Argument {
     Variable(u32),
 }
 
-/// A text whose rules have a tree of so many nodes in the version, where they have one there.
+/// A text whose rules have a tree of so many nodes, where they have one.
 struct Row {
     parts: Parts,
     nodes: u32,
@@ -112,7 +130,7 @@ struct Row {
     taken: Option<Taken>,
 }
 
-/// Fewer rules than a version compiles. A node for the first cell of each rule, and the first one, where they are compiled.
+/// A node for the first cell of each rule, and the first one.
 const PLUS: Parts = &[
     ("z : Type. s : Type. def plus : Type. ", 1),
     (
@@ -122,33 +140,6 @@ const PLUS: Parts = &[
 ];
 
 const SAME: Parts = &[("def same : Type. [x] same x x --> Type.", 1)];
-
-const HEADS_7: Parts = &[
-    ("c$ : Type. ", 8),
-    ("def f : Type. ", 1),
-    ("[] f c$ --> c0 ", 7),
-    (".", 1),
-];
-
-const HEADS_8: Parts = &[
-    ("c$ : Type. ", 9),
-    ("def f : Type. ", 1),
-    ("[] f c$ --> c0 ", 8),
-    (".", 1),
-];
-
-/// A command for each rule: those behind the first eight are behind the tree, up to the sixteenth.
-const ONE_BY_ONE_15: Parts = &[
-    ("c$ : Type. ", 16),
-    ("def f : Type. ", 1),
-    ("[] f c$ --> c0. ", 15),
-];
-
-const ONE_BY_ONE_16: Parts = &[
-    ("c$ : Type. ", 16),
-    ("def f : Type. ", 1),
-    ("[] f c$ --> c0. ", 16),
-];
 
 const HEADS_100: Parts = &[
     ("c$ : Type. ", 100),
@@ -171,83 +162,41 @@ const HEADS_4096: Parts = &[
     (".", 1),
 ];
 
-const ROWS: [Row; 15] = [
+const ROWS: [Row; 9] = [
     Row {
         parts: PLUS,
-        nodes: 0,
+        nodes: 3,
         arguments: [Argument::Symbol(0), Argument::Symbol(0)],
         alike: None,
         taken: Some((0, 1, 0)),
     },
     Row {
         parts: PLUS,
-        nodes: 0,
+        nodes: 3,
         arguments: [Argument::Symbol(0), Argument::Successor],
         alike: None,
         taken: Some((1, 2, 0)),
     },
     Row {
         parts: PLUS,
-        nodes: 0,
+        nodes: 3,
         arguments: [Argument::Symbol(0), Argument::Variable(7)],
         alike: None,
         taken: None,
     },
     Row {
         parts: SAME,
-        nodes: 0,
+        nodes: 1,
         arguments: [Argument::Variable(8), Argument::Variable(7)],
         alike: Some(true),
         taken: Some((0, 1, 1)),
     },
     Row {
         parts: SAME,
-        nodes: 0,
+        nodes: 1,
         arguments: [Argument::Variable(8), Argument::Variable(7)],
         alike: Some(false),
         taken: None,
-    },
-    Row {
-        parts: HEADS_7,
-        nodes: 0,
-        arguments: [Argument::Symbol(0), Argument::Symbol(6)],
-        alike: None,
-        taken: Some((6, 0, 0)),
-    },
-    Row {
-        parts: HEADS_8,
-        nodes: 9,
-        arguments: [Argument::Symbol(0), Argument::Symbol(7)],
-        alike: None,
-        taken: Some((7, 0, 0)),
-    },
-    Row {
-        parts: HEADS_8,
-        nodes: 9,
-        arguments: [Argument::Symbol(0), Argument::Symbol(8)],
-        alike: None,
-        taken: None,
-    },
-    Row {
-        parts: ONE_BY_ONE_15,
-        nodes: 9,
-        arguments: [Argument::Symbol(0), Argument::Symbol(14)],
-        alike: None,
-        taken: Some((14, 0, 0)),
-    },
-    Row {
-        parts: ONE_BY_ONE_15,
-        nodes: 9,
-        arguments: [Argument::Symbol(0), Argument::Symbol(15)],
-        alike: None,
-        taken: None,
-    },
-    Row {
-        parts: ONE_BY_ONE_16,
-        nodes: 17,
-        arguments: [Argument::Symbol(0), Argument::Symbol(15)],
-        alike: None,
-        taken: Some((15, 0, 0)),
     },
     Row {
         parts: HEADS_100,
@@ -295,26 +244,25 @@ fn interned(pool: &mut Pool, argument: Argument) -> Result<TermId, NoMemory>
     }
 }
 
-fn is_selected(
-    alloc: Global,
-    pool: &mut Pool,
-    version: &Version,
-    row: &Row,
-) -> Result<bool, NoMemory> {
+fn is_selected(alloc: Global, pool: &mut Pool, tree: &Tree, row: &Row) -> Result<bool, NoMemory>
+    requires { IsPlaced tree.now }
+{
     let second = interned(pool, row.arguments[0])?;
     let first = interned(pool, row.arguments[1])?;
-    selects(alloc, pool, version, [second, first], row)
+    selects(alloc, pool, tree, [second, first], row)
+}
+
+fn has_tree(alloc: Global, tree: &Tree, row: &Row) -> Result<bool, NoMemory>
+    requires { IsPlaced tree.now }
+{
+    let mut pool = Pool::new(alloc)?;
+    is_selected(alloc, &mut pool, tree, row)
 }
 
 fn is_row(alloc: Global, row: &Row) -> Result<bool, NoMemory> {
-    let version = version_of_text(alloc, row.parts)?;
-    let mut pool = Pool::new(alloc)?;
-    let is_selected = is_selected(alloc, &mut pool, &version, row)?;
-    let nodes = match version.rules_of(last_symbol(&version)).tree() {
-        Some(tree) => tree.nodes(),
-        None => 0,
-    };
-    Ok(is_selected && nodes == row.nodes)
+    let tree = tree_of(alloc, row.parts)?;
+    let is_selected = has_tree(alloc, &tree, row) == Ok(true);
+    Ok(is_selected && tree.nodes() == row.nodes)
 }
 
 /// The first row that isn't as told, by its number.
@@ -327,31 +275,6 @@ fn first_wrong(alloc: Global) -> Result<Option<usize>, NoMemory> {
         number = number.wrapping_add(1);
     }
     Ok(None)
-}
-
-/// How many nodes the rules of the last command of a text are compiled to.
-fn compiled_nodes(alloc: Global, parts: Parts) -> Result<u32, NoMemory> {
-    let version = version_of_text(alloc, parts)?;
-    let rows = version.rules_of(last_symbol(&version));
-    let mut sides = Vec::new(alloc);
-    for at in 0..rows.len() {
-        if let Some(RuleRow::Rule(rule)) = rows.at(at) {
-            sides.push(rule.pats.as_slice())?;
-        }
-    }
-    let tree = compile(alloc, sides.as_slice())?;
-    Ok(tree.nodes())
-}
-
-#[test]
-fn rules_are_compiled_to_tests(rt: HostRuntime) {
-    let alloc = rt.alloc();
-    let all = [
-        compiled_nodes(alloc, PLUS),
-        compiled_nodes(alloc, SAME),
-        compiled_nodes(alloc, HEADS_4096),
-    ];
-    assert_eq!(rt; all, [Ok(3), Ok(1), Ok(0)], "of the nodes");
 }
 
 #[test]

@@ -3,7 +3,7 @@ use Rattle.dk_model.specs.Trees.{Tree}
 use Rattle.dk_model.specs.Units.{Units}
 use Rattle.shared_term.specs.Pools.{Extends}
 use Rattle.shared_term.specs.Changes.{AreCaptures, captured_terms}
-use Rattle.rule_tree.specs.Rows.{plain_cell}
+use Rattle.rule_match.specs.Rows.{plain_cell}
 use Rattle.rule_match.specs.Columns.{plain}
 use Rattle.rule_match.specs.Standing.{passed}
 use Rattle.rule_match.proofs.row.pass.Given as goal

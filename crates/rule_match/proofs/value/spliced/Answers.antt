@@ -1,4 +1,4 @@
-use Rattle.rule_match.proofs.Putting.{put_there}
+use Rattle.rule_match.proofs.Following.{put_there}
 use Rattle.rule_match.proofs.value.spliced.Goals as goal
 
 pub returns : goal.returns

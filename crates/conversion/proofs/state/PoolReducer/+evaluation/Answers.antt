@@ -6,7 +6,7 @@ use Rattle.dk_model.specs.Evaluation.{whnf_of, normal_of}
 use Rattle.shared_term.specs.Pools.{term}
 use Rattle.shared_term.specs.Changes.{captured_terms}
 use Rattle.signature_log.specs.Versions.{entries_of}
-use Rattle.rule_tree.specs.Rows.{rule_at}
+use Rattle.rule_match.specs.Rows.{rule_at}
 use Rattle.rule_match.specs.declared.matcher.Answer.TheVariants.{Normal}
 use Rattle.rule_match.proofs.Larger.{rule_taken, none_taken, alike_told, alike_answers, normal_told, matcher_grown}
 use Rattle.rule_match.proofs.Telling.{normal_fits}
@@ -53,6 +53,7 @@ evaluate-returns-clause-serves t c =
           (rw c.number.ensures at c.put.ensures);
       normals = s.normals;
       answers = s.answers;
+      trees = s.trees;
     }
 
 -- the turns of an evaluation
@@ -156,6 +157,7 @@ evaluated-loop-stack-preserved t c =
             (rw c.number-key.ensures at c.put.ensures);
         normals = normals_grown S c.turn.new.self.pool c.wind.new.pool c.turn.new.self.normals y s.normals;
         answers = answers_grown S c.turn.new.self.pool c.wind.new.pool c.turn.new.self.answers y s.answers;
+        trees = s.trees;
       };
       less = omega (arith, c.in_ok-term.ensures.turned, c.loop-stack.invariant.less);
     }
@@ -308,6 +310,7 @@ compare-loop-step-preserved t c =
             c.in-Conclude.before c.loop-step.left (extends_none c.loop-step.self.pool) within.0 within.1
             (concluded_gives S c.loop-step.self.pool _ c.loop-step.left c.loop-step.alike c.pop.new.self.items c.in-Conclude.first c.in-Conclude.second c.in-Conclude.before way) refl)
             (rw (c.number.ensures, c.number-in-Conclude.ensures) at c.put.ensures);
+        trees = i.serves.trees;
       };
       less = i.less;
     }
@@ -497,6 +500,7 @@ resume-returns-in-Conclude-clause-serves t c =
           c.in-Conclude.before c.args.left.now (extends_none c.args.self.now.pool) i c.requires.value w.0 refl)
           (rw c.number.ensures at c.put.ensures);
       answers = c.requires.serves.answers;
+      trees = c.requires.serves.trees;
     }
 
 -- A normal form that is remembered, and one that is worked out part by part

@@ -4,7 +4,7 @@ use Rattle.std.specs.Prelude.{slice_get}
 use Rattle.dk_model.specs.Trees.{Tree}
 use Rattle.dk_model.specs.SymbolRules.{rules_of}
 use Rattle.signature_log.specs.Versions.{entries_of}
-use Rattle.rule_match.specs.Rules.{plain_rule_of}
+use Rattle.conversion.specs.Rules.{plain_rule_of}
 use Rattle.conversion.proofs.Serving.{loaded_grown, heads_grown, values_grown, normals_grown, answers_grown, loaded_put}
 use Rattle.conversion.proofs.Selecting.{right_is}
 use Rattle.conversion.proofs.state.PoolReducer.brought.Goals as goal
@@ -28,4 +28,5 @@ returns-clause-serves c =
       values = values_grown (entries_of c.args.version.now) c.args.self.now.pool c.load.new.self c.args.self.now.values k c.requires.serves.values;
       normals = normals_grown (entries_of c.args.version.now) c.args.self.now.pool c.load.new.self c.args.self.now.normals k c.requires.serves.normals;
       answers = answers_grown (entries_of c.args.version.now) c.args.self.now.pool c.load.new.self c.args.self.now.answers k c.requires.serves.answers;
+      trees = c.requires.serves.trees;
     }

@@ -8,4 +8,5 @@ returns-clause-serves c = λ S. record {
   values = values_blank S _ _ c.clear-4.ensures;
   normals = normals_blank S _ _ c.clear-5.ensures;
   answers = answers_blank S _ _ c.clear-6.ensures;
+  trees = c.new-2.ensures S;
 }

@@ -8,4 +8,5 @@ returns-clause-serves c = λ S. record {
   values = values_blank S _ _ c.in_ok-values.ensures;
   normals = normals_blank S _ _ c.in_ok-normals.ensures;
   answers = answers_blank S _ _ c.in_ok-answers.ensures;
+  trees = c.new-8.ensures S;
 }

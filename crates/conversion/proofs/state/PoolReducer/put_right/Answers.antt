@@ -5,9 +5,9 @@ use Rattle.std.proofs.lemmas.Grind.{common_steps}
 use Rattle.dk_model.specs.Signatures.{PlainRule, PlainSignature}
 use Rattle.dk_model.specs.SymbolRules.{rules_of}
 use Rattle.signature_log.specs.Versions.{entries_of}
-use Rattle.rule_tree.specs.Rows.{rule_at}
+use Rattle.rule_match.specs.Rows.{rule_at}
 use Rattle.rule_match.proofs.Growing.{captures_grown}
-use Rattle.rule_match.specs.Rules.{plain_rule_of}
+use Rattle.conversion.specs.Rules.{plain_rule_of}
 use Rattle.conversion.specs.Clauses.{PutsRight}
 use Rattle.conversion.proofs.Selecting.{right_put, rule_there}
 use Rattle.conversion.proofs.state.PoolReducer.put_right.Goals as goal

@@ -49,6 +49,7 @@ returns-in-None-clause-serves c =
       values = s.values;
       normals = s.normals;
       answers = s.answers;
+      trees = s.trees;
     }
 
 pub returns-in_ok-body-in-Some-Body-clause-serves : goal.returns-in_ok-body-in-Some-Body-clause-serves
@@ -67,4 +68,5 @@ returns-in_ok-body-in-Some-Body-clause-serves c =
       values = s.values;
       normals = s.normals;
       answers = s.answers;
+      trees = s.trees;
     }

@@ -1,23 +1,23 @@
-use Rattle.std.proofs.Common.{◌+◌, ◌<◌, List, refl, ◌∙◌, Vec, Global, Option, Some, None, ap, sym as flip, subst, length}
-use Rattle.dk_model.specs.Signatures.{PlainRule}
+use Rattle.std.proofs.Common.{◌+◌, refl, ◌∙◌, Vec, Global, Option, Some, None, ap, sym as flip, subst, drop, length}
 use Rattle.dk_model.specs.Evaluation.{comparison_of}
 use Rattle.shared_term.specs.declared.id.TermId.{TermId}
 use Rattle.shared_term.specs.Changes.{AreCaptures, captured_terms}
-use Rattle.rule_tree.specs.Rows.{row, rule_at}
-use Rattle.rule_match.specs.Matching.{rows_after}
+use Rattle.rule_match.specs.Rows.{row, rule_at}
 use Rattle.rule_match.specs.Columns.{plain}
+use Rattle.rule_match.specs.Remaining.{rows_left}
 use Rattle.rule_match.proofs.Growing.{columns_within, captures_within}
 use Rattle.rule_match.proofs.Matching.{guards_asked, guard_asked}
+use Rattle.rule_match.proofs.Placing.{place_there}
 use Rattle.rule_match.proofs.matcher.Matcher.go_guarding.Goals as goal
 use Rattle.shared_term.specs.Pools.{term}
 
 pub returns-in-None-clause-asks : goal.returns-in-None-clause-asks
 returns-in-None-clause-asks c = λ rules s. record {
-  stands = record { source = s.source; left = s.left; asked = tt };
+  stands = record { source = s.source; left = s.left };
   asks = λ S. (
-    subst (λ (rs : List PlainRule). c.args.self.now.row.at < length rs) s.source c.requires.tried.there,
+    place_there rules c.args.self.now.source s.source c.args.self.now.row.at c.requires.tried.there,
     λ n.
-        guards_asked S (row rules c.args.self.now.row) (rows_after rules c.args.self.now (c.args.self.now.tried + 1)) c.args.self.now.row.cells.items c.args.self.now.columns.items
+        guards_asked S (row rules c.args.self.now.row) (drop (c.args.self.now.tried + 1) (rows_left rules c.args.self.now.left)) c.args.self.now.row.cells.items c.args.self.now.columns.items
         c.args.self.now.captures.items c.args.pool.now c.next_guard.new.pool c.args.from n None refl c.next_guard.ensures.keeps c.requires.within.columns c.requires.within.captures
         (rw (c.as_slice.ensures.value, c.as_slice-2.ensures.value, c.as_slice-3.ensures.value, c.in-None.is) at c.in_ok-next_guard.ensures.guards)
         ∙ ap (λ (v : Vec (Option TermId) Global). Some (Some (record { captures = captured_terms c.next_guard.new.pool v.items; rule = rule_at rules c.args.self.now.row.at }), n)) (flip c.replace-captures.ensures.value),
@@ -36,16 +36,17 @@ returns-in-None-clause-within c = record {
       (subst (λ l. AreCaptures (length c.next_guard.new.pool) l) (flip c.new.ensures.items) tt);
   stage = tt;
   tried = tt;
+  placed = c.requires.within.placed;
 }
 
 pub returns-in-Some-clause-asks : goal.returns-in-Some-clause-asks
 returns-in-Some-clause-asks c = λ rules s. record {
-  stands = record { source = s.source; left = s.left; asked = tt };
+  stands = record { source = s.source; left = s.left };
   asks = λ S n.
-      guards_asked S (row rules c.args.self.now.row) (rows_after rules c.args.self.now (c.args.self.now.tried + 1)) c.args.self.now.row.cells.items c.args.self.now.columns.items
+      guards_asked S (row rules c.args.self.now.row) (drop (c.args.self.now.tried + 1) (rows_left rules c.args.self.now.left)) c.args.self.now.row.cells.items c.args.self.now.columns.items
       c.args.self.now.captures.items c.args.pool.now c.next_guard.new.pool c.args.from n (Some c.in-Some.next) refl c.next_guard.ensures.keeps c.requires.within.columns c.requires.within.captures
       (rw (c.as_slice.ensures.value, c.as_slice-2.ensures.value, c.as_slice-3.ensures.value, c.in-Some.is) at c.in_ok-next_guard.ensures.guards)
-      ∙ guard_asked S (row rules c.args.self.now.row) (rows_after rules c.args.self.now (c.args.self.now.tried + 1)) (plain c.next_guard.new.pool c.args.self.now.columns.items) c.in-Some.next.at
+      ∙ guard_asked S (row rules c.args.self.now.row) (drop (c.args.self.now.tried + 1) (rows_left rules c.args.self.now.left)) (plain c.next_guard.new.pool c.args.self.now.columns.items) c.in-Some.next.at
       (captured_terms c.next_guard.new.pool c.args.self.now.captures.items)
       (comparison_of S n (term c.next_guard.new.pool c.in-Some.next.part) (term c.next_guard.new.pool c.in-Some.next.guard));
 }
@@ -56,4 +57,5 @@ returns-in-Some-clause-within c = record {
   captures = captures_within c.args.pool.now c.next_guard.new.pool c.args.self.now.captures.items c.next_guard.ensures.keeps c.requires.within.captures;
   stage = (rw (c.as_slice-2.ensures.value, c.in-Some.is) at c.in_ok-next_guard.ensures.guards).within.0;
   tried = c.requires.tried;
+  placed = c.requires.within.placed;
 }

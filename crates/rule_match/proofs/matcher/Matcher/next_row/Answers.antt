@@ -11,11 +11,12 @@ try_row-requires c = record {
   captures = c.requires.within.captures;
   stage = tt;
   tried = tt;
+  placed = c.requires.within.placed;
 }
 
 pub returns-clause-asks : goal.returns-clause-asks
 returns-clause-asks c =
     let m1 : Matcher = record c.args.self.now { tried = c.args.self.now.tried + 1; stage = Begins } in
     asks_on c.try_row.result c.try_row.new.pool c.try_row.new.self c.args.self.now m1 (λ rules S. selects S rules c.args.pool.now m1) (λ rules S. fails S rules c.args.pool.now c.args.self.now)
-    (λ rules s. record { source = s.source; left = s.left; asked = tt })
+    (λ rules s. record { source = s.source; left = s.left })
     (λ rules s S n. refl) c.try_row.ensures.asks

@@ -1,10 +1,10 @@
 use Rattle.std.proofs.Common.{◌≡◌, ◌∙◌, List, ap, map, arith}
 use Rattle.dk_model.specs.Matrix.{cell_at}
 use Rattle.shared_term.specs.Pools.{term}
-use Rattle.rule_tree.specs.declared.cell.Cell.{Cell}
+use Rattle.rule_match.specs.declared.cell.Cell.{Cell}
 use Rattle.rule_match.specs.declared.matcher.Matcher.{Matcher}
 use Rattle.rule_match.specs.declared.matcher.Stage.TheVariants.{Begins}
-use Rattle.rule_tree.specs.Rows.{plain_cell}
+use Rattle.rule_match.specs.Rows.{plain_cell}
 use Rattle.rule_match.specs.Matching.{fails, captures_due, after_normal}
 use Rattle.rule_match.proofs.Matching.{asks_on}
 use Rattle.rule_match.proofs.Asking.{normal_within, still_fails, still_goes}
@@ -26,7 +26,7 @@ returns-then-mentions-clause-asks c =
     let is : plain_cell c.cell_of-cell.result ≡ cell_at (map plain_cell c.args.self.now.row.cells.items) c.args.at =
     c.cell_of-cell.ensures ∙ ap (λ (l : List Cell). cell_at (map plain_cell l) c.args.at) c.as_slice.ensures.value in
     asks_on c.next_row.result c.next_row.new.pool c.next_row.new.self c.args.self.now m1 (λ rules S. fails S rules c.mentions_still.new.pool m1)
-    (λ rules S. after_normal S rules c.args.pool.now c.args.self.now c.args.at (term c.args.pool.now c.args.part)) (λ rules s. record { source = s.source; left = s.left; asked = tt })
+    (λ rules S. after_normal S rules c.args.pool.now c.args.self.now c.args.at (term c.args.pool.now c.args.part)) (λ rules s. record { source = s.source; left = s.left })
     (λ rules s S n. still_fails c.args.pool.now c.mentions_still.new.pool c.mentions_still.ensures.keeps c.args.self.now c.requires.within c.args.at c.args.part c.requires.part c.column_of-depth.result
     (rw c.as_slice-2.ensures.value at c.column_of-depth.ensures) c.put_column.new.columns c.put_column.ensures rules c.in_ok-mentions.mentions c.cell_of-cell.result is
     c.in_ok-mentions.ensures.mentions c.if-mentions.true S n)
@@ -38,7 +38,7 @@ returns-clause-asks c =
     let is : plain_cell c.cell_of-cell.result ≡ cell_at (map plain_cell c.args.self.now.row.cells.items) c.args.at =
     c.cell_of-cell.ensures ∙ ap (λ (l : List Cell). cell_at (map plain_cell l) c.args.at) c.as_slice.ensures.value in
     asks_on c.go_through.result c.go_through.new.pool c.go_through.new.self c.args.self.now m1 (λ rules S. captures_due S rules c.mentions_still.new.pool m1 c.args.at)
-    (λ rules S. after_normal S rules c.args.pool.now c.args.self.now c.args.at (term c.args.pool.now c.args.part)) (λ rules s. record { source = s.source; left = s.left; asked = tt })
+    (λ rules S. after_normal S rules c.args.pool.now c.args.self.now c.args.at (term c.args.pool.now c.args.part)) (λ rules s. record { source = s.source; left = s.left })
     (λ rules s S n. still_goes c.args.pool.now c.mentions_still.new.pool c.mentions_still.ensures.keeps c.args.self.now c.requires.within c.args.at c.args.part c.requires.part c.column_of-depth.result
     (rw c.as_slice-2.ensures.value at c.column_of-depth.ensures) c.put_column.new.columns c.put_column.ensures rules c.in_ok-mentions.mentions c.cell_of-cell.result is
     c.in_ok-mentions.ensures.mentions c.if-mentions.false (omega (arith, c.requires.cell, c.args.self.now.row.cells.ok.0)) (omega (arith, c.requires.at, c.args.self.now.columns.ok.0)) S n)

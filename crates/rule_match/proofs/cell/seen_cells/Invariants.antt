@@ -1,0 +1,6 @@
+use Rattle.std.proofs.Common.{◌≡◌, map, take}
+use Rattle.rule_match.specs.Rows.{plain_cell, kept_cell}
+use Rattle.rule_match.proofs.cell.seen_cells.Given as goal
+
+abbrev pub invariant-loop-cell : goal.invariant-loop-cell
+invariant-loop-cell l = map plain_cell l.seen.items ≡ map kept_cell (take l.cell-index l.cells)

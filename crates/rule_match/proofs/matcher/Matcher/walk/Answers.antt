@@ -1,0 +1,20 @@
+use Rattle.std.proofs.Common.{◌∙◌, Vec, Global, List, Option, ap, length, subst, sym as flip}
+use Rattle.shared_term.specs.declared.id.TermId.{TermId}
+use Rattle.shared_term.specs.Changes.{AreCaptures}
+use Rattle.rule_match.specs.declared.matcher.Stage.{Stage}
+use Rattle.rule_match.specs.declared.value.Column.{Column}
+use Rattle.rule_match.specs.Columns.{AreColumns}
+use Rattle.rule_match.specs.Matching.{IsStage, Tries}
+use Rattle.rule_match.specs.Remaining.{rule_count}
+use Rattle.rule_match.proofs.Placing.{side_rows_placed}
+use Rattle.rule_match.proofs.Opening.{first_within}
+use Rattle.rule_match.proofs.matcher.Matcher.walk.Goals as goal
+
+pub returns-clause-within : goal.returns-clause-within
+returns-clause-within c = λ n h. record {
+  columns = subst (λ (l : List Column). AreColumns n l) (flip (ap (λ (v : Vec Column Global). v.items) c.begun.ensures.columns ∙ c.in_ok-columns.ensures)) (first_within n c.in_ok-width.width c.args.arguments.now h);
+  captures = subst (λ (l : List (Option TermId)). AreCaptures n l) (flip c.begun.ensures.captures) tt;
+  stage = subst (λ (s : Stage). IsStage (length c.begun.result.columns.items) (length c.begun.result.row.cells.items) s) (flip c.begun.ensures.begins) tt;
+  tried = subst (λ (s : Stage). Tries (rule_count c.begun.result.source) c.begun.result.row.at c.begun.result.tried s) (flip c.begun.ensures.begins) tt;
+  placed = rw (c.begun.ensures.source, c.begun.ensures.left) (side_rows_placed c.args.sides (length c.args.arguments.now) c.in_ok-width.width c.in_ok-width.left (rw c.as_slice.ensures.value at c.in_ok-width.ensures.begins));
+}

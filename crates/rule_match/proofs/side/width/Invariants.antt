@@ -1,0 +1,8 @@
+use Rattle.std.proofs.Common.{◌≡◌, List, drop, max}
+use Rattle.dk_model.specs.Signatures.{PlainRule}
+use Rattle.dk_model.specs.Matrix.{width}
+use Rattle.rule_match.specs.Sides.{AreSides}
+use Rattle.rule_match.proofs.side.width.Given as goal
+
+abbrev pub invariant-loop-side : goal.invariant-loop-side
+invariant-loop-side l = (rules : List PlainRule) → AreSides rules l.sides → max l.width (width l.count (drop l.side-index rules)) ≡ width l.count rules
