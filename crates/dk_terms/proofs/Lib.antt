@@ -1,5 +1,1 @@
-pub mod Framed
-pub mod Spelt
 pub mod Stacked
-pub mod Steps
-pub mod Whole

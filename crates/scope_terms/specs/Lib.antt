@@ -10,4 +10,3 @@ pub mod Binding
 pub mod Found
 pub mod Hashing
 pub mod Placing
-pub mod Standing

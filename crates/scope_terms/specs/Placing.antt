@@ -1,5 +1,5 @@
 -- For proofs: what is made of a written term, and of a declaration.
-use Rattle.std.specs.Prelude.{◌≡◌, List, None, [], ◌∷◌, map}
+use Rattle.std.specs.Prelude.{◌≡◌, List, [], ◌∷◌, map}
 use Rattle.dk_model.specs.Signatures.{maybe_by}
 use Rattle.dk_model.specs.Trees.{Tree}
 use Rattle.dk_parser.specs.RawViews.{written, written_param}
@@ -33,7 +33,3 @@ under_sense scope bound pair params t = under_params (symbols_of scope) (names_o
 
 abbrev pub stored_declaration : StoredParts → Declaration
 stored_declaration d = record { typ = maybe_by stored_term d.typ; body = maybe_by stored_term d.body }
-
--- neither a type nor a body
-abbrev pub no_parts : Declaration
-no_parts = record { typ = None; body = None }

@@ -1,17 +1,17 @@
-//! The type and the body of a declaration under its parameters, as terms of boxes.
+//! The type and the body of a declaration under its parameters.
 ghost use Rattle.std.specs.Prelude.{◌≡◌, IfOk, IfErr};
-ghost use Rattle.dk_model.specs.Signatures.{maybe_by, maybe_tree};
-ghost use Rattle.shared_term.specs.Storage.{stored_term};
-ghost use Rattle.scope_terms.specs.Scopes.{no_names, scoped};
+ghost use Rattle.dk_model.specs.Trees.{tree};
+ghost use Rattle.dk_model.specs.declared.code.Fault.TheVariants.{NoMemory};
+ghost use Rattle.scope_terms.specs.Scopes.{no_names, scoped, with_parameter};
 ghost use Rattle.scope_terms.specs.Answers.{IsFaultOf};
-ghost use Rattle.scope_terms.specs.declared.binders.Binders.{Outermost};
-ghost use Rattle.scope_terms.specs.Meanings.{declaration, declaring, rule_variables};
+ghost use Rattle.scope_terms.specs.Binding.{IsTold};
+ghost use Rattle.scope_terms.specs.Meanings.{declaration, declaring, rule_variables, term_sense};
 
+use crate::binders::{Binders, under};
 use crate::meaning::Scope;
-use crate::placed_declaration::{StoredParts, stored_parts};
-use dk_model::{Fault, NoMemory, Term};
+use crate::term::{maybe_term_at, term_at};
+use dk_model::{Fault, Term, make_annotated, make_product};
 use dk_parser::{RawParam, RawTerm};
-use shared_term::{Making, Stored};
 use std::alloc::Global;
 
 /// The type and the body of a declaration, where it has them.
@@ -21,32 +21,65 @@ pub(crate) struct TypeAndBody {
     pub body: Option<Term>,
 }
 
-fn boxed(alloc: Global, stored: &Option<Stored>) -> Result<Option<Term>, NoMemory>
-    ensures { IfOk result (λ t. maybe_tree t ≡ maybe_by stored_term stored.now) }
+/// The declaration under a parameter whose type, `domain`, stands for `raw`. For the declared type it is scoped once more,
+/// since a copy would nest with the arguments of its applications.
+#[tactic(auto, using(crate::proofs::Stages::scoped_again, crate::proofs::Stages::no_fault_again))]
+fn under_parameter<'a>(
+    alloc: Global,
+    scope: &Scope,
+    raw: &'a RawTerm,
+    bound: &'a Binders<'a>,
+    domain: Term,
+    inner: TypeAndBody,
+) -> Result<TypeAndBody, Fault>
+    requires told { IsTold bound.now }
+    requires domain { term_sense scope.now bound.now raw.now ≡ scoped (tree domain) }
+    ensures ok { IfOk result (λ d. declaration d ≡ with_parameter (tree domain) (declaration inner)) }
+    ensures memory { IfErr result (λ e. e ≡ NoMemory) }
 {
-    match stored {
-        Some(stored) => Ok(Some(stored.to_term(alloc)?)),
-        None => Ok(None),
-    }
+    let TypeAndBody { typ, body } = inner;
+    let typ = match typ {
+        Some(typ) => {
+            let again = term_at(alloc, scope, raw, bound)?;
+            Some(make_product(alloc, again, typ)?)
+        }
+        None => None,
+    };
+    let body = match body {
+        Some(body) => Some(make_annotated(alloc, domain, body)?),
+        None => None,
+    };
+    Ok(TypeAndBody { typ, body })
 }
 
 /// The type and the body under these parameters, or the first code. There are no rule variables.
+#[tactic(auto, using(crate::proofs::Stages::both_scoped, crate::proofs::Stages::both_first, crate::proofs::Stages::both_second))]
 pub(crate) fn declaration_at<'a>(
-    making: &mut Making,
+    alloc: Global,
     scope: &Scope,
     params: &'a [RawParam],
     typ: &'a Option<RawTerm>,
     body: &'a Option<RawTerm>,
+    bound: &'a Binders<'a>,
 ) -> Result<TypeAndBody, Fault>
+    requires told { IsTold bound.now }
     requires none { rule_variables scope.now ≡ no_names }
-    ensures ok { IfOk result (λ d.
-        declaring scope.now Outermost params.now typ.now body.now ≡ scoped (declaration d)) }
+    ensures ok { IfOk result
+        (λ d. declaring scope.now bound.now params.now typ.now body.now ≡ scoped (declaration d)) }
     ensures refused { IfErr result
-        (IsFaultOf (declaring scope.now Outermost params.now typ.now body.now)) }
+        (IsFaultOf (declaring scope.now bound.now params.now typ.now body.now)) }
 {
-    let StoredParts { typ, body } = stored_parts(making, scope, params, typ, body)?;
-    let alloc = making.alloc();
-    let typ = boxed(alloc, &typ)?;
-    let body = boxed(alloc, &body)?;
-    Ok(TypeAndBody { typ, body })
+    match params {
+        [] => {
+            let typ = maybe_term_at(alloc, scope, typ, bound)?;
+            let body = maybe_term_at(alloc, scope, body, bound)?;
+            Ok(TypeAndBody { typ, body })
+        }
+        [param, rest @ ..] => {
+            let domain = term_at(alloc, scope, &param.typ, bound)?;
+            let under = under(param.binder.as_ref(), bound)?;
+            let inner = declaration_at(alloc, scope, rest, typ, body, &under)?;
+            under_parameter(alloc, scope, &param.typ, bound, domain, inner)
+        }
+    }
 }

@@ -54,12 +54,12 @@ impl Names {
                 })
             }
             RawForm::Rules(rules) => {
-                let rules = rules_at(making, rules.as_slice(), self)?;
+                let rules = rules_at(alloc, rules.as_slice(), self)?;
                 self.add_number()?;
                 Ok(StoredCommand::Rules(rules))
             }
             RawForm::Query { demand, asked } => {
-                let asked = asked_at(making, asked, self)?;
+                let asked = asked_at(alloc, asked, self)?;
                 self.add_number()?;
                 Ok(StoredCommand::Query {
                     demand: *demand,

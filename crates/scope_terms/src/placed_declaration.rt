@@ -1,15 +1,16 @@
 //! The type and the body of a declaration under its parameters, each made node by node.
-ghost use Rattle.std.specs.Prelude.{◌≡◌, IfErr, IfOk, None, OnOk};
+ghost use Rattle.std.specs.Prelude.{◌≡◌, IfErr, IfOk, OnOk};
 ghost use Rattle.shared_term.specs.Storage.{stored_term};
 ghost use Rattle.shared_term.specs.Made.{stack};
 ghost use Rattle.scope_terms.specs.Answers.{IsFaultOf};
 ghost use Rattle.scope_terms.specs.Binding.{IsTold};
 ghost use Rattle.scope_terms.specs.declared.binders.Binders.{Outermost};
 ghost use Rattle.scope_terms.specs.Meanings.{declaring, rule_variables};
-ghost use Rattle.scope_terms.specs.Placing.{Pushes, no_parts, stored_declaration, under_sense};
+ghost use Rattle.scope_terms.specs.Placing.{Pushes, stored_declaration, under_sense};
 ghost use Rattle.scope_terms.specs.Scopes.{no_names, scoped};
 
-use crate::binders::{Binders, under_listed};
+use crate::binders::{Binders, under};
+use crate::declaration::declaration_at;
 use crate::meaning::Scope;
 use crate::placed::placed_at;
 use dk_model::Fault;
@@ -44,34 +45,9 @@ fn under_params<'a>(
         [] => placed_at(making, scope, raw, bound),
         [param, rest @ ..] => {
             placed_at(making, scope, &param.typ, bound)?;
-            let under = under_listed(&param.binder, bound)?;
+            let under = under(param.binder.as_ref(), bound)?;
             under_params(making, scope, pair, rest, raw, &under)?;
             Ok(making.join(pair)?)
-        }
-    }
-}
-
-/// Parameters with nothing under them, or their first code. There are no rule variables.
-#[tactic(auto, using(crate::proofs::Placing::params_placed, crate::proofs::Placing::params_second_fault, crate::proofs::Stages::both_first))]
-fn params_at<'a>(
-    making: &mut Making,
-    scope: &Scope,
-    params: &'a [RawParam],
-    bound: &'a Binders<'a>,
-) -> Result<(), Fault>
-    requires told { IsTold bound.now }
-    requires none { rule_variables scope.now ≡ no_names }
-    ensures ok { OnOk result
-        (declaring scope.now bound.now params.now None None ≡ scoped no_parts) }
-    ensures refused { IfErr result
-        (IsFaultOf (declaring scope.now bound.now params.now None None)) }
-{
-    match params {
-        [] => Ok(()),
-        [first, rest @ ..] => {
-            placed_at(making, scope, &first.typ, bound)?;
-            let under = under_listed(&first.binder, bound)?;
-            params_at(making, scope, rest, &under)
         }
     }
 }
@@ -138,7 +114,7 @@ pub(crate) fn stored_parts<'a>(
         (None, None) => {
             // The parameters may be at fault.
             let outermost = Binders::Outermost;
-            params_at(making, scope, params, &outermost)?;
+            declaration_at(making.alloc(), scope, params, typ, body, &outermost)?;
             Ok(StoredParts {
                 typ: None,
                 body: None,

@@ -1,4 +1,7 @@
+use Rattle.std.proofs.Common.{◌∙◌, ◌∷◌, ap}
 use Rattle.shared_term.specs.Made.{stack}
+use Rattle.scope_terms.specs.Binding.{binders}
+use Rattle.scope_terms.specs.Scopes.{Binder}
 use Rattle.scope_terms.proofs.Placing.{behind, headed, under_placed}
 use Rattle.scope_terms.proofs.placed_declaration.+under_params.Goals as goal
 
@@ -8,5 +11,5 @@ returns-in_ok-join-in-len1-up-clause-ok t c =
     under_placed c.args.scope.now bound c.in_ok-under-in-len1-up.under c.args.pair c.param-item.result (behind c.args.params.now) c.args.params.now c.args.raw.now
     (stack c.args.making.now) (stack c.placed_at-in-len1-up.new.making) (stack c.under_params.new.making) (stack c.join.new.self) c.requires.none
     (headed c.args.params.now c.param-item.result c.in-len1-up.len_at_least c.param-item.is)
-    c.in_ok-under-in-len1-up.ensures.is
+    (c.in_ok-under-in-len1-up.ensures.is ∙ ap (λ (x : Binder). x ∷ binders bound) c.as_ref.ensures.value)
     c.in_ok-placed_at-in-len1-up.ensures.ok c.in_ok-under_params-in-len1-up.ensures.ok c.in_ok-join-in-len1-up.ensures
