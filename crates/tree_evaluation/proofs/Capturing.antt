@@ -12,7 +12,7 @@ use Rattle.checked_steps.specs.Matching.{laters, guards}
 use Rattle.checked_steps.specs.Taken.{both_same, steps_taken, all_joined}
 use Rattle.certificate_items.specs.Views.{plain_steps, plain_joins}
 use Rattle.certificate_items.specs.declared.item.Join.{Join}
-use Rattle.tree_evaluation.specs.Tellings.{HasParts}
+use Rattle.tree_evaluation.specs.Selecting.{HasParts}
 
 -- ---- joins
 

@@ -1,23 +1,22 @@
--- The rounds of a selection, and of a row: what is captured, and the guards.
-use Rattle.std.proofs.Common.{List, [], ◌∷◌, ◌++◌, take, drop, map, length, ℕ, ◌≡◌, ◌≤◌, ◌+◌, Bool, true, false, Option, Some, None, refl, ap, ◌∙◌, sym as flip}
-use Rattle.std.specs.Prelude.{slice_get, slice_set, if◌then◌else◌}
+-- The rounds of a selection.
+use Rattle.std.proofs.Common.{List, [], ◌∷◌, ◌++◌, take, drop, map, length, ℕ, ◌≡◌, ◌≤◌, ◌+◌, Option, Some, None, refl, ap, ◌∙◌, sym as flip}
+use Rattle.std.specs.Prelude.{slice_get}
 use Rattle.std.specs.Option.{option_map}
-use Rattle.std.proofs.lemmas.List.{length-map, map-set}
+use Rattle.std.proofs.lemmas.List.{length-map}
 use Rattle.std.proofs.lemmas.Option.{slice_get-map, slice_get_past}
 use Rattle.dk_model.specs.Trees.{Tree, tree}
-use Rattle.dk_model.specs.Signatures.{PlainSignature, maybe_tree, rule_variable_pattern, wildcard_pattern, guard_pattern, symbol_pattern, variable_pattern, abstraction_pattern}
+use Rattle.dk_model.specs.Signatures.{PlainSignature}
 use Rattle.dk_model.specs.Units.{Units, bind}
-use Rattle.dk_model.specs.Matrix.{Cell, blank, cell, rigid_at, opened_columns, refined_rows}
+use Rattle.dk_model.specs.Matrix.{rigid_at, opened_columns, refined_rows}
 use Rattle.dk_model.specs.Matrix.{Column as PlainColumn, Row as PlainRow}
-use Rattle.dk_model.specs.Captures.{Captures, capture_at}
-use Rattle.dk_model.specs.Selection.{RowTrial, Selected, select_from, row_taken, recorded, guards_hold}
+use Rattle.dk_model.specs.Captures.{Captures}
+use Rattle.dk_model.specs.Selection.{RowTrial, Selected, select_from, row_taken}
 use Rattle.dk_model.specs.Evaluation.{whnf_of, comparison_of, normal_of}
 use Rattle.dk_model.specs.Equations.{selection_of}
-use Rattle.dk_model.specs.declared.term.Term.{Term}
 use Rattle.dk_model.proofs.Turns.{selection_is}
 use Rattle.told_steps.specs.Ends.{column_of}
 use Rattle.told_steps.specs.declared.end.End.{End}
-use Rattle.tree_evaluation.specs.Answers.{by_value, guard_of, with_value}
+use Rattle.tree_evaluation.specs.Answers.{by_value, with_value}
 use Rattle.tree_evaluation.proofs.Lists.{spliced, cut_there, cut_end}
 
 module _ (S : PlainSignature) where
@@ -93,34 +92,3 @@ module _ (S : PlainSignature) where
         ∙ ap (λ (l : List PlainColumn). take i (map column_of cs) ++ (record { depth = x.depth; term = v } ∷ l) ++ drop (i + 1) (map column_of cs)) opened)
         ∙ ap (selection_of S m (take i (map column_of cs) ++ (record { depth = x.depth; term = v } ∷ opened_columns x.depth v) ++ drop (i + 1) (map column_of cs)))
         (refined ∙ ap (λ (j : ℕ). refined_rows v j i rs) (flip (length-map parts column_of) ∙ ap length opened)))
-
--- ---- a variable's part
-
-module _ (C : ℕ → Tree → Tree → Units Bool) (n : ℕ) where
-  first : (cs : Captures) (k : ℕ) (t : Tree) → capture_at cs k ≡ None → recorded C n cs k t ≡ Some (Some (slice_set cs k (Some t)), n)
-  first cs k t e = rw (e, recorded) refl
-
-  pub recorded_new : (xs : List (Option Term)) (k : ℕ) (t : Term) → capture_at (map maybe_tree xs) k ≡ None
-      → recorded C n (map maybe_tree xs) k (tree t) ≡ Some (Some (map maybe_tree (slice_set xs k (Some t))), n)
-  recorded_new xs k t e = first (map maybe_tree xs) k (tree t) e ∙ ap (λ (l : Captures). Some (Some l, n)) (flip (map-set maybe_tree xs k (Some t)))
-
-  pub recorded_ends : (cs : Captures) (k : ℕ) (before t : Tree) → capture_at cs k ≡ Some before → C n before t ≡ None → recorded C n cs k t ≡ None
-  recorded_ends cs k before t e q = rw (e, recorded) (ap (λ x. bind x (λ alike n1. Some (if alike then Some cs else None, n1))) q)
-
-  pub recorded_again : (cs : Captures) (k : ℕ) (before t : Tree) (b : Bool) (m : ℕ) → capture_at cs k ≡ Some before → C n before t ≡ Some (b, m) → recorded C n cs k t ≡ Some (if b then Some cs else None, m)
-  recorded_again cs k before t b m e q = rw (e, recorded) (ap (λ x. bind x (λ alike n1. Some (if alike then Some cs else None, n1))) q)
-
--- ---- guards
-
-module _ (S : PlainSignature) (cells : List Cell) (k : PlainColumn) (cols : List PlainColumn) (n : ℕ) (cs : Captures) where
-  abbrev pub met_then : Units Bool → Units Bool
-  met_then x = bind x (λ alike m. if alike then guards_hold (comparison_of S) cells cols m cs else Some (false, m))
-
-  pub guard_first : (d : Cell) → guards_hold (comparison_of S) (d ∷ cells) (k ∷ cols) n cs ≡ met_then (guard_of S d k n cs)
-  guard_first blank = refl
-  guard_first (cell (rule_variable_pattern v xs)) = refl
-  guard_first (cell wildcard_pattern) = refl
-  guard_first (cell (guard_pattern g)) = refl
-  guard_first (cell (symbol_pattern v ps)) = refl
-  guard_first (cell (variable_pattern v ps)) = refl
-  guard_first (cell (abstraction_pattern p)) = refl

@@ -27,7 +27,7 @@ use Rattle.tree_evaluation.specs.declared.select.Selected.{Selected}
 use Rattle.tree_evaluation.specs.Views.{plain_cell, plain_selected, captures_of, rule, row}
 use Rattle.tree_evaluation.specs.Answers.{by_selection, form_told}
 use Rattle.tree_evaluation.specs.Tellings.{AreFirstRows, AreUnmoved, IsFirstRow, IsRuleRow, Begins, SelectedRow, Rewrites}
-use Rattle.tree_evaluation.proofs.Lists.{unmoved_ends}
+use Rattle.tree_evaluation.proofs.Unmoved.{unmoved_ends}
 
 -- ---- the first columns and rows
 

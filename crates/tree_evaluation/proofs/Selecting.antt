@@ -26,9 +26,11 @@ use Rattle.tree_evaluation.specs.declared.select.RowTrial.{RowTrial}
 use Rattle.tree_evaluation.specs.declared.select.Selected.{Selected}
 use Rattle.tree_evaluation.specs.Answers.{by_value}
 use Rattle.tree_evaluation.specs.Views.{captures_of, capturing, row, row_trial, refined_row}
-use Rattle.tree_evaluation.specs.Tellings.{IsRefinedFrom, AreRefined, AreUnmoved, SelectedRow, Selects, RowTaken, TakesAll, Folded}
+use Rattle.tree_evaluation.specs.Tellings.{IsRefinedFrom, AreRefined, AreUnmoved, SelectedRow, Selects}
+use Rattle.tree_evaluation.specs.Selecting.{RowTaken, TakesAll, Folded}
 use Rattle.told_steps.proofs.Folding.{ends_join}
-use Rattle.tree_evaluation.proofs.Lists.{cut_there, cut_behind, unmoved_ends}
+use Rattle.tree_evaluation.proofs.Unmoved.{unmoved_ends}
+use Rattle.tree_evaluation.proofs.Lists.{cut_there, cut_behind}
 use Rattle.tree_evaluation.proofs.Choosing.{fails, value_goes}
 
 -- ---- the first row
@@ -166,11 +168,10 @@ row_skipped S n m columns rows rest r trial h e q f = ap (λ (rs : List Row). se
     ∙ fails S n (columns_of columns) (row r) (map row rest) m (row_trial trial) e q (ap capturing f)
 
 -- by the value of a column
-pub value_due : (S : PlainSignature) (n m at count : ℕ) (value : Tree) (own : Told) (columns front behind parts all : List End) (column : End) (rows kept seen : List Row)
-    → front ≡ take at columns → drop at columns ≡ column ∷ behind → whnf_of S n (tree column.told.form) ≡ Some (value, m) → tree own.form ≡ value → columns_of parts ≡ opened_columns column.depth value
-    → all ≡ front ++ record { depth = column.depth; told = own } ∷ parts ++ behind → count ≡ length parts → seen ≡ kept → map row kept ≡ refined_rows value count at (map row rows)
-    → by_value S at (map row rows) (columns_of columns) n ≡ selection_of S m (columns_of all) (map row seen)
-value_due S n m at count value own columns front behind parts all column rows kept seen f b w o p j c k r =
-    let shown : column_of (record { depth = column.depth; told = own }) ≡ record { depth = column.depth; term = value } = ap (λ (x : Tree). record { depth = column.depth; term = x }) o in
-    value_goes S columns (map row rows) at n column (record { depth = column.depth; told = own }) value m front behind parts all (map row seen)
-    (cut_there at columns behind column b) f (cut_behind at columns behind column b) w shown p j (ap (map row) k ∙ r ∙ ap (λ (i : ℕ). refined_rows value i at (map row rows)) c)
+pub value_due : (S : PlainSignature) (n m at count : ℕ) (value : Tree) (columns front behind parts all : List End) (column own : End) (rows kept : List Row)
+    → front ≡ take at columns → drop at columns ≡ column ∷ behind → whnf_of S n (tree column.told.form) ≡ Some (value, m) → column_of own ≡ record { depth = column.depth; term = value }
+    → columns_of parts ≡ opened_columns column.depth value → all ≡ front ++ own ∷ parts ++ behind → count ≡ length parts → map row kept ≡ refined_rows value count at (map row rows)
+    → by_value S at (map row rows) (columns_of columns) n ≡ selection_of S m (columns_of all) (map row kept)
+value_due S n m at count value columns front behind parts all column own rows kept f b w o p j c r =
+    value_goes S columns (map row rows) at n column own value m front behind parts all (map row kept) (cut_there at columns behind column b) f (cut_behind at columns behind column b) w o p j
+    (r ∙ ap (λ (k : ℕ). refined_rows value k at (map row rows)) c)

@@ -47,3 +47,29 @@ module _ (S : PlainSignature) where
 
   pub by_weak : (n m : ℕ) (t : Tree) → n ≡ suc m → normal_of S n t ≡ bind (whnf_of S m t) (each_normal (normal_of S))
   by_weak n m t l = ap (λ k. normal_of S k t) l ∙ normal_is S m t
+
+  pub selection_ends : (n : ℕ) (t : Tree) (cs : List Column) (rs : List Row) → selection_of S n cs rs ≡ None → bind (selection_of S n cs rs) (after_selection S t) ≡ None
+  selection_ends n t cs rs e = ap (λ x. bind x (after_selection S t)) e
+
+  pub selection_stands : (n m : ℕ) (t : Tree) (cs : List Column) (rs : List Row) → selection_of S n cs rs ≡ Some (None, m) → bind (selection_of S n cs rs) (after_selection S t) ≡ Some (t, m)
+  selection_stands n m t cs rs e = ap (λ x. bind x (after_selection S t)) e
+
+  pub selection_goes : (n m : ℕ) (t : Tree) (cs : List Column) (rs : List Row) (p : Selected) → selection_of S n cs rs ≡ Some (Some p, m)
+      → bind (selection_of S n cs rs) (after_selection S t) ≡ whnf_of S m (rewritten t p)
+  selection_goes n m t cs rs p e = ap (λ x. bind x (after_selection S t)) e
+
+  pub first_ends : (n m : ℕ) (t u : Tree) → n ≡ suc m → equal t u ≡ false → whnf_of S m t ≡ None → comparison_of S n t u ≡ None
+  first_ends n m t u l e q = unequal n m t u l e ∙ bind_none (whnf_of S m t) (λ t' n1. bind (whnf_of S n1 u) (heads_compared S t')) q
+
+  pub second_ends : (n m n1 : ℕ) (t u t' : Tree) → n ≡ suc m → equal t u ≡ false → whnf_of S m t ≡ Some (t', n1) → whnf_of S n1 u ≡ None → comparison_of S n t u ≡ None
+  second_ends n m n1 t u t' l e q r = unequal n m t u l e ∙ bind_some (whnf_of S m t) (λ t' n1. bind (whnf_of S n1 u) (heads_compared S t')) t' n1 q ∙ bind_none (whnf_of S n1 u) (heads_compared S t') r
+
+  pub by_heads : (n m n1 n2 : ℕ) (t u t' u' : Tree) → n ≡ suc m → equal t u ≡ false → whnf_of S m t ≡ Some (t', n1) → whnf_of S n1 u ≡ Some (u', n2)
+      → comparison_of S n t u ≡ heads_compared S t' u' n2
+  by_heads n m n1 n2 t u t' u' l e q r = unequal n m t u l e ∙ bind_some (whnf_of S m t) (λ t' n1. bind (whnf_of S n1 u) (heads_compared S t')) t' n1 q ∙ bind_some (whnf_of S n1 u) (heads_compared S t') u' n2 r
+
+  pub normal_ends : (n m : ℕ) (t : Tree) → n ≡ suc m → whnf_of S m t ≡ None → normal_of S n t ≡ None
+  normal_ends n m t l e = by_weak n m t l ∙ bind_none (whnf_of S m t) (each_normal (normal_of S)) e
+
+  pub normal_goes : (n m j : ℕ) (t v : Tree) → n ≡ suc m → whnf_of S m t ≡ Some (v, j) → normal_of S n t ≡ each_normal (normal_of S) v j
+  normal_goes n m j t v l e = by_weak n m t l ∙ bind_some (whnf_of S m t) (each_normal (normal_of S)) v j e

@@ -8,8 +8,8 @@ use Rattle.dk_model.specs.Signatures.{PlainSignature, maybe_tree, rule_variable_
 use Rattle.dk_model.specs.Matrix.{Cell, blank, cell, is_rigid, rigid_at}
 use Rattle.dk_model.specs.Matrix.{Column as PlainColumn}
 use Rattle.dk_model.specs.Captures.{Captures, capture_at, captured, filled}
+use Rattle.dk_model.specs.Units.{Units}
 use Rattle.dk_model.specs.Selection.{cell_captures}
-use Rattle.dk_model.specs.Evaluation.{comparison_of, normal_of}
 use Rattle.dk_model.specs.declared.term.Term.{Term}
 use Rattle.dk_model.specs.declared.signature.Pat.{Pat, Rvar, Any, Guard, Sym', Var', Abs'}
 use Rattle.shared_term.specs.declared.stored.Stored.{Stored}
@@ -33,7 +33,7 @@ use Rattle.tree_evaluation.specs.declared.select.CellTrial.{CellTrial}
 use Rattle.tree_evaluation.specs.declared.select.RowTrial.{RowTrial}
 use Rattle.tree_evaluation.specs.Answers.{guard_of}
 use Rattle.tree_evaluation.specs.Views.{captures_of, pattern_cell}
-use Rattle.tree_evaluation.specs.Tellings.{StillLead, StillLeads, HasParts, PartTold, RecordTold, CapturesNew, CellCaptures, CellTold, RowCaptures, RowTold, GuardTold, GuardsTold, RowTaken}
+use Rattle.tree_evaluation.specs.Selecting.{StillLead, StillLeads, HasParts, PartTold, RecordTold, CapturesNew, CellCaptures, CellTold, RowCaptures, RowTold, GuardTold, GuardsTold, RowTaken}
 use Rattle.tree_evaluation.proofs.Capturing.{joins_append, guards_append, has_none, has_no_more, has_guard, has_new, has_same}
 
 module _ (S : PlainSignature) where
@@ -48,6 +48,8 @@ module _ (S : PlainSignature) where
   still_next : (e g : End) (es gs : List End) → StillLeads S e g → StillLead S es gs → (bases : List PlainColumn) → AreEnds S bases (e ∷ es) → AreEnds S bases (g ∷ gs)
   still_next e g es gs f h [] a = absurd a
   still_next e g es gs f h (b ∷ bs) a = let here : AreEnds S (b ∷ []) (g ∷ []) = f (b ∷ []) (a.0, a.1, tt) in (here.0, here.1, h bs a.2)
+
+  -- ---- a part
 
   -- ---- captures
 
@@ -80,20 +82,24 @@ module _ (S : PlainSignature) where
   no_variable (Var' k shape ps) n = tt
   no_variable (Abs' shape p) n = tt
 
-  -- any other cell: its column stays, and it captures nothing
-  abbrev pub Passes : Cell → End → Captured → ℕ → Type 0
-  Passes c column captured n = (cell_captures (normal_of S) (comparison_of S) c (column_of column) n (captures_of captured.captures)
-      ≡ Some (record { captures = Some (captures_of captured.captures); column = column_of column }, n)) × CellTold S c column captured (record { captured = Some captured; column = column })
+  pub cell_due : (N : ℕ → Tree → Units Tree) (C : ℕ → Tree → Tree → Units Bool) (c : Cell) (column : PlainColumn) (n : ℕ) (cs : Captures) → IsNoVariable c
+      → cell_captures N C c column n cs ≡ Some (record { captures = Some cs; column = column }, n)
+  cell_due N C (cell (rule_variable_pattern k xs)) column n cs i = absurd i
+  cell_due N C blank column n cs i = refl
+  cell_due N C (cell wildcard_pattern) column n cs i = refl
+  cell_due N C (cell (guard_pattern g)) column n cs i = refl
+  cell_due N C (cell (symbol_pattern k ps)) column n cs i = refl
+  cell_due N C (cell (variable_pattern k ps)) column n cs i = refl
+  cell_due N C (cell (abstraction_pattern p)) column n cs i = refl
 
-  pub other_cell : (c : Cell) (column : End) (captured : Captured) (n : ℕ) → IsNoVariable c → Passes c column captured n
-  other_cell (cell (rule_variable_pattern k xs)) column captured n i = absurd i
-  other_cell blank column captured n i = (refl, λ r. (λ bases a. a, (refl, λ parts h. has_no_more S parts (captures_of captured.captures) captured.joins h)))
-  other_cell (cell wildcard_pattern) column captured n i = (refl, λ r. (λ bases a. a, (at_wildcard, λ parts h. has_no_more S parts (captures_of captured.captures) captured.joins h)))
-  other_cell (cell (guard_pattern g)) column captured n i =
-      (refl, λ r. (λ bases a. a, (at_guard, λ parts h. has_guard S parts (captures_of captured.captures) captured.joins h column.depth g (tree column.told.form))))
-  other_cell (cell (symbol_pattern k ps)) column captured n i = (refl, λ r. cc)
-  other_cell (cell (variable_pattern k ps)) column captured n i = (refl, λ r. cc)
-  other_cell (cell (abstraction_pattern p)) column captured n i = (refl, λ r. cc)
+  pub other_cell : (c : Cell) (column : End) (captured : Captured) → IsNoVariable c → CellTold S c column captured (record { captured = Some captured; column = column })
+  other_cell (cell (rule_variable_pattern k xs)) column captured n = absurd n
+  other_cell blank column captured n = λ r. (λ bases a. a, (refl, λ parts h. has_no_more S parts (captures_of captured.captures) captured.joins h))
+  other_cell (cell wildcard_pattern) column captured n = λ r. (λ bases a. a, (at_wildcard, λ parts h. has_no_more S parts (captures_of captured.captures) captured.joins h))
+  other_cell (cell (guard_pattern g)) column captured n = λ r. (λ bases a. a, (at_guard, λ parts h. has_guard S parts (captures_of captured.captures) captured.joins h column.depth g (tree column.told.form)))
+  other_cell (cell (symbol_pattern k ps)) column captured n = λ r. cc
+  other_cell (cell (variable_pattern k ps)) column captured n = λ r. cc
+  other_cell (cell (abstraction_pattern p)) column captured n = λ r. cc
 
   module _ (k : ℕ) (xs : List ℕ) (d : ℕ) (told : Told) (before : Captured) (part : PartTrial) (p : PartTold S d xs told part) where
     part_kept : part.fits ≡ true → (after : Option Captured) → IfSome after (RecordTold S before k (captured d xs (tree part.told.form)))
@@ -148,14 +154,23 @@ module _ (S : PlainSignature) where
   no_guard (Var' k shape ps) n = tt
   no_guard (Abs' shape p) n = tt
 
-  pub other_guard : (c : Cell) (column : End) (n : ℕ) (captures : Captures) → IsNoGuard c → (guard_of S c (column_of column) n captures ≡ Some (true, n)) × GuardTold S c column captures []
-  other_guard (cell (guard_pattern g)) column n captures i = absurd i
-  other_guard (cell (rule_variable_pattern k xs)) column n captures i = (refl, λ s e. refl)
-  other_guard blank column n captures i = (refl, λ s e. refl)
-  other_guard (cell wildcard_pattern) column n captures i = (refl, λ s e. refl)
-  other_guard (cell (symbol_pattern k ps)) column n captures i = (refl, λ s e. refl)
-  other_guard (cell (variable_pattern k ps)) column n captures i = (refl, λ s e. refl)
-  other_guard (cell (abstraction_pattern p)) column n captures i = (refl, λ s e. refl)
+  pub guard_due : (c : Cell) (column : PlainColumn) (n : ℕ) (cs : Captures) → IsNoGuard c → guard_of S c column n cs ≡ Some (true, n)
+  guard_due (cell (guard_pattern g)) column n cs i = absurd i
+  guard_due (cell (rule_variable_pattern k xs)) column n cs i = refl
+  guard_due blank column n cs i = refl
+  guard_due (cell wildcard_pattern) column n cs i = refl
+  guard_due (cell (symbol_pattern k ps)) column n cs i = refl
+  guard_due (cell (variable_pattern k ps)) column n cs i = refl
+  guard_due (cell (abstraction_pattern p)) column n cs i = refl
+
+  pub other_guard : (c : Cell) (column : End) (captures : Captures) → IsNoGuard c → GuardTold S c column captures []
+  other_guard (cell (guard_pattern g)) column captures n = absurd n
+  other_guard (cell (rule_variable_pattern k xs)) column captures n = λ s e. refl
+  other_guard blank column captures n = λ s e. refl
+  other_guard (cell wildcard_pattern) column captures n = λ s e. refl
+  other_guard (cell (symbol_pattern k ps)) column captures n = λ s e. refl
+  other_guard (cell (variable_pattern k ps)) column captures n = λ s e. refl
+  other_guard (cell (abstraction_pattern p)) column captures n = λ s e. refl
 
   pub guard_joined : (g u : Tree) (column : End) (captures : Captures) (met : Meeting) (join : Join) (joins : List Join) → u ≡ shift 0 column.depth (filled captures 0 g)
       → MeetIn S (tree column.told.form) u met → MeetBy met join → joins ≡ join ∷ [] → GuardTold S (cell (guard_pattern g)) column captures joins

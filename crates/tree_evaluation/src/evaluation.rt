@@ -1,6 +1,6 @@
 //! The weak head form turn by turn, the comparison of two terms and the normal form (docs/evaluation.md).
 ghost use Rattle.std.specs.Prelude.{◌≡◌, ◌≤◌, ◌<◌, IfOk, IfSome, OnOk, Some, is_some, map};
-ghost use Rattle.dk_model.specs.Trees.{tree};
+ghost use Rattle.dk_model.specs.Trees.{tree, bare};
 ghost use Rattle.dk_model.specs.Parts.{each_normal};
 ghost use Rattle.dk_model.specs.Spines.{head_symbol};
 ghost use Rattle.dk_model.specs.Evaluation.{whnf_of, comparison_of, normal_of, columns, rows};
@@ -24,7 +24,7 @@ use told_steps::{
     met_product, met_same, told_annotated, told_application, told_body, told_contraction,
     told_product, unmoved,
 };
-use tree_terms::{arguments, filled, front, head_symbol, rules_of};
+use tree_terms::{arguments, body_of, filled, front, head_symbol, rules_of};
 
 /// How deep the functions of an evaluation may call each other.
 const DEEPEST: u32 = 2_000;
@@ -91,7 +91,7 @@ impl<'v> Evaluation<'v> {
 
     /// What the first rule of the head symbol that takes the arguments makes of a term, or nothing where none does.
     #[cycle(evaluation)]
-    #[tactic(auto, using(crate::proofs::Steps::bind_none, crate::proofs::Steps::bind_some))]
+    #[tactic(auto, using(crate::proofs::Steps::selection_ends, crate::proofs::Steps::selection_stands, crate::proofs::Steps::selection_goes))]
     fn rewrite(self, symbol: u32, term: &Term, left: &mut u64) -> Result<Option<Told>, Stop>
         requires { head_symbol (tree term.now) ≡ Some symbol }
         ensures gives { Leads (entries_of self.entry.version.now) (tree term.now)
@@ -110,7 +110,7 @@ impl<'v> Evaluation<'v> {
 
     /// Whether two terms are convertible.
     #[cycle(evaluation)]
-    #[tactic(auto, using(crate::proofs::Steps::comparison_out, crate::proofs::Steps::both_equal, crate::proofs::Steps::unequal, crate::proofs::Steps::bind_none, crate::proofs::Steps::bind_some))]
+    #[tactic(auto, using(crate::proofs::Steps::comparison_out, crate::proofs::Steps::both_equal, crate::proofs::Steps::first_ends, crate::proofs::Steps::second_ends, crate::proofs::Steps::by_heads))]
     pub fn same(self, t: &Term, u: &Term, left: &mut u64) -> Result<Option<Meeting>, Stop>
         ensures gives { Answers is_some
             (comparison_of (entries_of self.entry.version.now) left.old (tree t.now) (tree u.now))
@@ -137,7 +137,7 @@ impl<'v> Evaluation<'v> {
 
     /// Whether two weak head forms have the same head and as many arguments, and parts that are convertible.
     #[cycle(evaluation)]
-    #[tactic(auto, using(crate::proofs::Steps::bind_none, crate::proofs::Steps::bind_some, crate::proofs::Comparing::bodies, crate::proofs::Comparing::arguments_compared, crate::proofs::Comparing::products_compared))]
+    #[tactic(auto, using(crate::proofs::Steps::bind_none, crate::proofs::Steps::bind_some, crate::proofs::Comparing::bodies_due, crate::proofs::Comparing::arguments_compared, crate::proofs::Comparing::products_compared))]
     fn heads_same(self, t: &Term, u: &Term, left: &mut u64) -> Result<Option<Meeting>, Stop>
         ensures gives { Answers is_some
             (heads_compared (entries_of self.entry.version.now) (tree t.now) (tree u.now) left.old)
@@ -160,10 +160,13 @@ impl<'v> Evaluation<'v> {
                 };
                 Ok(Some(met_application(self.alloc, functions, arguments)?))
             }
-            (Term::Abs(None, b), Term::Abs(None, c)) => match inner.same(b, c, left)? {
-                Some(bodies) => Ok(Some(met_body(self.alloc, bodies)?)),
-                None => Ok(None),
-            },
+            (Term::Abs(None, _), Term::Abs(None, _)) => {
+                let (b, c) = bodies(t, u)?;
+                match inner.same(b, c, left)? {
+                    Some(bodies) => Ok(Some(met_body(self.alloc, bodies)?)),
+                    None => Ok(None),
+                }
+            }
             (Term::Prod(a, b), Term::Prod(c, d)) => {
                 let Some(domains) = inner.same(a, c, left)? else {
                     return Ok(None);
@@ -184,7 +187,7 @@ impl<'v> Evaluation<'v> {
 
     /// The normal form.
     #[cycle(evaluation)]
-    #[tactic(auto, using(crate::proofs::Steps::normal_out, crate::proofs::Steps::by_weak, crate::proofs::Steps::bind_none, crate::proofs::Steps::bind_some))]
+    #[tactic(auto, using(crate::proofs::Steps::normal_out, crate::proofs::Steps::normal_ends, crate::proofs::Steps::normal_goes))]
     pub fn normal(self, term: &Term, left: &mut u64) -> Result<Told, Stop>
         ensures gives { Answers form_told
             (normal_of (entries_of self.entry.version.now) left.old (tree term.now)) result left.new }
@@ -203,7 +206,7 @@ impl<'v> Evaluation<'v> {
 
     /// A weak head form with each of its parts normalised, from left to right.
     #[cycle(evaluation)]
-    #[tactic(auto, using(crate::proofs::Steps::bind_none, crate::proofs::Steps::bind_some))]
+    #[tactic(auto, using(crate::proofs::Parts::apply_ends, crate::proofs::Parts::apply_stops, crate::proofs::Parts::apply_goes, crate::proofs::Parts::bare_ends, crate::proofs::Parts::bare_goes, crate::proofs::Parts::annotated_ends, crate::proofs::Parts::annotated_stops, crate::proofs::Parts::annotated_goes, crate::proofs::Parts::product_ends, crate::proofs::Parts::product_stops, crate::proofs::Parts::product_goes))]
     fn each_normal(self, value: &Term, left: &mut u64) -> Result<Told, Stop>
         ensures gives { Answers form_told
             (each_normal (normal_of (entries_of self.entry.version.now)) (tree value.now) left.old)
@@ -239,6 +242,18 @@ impl<'v> Evaluation<'v> {
                 Ok(unmoved(self.alloc, value.copy(self.alloc)?))
             }
         }
+    }
+}
+
+/// The bodies of two abstractions. It wants memory where a term is none, or has an annotation.
+#[tactic(auto, using(crate::proofs::Comparing::with_body))]
+fn bodies<'t>(t: &'t Term, u: &'t Term) -> Result<(&'t Term, &'t Term), NoMemory>
+    ensures first { IfOk result (λ both. tree t.now ≡ bare (tree both.0.now)) }
+    ensures second { IfOk result (λ both. tree u.now ≡ bare (tree both.1.now)) }
+{
+    match (body_of(t), body_of(u)) {
+        (Some(b), Some(c)) => Ok((b, c)),
+        _ => Err(NoMemory),
     }
 }
 

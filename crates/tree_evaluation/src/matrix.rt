@@ -1,8 +1,9 @@
 //! The matrix of a selection: a row for each rule, a column for each part of the arguments (docs/evaluation.md).
-ghost use Rattle.std.specs.Prelude.{◌≡◌, ◌+◌, ◌<◌, ◌≤◌, ◌++◌, ◌∷◌, IfOk, IfSome, OnOk, length, map, take, drop, replicate};
+ghost use Rattle.std.specs.Prelude.{◌≡◌, ◌&&◌, eqb, ◌+◌, ◌<◌, ◌≤◌, ◌++◌, ◌∷◌, IfOk, IfSome, OnOk, length, map, take, drop, replicate};
 ghost use Rattle.std.specs.Option.{option_map};
-ghost use Rattle.dk_model.specs.Trees.{tree};
-ghost use Rattle.dk_model.specs.Matrix.{blank, is_rigid, rigid_at, cell_at, first_cells, opened_columns, refined_cells, refined_rows, width, rows_for};
+ghost use Rattle.dk_model.specs.Trees.{tree, symbol as symbol_tree, variable as variable_tree};
+ghost use Rattle.dk_model.specs.Spines.{head, arguments};
+ghost use Rattle.dk_model.specs.Matrix.{blank, is_rigid, rigid_at, cell_at, first_cells, opened_columns, refined_cells, refined_rows, heads_same, width, rows_for};
 ghost use Rattle.told_steps.specs.Ends.{column_of, columns_of};
 ghost use Rattle.told_steps.specs.Parts.{AlwaysLeadsTo};
 ghost use Rattle.tree_evaluation.specs.Views.{pattern_cell, plain_cell, plain_cells, at_depth, row as row_of, rule as rule_of, refined_row, cells_if};
@@ -250,6 +251,22 @@ fn opened_if<'v>(
     Ok(Some(behind_cell(alloc, Cell::Blank, parts)?))
 }
 
+/// Whether a value has this symbol at its head, and as many arguments as there are patterns.
+fn takes_symbol(value: &Term, symbol: u32, patterns: &[Pat<Stored>]) -> bool
+    ensures { result ≡ (heads_same (head (tree value.now)) (symbol_tree symbol)
+        && eqb (length (arguments (tree value.now))) (length patterns.now)) }
+{
+    is_applied(value, &Term::Sym(symbol), patterns.len())
+}
+
+/// The same of a variable.
+fn takes_variable(value: &Term, variable: u32, patterns: &[Pat<Stored>]) -> bool
+    ensures { result ≡ (heads_same (head (tree value.now)) (variable_tree variable)
+        && eqb (length (arguments (tree value.now))) (length patterns.now)) }
+{
+    is_applied(value, &Term::Var(u64::from(variable)), patterns.len())
+}
+
 /// This cell, and nothing for each of `count` parts.
 fn kept_cells<'v>(alloc: Global, cell: Cell<'v>, count: usize) -> Result<Vec<Cell<'v>>, NoMemory>
     ensures { IfOk result (λ cells. plain_cells cells.items
@@ -273,12 +290,12 @@ fn pattern_refined<'v>(
     match pattern {
         Pat::Sym(k, patterns) => {
             let patterns = patterns.as_slice();
-            let taken = is_applied(value, &Term::Sym(*k), patterns.len());
+            let taken = takes_symbol(value, *k, patterns);
             Ok(opened_if(alloc, taken, patterns)?)
         }
         Pat::Var(k, patterns) => {
             let patterns = patterns.as_slice();
-            let taken = is_applied(value, &Term::Var(u64::from(*k)), patterns.len());
+            let taken = takes_variable(value, *k, patterns);
             Ok(opened_if(alloc, taken, patterns)?)
         }
         Pat::Abs(body) => match body_of(value) {

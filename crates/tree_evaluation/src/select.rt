@@ -8,7 +8,8 @@ ghost use Rattle.dk_model.specs.Equations.{selection_of};
 ghost use Rattle.dk_model.specs.Selection.{row_taken, captures_of_row, cell_captures, part_at, recorded, guards_hold};
 ghost use Rattle.told_steps.specs.Ends.{column_of, columns_of};
 ghost use Rattle.tree_evaluation.specs.Answers.{Answers, by_value, guard_of};
-ghost use Rattle.tree_evaluation.specs.Tellings.{Selects, CapturesNew, CellTold, Folded, GuardTold, GuardsTold, PartTold, RecordTold, RowTold, RowTaken};
+ghost use Rattle.tree_evaluation.specs.Selecting.{CapturesNew, CellTold, Folded, GuardTold, GuardsTold, PartTold, RecordTold, RowTold, RowTaken};
+ghost use Rattle.tree_evaluation.specs.Tellings.{Selects};
 ghost use Rattle.tree_evaluation.specs.Views.{captures_of, capturing, plain_cell, plain_cells, row as row_of, selected, part_trial, cell_trial, row_trial};
 
 use crate::evaluation::{Evaluation, deeper};
@@ -92,13 +93,7 @@ impl<'v> Evaluation<'v> {
             None => {
                 let RowTrial { captured, columns } = inner.row_taken(row, columns, left)?;
                 match captured {
-                    Some(captured) => Ok(Some(Selected {
-                        captures: captured.captures,
-                        rule: row.rule,
-                        place: 0,
-                        ends: columns,
-                        joins: captured.joins,
-                    })),
+                    Some(captured) => Ok(Some(first_taken(row, captured, columns))),
                     None => match inner.select(rest, columns, left)? {
                         Some(selected) => Ok(Some(behind_first(selected)?)),
                         None => Ok(None),
@@ -321,7 +316,7 @@ impl<'v> Evaluation<'v> {
     /// captured before. No rule of a signature has a variable that it doesn't count; of one that has,
     /// nothing is said, as of want of memory.
     #[cycle(evaluation)]
-    #[tactic(auto, using(crate::proofs::Choosing::recorded_new, crate::proofs::Choosing::recorded_ends, crate::proofs::Choosing::recorded_again))]
+    #[tactic(auto, using(crate::proofs::Matched::recorded_new, crate::proofs::Matched::recorded_ends, crate::proofs::Matched::recorded_again))]
     fn recorded(
         self,
         captured: Captured,
@@ -347,7 +342,7 @@ impl<'v> Evaluation<'v> {
 
     /// Whether the guards of a row hold, in order: if so, what joins them.
     #[cycle(evaluation)]
-    #[tactic(auto, using(crate::proofs::Choosing::guard_first, crate::proofs::Steps::bind_none, crate::proofs::Steps::bind_some))]
+    #[tactic(auto, using(crate::proofs::Guards::guard_ends, crate::proofs::Guards::guard_fails, crate::proofs::Guards::guard_met))]
     fn guards_hold(
         self,
         cells: &[Cell],
@@ -415,6 +410,26 @@ impl<'v> Evaluation<'v> {
             Some(met) => Ok(Some(one_join(self.alloc, met.into_join())?)),
             None => Ok(None),
         }
+    }
+}
+
+/// The first row, which is taken.
+fn first_taken<'v>(row: &Row<'v>, captured: Captured, ends: LinkedList<End>) -> Selected<'v>
+    ensures { result ≡ record {
+      captures = captured.captures;
+      rule = row.now.rule;
+      place = 0;
+      ends = ends;
+      joins = captured.joins;
+    } }
+{
+    let Captured { captures, joins } = captured;
+    Selected {
+        captures,
+        rule: row.rule,
+        place: 0,
+        ends,
+        joins,
     }
 }
 

@@ -30,11 +30,12 @@ use Rattle.tree_evaluation.specs.declared.matrix.Row.{Row}
 use Rattle.tree_evaluation.specs.declared.select.Captured.{Captured}
 use Rattle.tree_evaluation.specs.declared.select.RowTrial.{RowTrial}
 use Rattle.tree_evaluation.specs.declared.select.Selected.{Selected}
-use Rattle.tree_evaluation.specs.Tellings.{Begins, Rewrites, Selects, CellTold, RowTold, GuardTold, GuardsTold, RowTaken, Folded}
+use Rattle.tree_evaluation.specs.Tellings.{Begins, Rewrites, Selects}
+use Rattle.tree_evaluation.specs.Selecting.{CellTold, RowTold, GuardTold, GuardsTold, RowTaken, Folded}
 use Rattle.tree_evaluation.specs.Views.{pattern_cell, plain_cell, plain_cells, captures_of, row, rule, selected, plain_selected}
-use Rattle.tree_evaluation.proofs.Taking.{still_one, recorded_first, recorded_met, IsNoVariable, no_variable, other_cell, IsNoGuard, no_guard, other_guard, part_recorded, cell_fails, cell_goes, guard_joined, guards_joined, row_takes}
+use Rattle.tree_evaluation.proofs.Taking.{still_one, recorded_first, recorded_met, IsNoVariable, no_variable, cell_due, other_cell, IsNoGuard, no_guard, guard_due, other_guard, part_recorded, cell_fails, cell_goes, guard_joined, guards_joined, row_takes}
 use Rattle.tree_evaluation.proofs.Rewriting.{rewrite_goes}
-use Rattle.tree_evaluation.proofs.Comparing.{equal_meet, meet_around, meet_together}
+use Rattle.tree_evaluation.proofs.Leading.{equal_meet, meet_around, meet_together}
 use Rattle.tree_evaluation.proofs.Selecting.{first_selects, next_selects, value_selects, row_skipped, value_due}
 use Rattle.tree_evaluation.proofs.evaluation.Evaluation.+evaluation.Goals as goal
 
@@ -71,14 +72,18 @@ captures_of_row-returns-in_ok-behind_column-in-None-clause-told t c =
 
 pub cell_captures-returns-in_default-clause-told : goal.cell_captures-returns-in_default-clause-told
 cell_captures-returns-in_default-clause-told t c = along (λ (cell : Cell). CellTold (entries_of c.args.self.version.now) (plain_cell cell) c.args.column c.args.captured (record { captured = Some c.args.captured; column = c.args.column }))
-    (flip c.in_default.is) (other_cell (entries_of c.args.self.version.now) blank c.args.column c.args.captured c.args.left.now tt).1
+    (flip c.in_default.is) (other_cell (entries_of c.args.self.version.now) blank c.args.column c.args.captured tt)
 
 pub cell_captures-returns-in_default-pattern : goal.cell_captures-returns-in_default-pattern
 cell_captures-returns-in_default-pattern t c =
     let S : PlainSignature = entries_of c.args.self.version.now in
     let is : plain_cell c.args.cell ≡ pattern_cell c.in-Pattern.pattern.now = ap plain_cell c.in-Pattern.is in
-    let passes = other_cell S (plain_cell c.args.cell) c.args.column c.args.captured c.args.left.now (along (IsNoVariable S) (flip is) (no_variable S c.in-Pattern.pattern.now c.in_default-pattern.not-Rvar)) in
-    record { gives = passes.0; spent = omega arith; told = passes.1 }
+    let other : IsNoVariable (entries_of c.args.self.version.now) (plain_cell c.args.cell) = along (IsNoVariable S) (flip is) (no_variable S c.in-Pattern.pattern.now c.in_default-pattern.not-Rvar) in
+    record {
+      gives = cell_due S (normal_of S) (comparison_of S) (plain_cell c.args.cell) (column_of c.args.column) c.args.left.now (captures_of c.args.captured.captures) other;
+      spent = omega arith;
+      told = other_cell S (plain_cell c.args.cell) c.args.column c.args.captured other;
+    }
 
 pub cell_captures-returns-then-not-fits-clause-told : goal.cell_captures-returns-then-not-fits-clause-told
 cell_captures-returns-then-not-fits-clause-told t c = λ r.
@@ -100,11 +105,12 @@ guard_holds-returns-in_default-pattern t c =
     let S : PlainSignature = entries_of c.args.self.version.now in
     let cs : Captures = map maybe_tree c.args.captures.now in
     let is : plain_cell c.args.cell ≡ pattern_cell c.in-Pattern.pattern.now = ap plain_cell c.in-Pattern.is in
-    let passes = other_guard S (plain_cell c.args.cell) c.args.column.now c.args.left.now cs (along (IsNoGuard S) (flip is) (no_guard S c.in-Pattern.pattern.now c.in_default-pattern.not-Guard)) in
+    let other : IsNoGuard (entries_of c.args.self.version.now) (plain_cell c.args.cell) = along (IsNoGuard S) (flip is) (no_guard S c.in-Pattern.pattern.now c.in_default-pattern.not-Guard) in
     record {
-      gives = passes.0;
+      gives = guard_due S (plain_cell c.args.cell) (column_of c.args.column.now) c.args.left.now cs other;
       spent = omega arith;
-      told = along (λ (joins : List Join). GuardTold S (plain_cell c.args.cell) c.args.column.now cs joins) (flip c.new-in_default-pattern.ensures) passes.1;
+      told = along (λ (joins : List Join). GuardTold S (plain_cell c.args.cell) c.args.column.now cs joins) (flip c.new-in_default-pattern.ensures)
+          (other_guard S (plain_cell c.args.cell) c.args.column.now cs other);
     }
 
 pub guard_holds-returns-in-Some-clause-told : goal.guard_holds-returns-in-Some-clause-told
@@ -186,10 +192,9 @@ pub select-returns-in-Some-captured-clause-told : goal.select-returns-in-Some-ca
 select-returns-in-Some-captured-clause-told t c =
     let S : PlainSignature = entries_of c.args.self.version.now in
     let loose : rigid_at (row c.row-item.result).cells ≡ None = loose_row c.row-item.result c.as_slice.result.now c.rigid_at.result c.as_slice.ensures.value c.rigid_at.ensures.value c.in-None.is in
-    let captured : Captured = c.in-Some-captured.captured in
-    let it : Selected = record { captures = captured.captures; rule = c.row-item.result.rule; place = 0; ends = c.in_ok-captured-in-None.field-0.columns; joins = captured.joins } in
-    along (λ (rows : List Row). Selects S rows c.args.columns it) (flip (headed c.args.rows.now c.row-item.result c.in-len1-up.len_at_least c.row-item.is))
-    (first_selects S c.row-item.result (behind c.args.rows.now) c.args.columns c.in_ok-captured-in-None.field-0 c.in_ok-captured-in-None.ensures.told loose captured it c.in-Some-captured.is refl)
+    along (λ (rows : List Row). Selects S rows c.args.columns c.first_taken.result) (flip (headed c.args.rows.now c.row-item.result c.in-len1-up.len_at_least c.row-item.is))
+    (first_selects S c.row-item.result (behind c.args.rows.now) c.args.columns c.in_ok-captured-in-None.field-0 c.in_ok-captured-in-None.ensures.told loose
+    c.in-Some-captured.captured c.first_taken.result c.in-Some-captured.is c.first_taken.ensures)
 
 pub select-returns-in_ok-behind_first-in-Some-2-clause-gives : goal.select-returns-in_ok-behind_first-in-Some-2-clause-gives
 select-returns-in_ok-behind_first-in-Some-2-clause-gives t c =
@@ -227,23 +232,41 @@ same_selected deeper it c r = ap (λ (captures : Vec (Option Term) Global). reco
 
 pub select_by_value-returns-clause-gives : goal.select_by_value-returns-clause-gives
 select_by_value-returns-clause-gives t c =
-    let f = value_due (entries_of c.args.self.version.now) c.args.left.now c.whnf.new.left c.args.at c.len-2.result (tree c.in_ok-value.value.form) c.unmoved.result c.args.columns c.cut.new.columns c.pop_front.new.self
-    c.in_ok-parts.parts c.in_ok-columns.columns c.in-Some.column c.args.rows.now c.in_ok-kept.kept.items c.as_slice.result.now c.in_ok-behind.ensures.before (flip c.in_ok-behind.ensures.behind ∙ c.in-Some.ensures.items)
-    c.in_ok-value.ensures.gives (c.unmoved.ensures.form ∙ c.in_ok-copy.ensures) c.in_ok-parts.ensures.columns c.in_ok-columns.ensures c.len-2.ensures.value c.as_slice.ensures.value c.in_ok-kept.ensures.rows in
+    let S : PlainSignature = entries_of c.args.self.version.now in
+    let column : End = c.in-Some.column in
+    let v : Tree = tree c.in_ok-value.value.form in
+    let own : column_of (record { depth = c.in-Some.column.depth; told = c.unmoved.result }) ≡ record { depth = c.in-Some.column.depth; term = tree c.in_ok-value.value.form } =
+    ap (λ (x : Tree). record { depth = c.in-Some.column.depth; term = x }) (c.unmoved.ensures.form ∙ c.in_ok-copy.ensures) in
+    let kept : map row c.as_slice.result.now ≡ refined_rows (tree c.in_ok-value.value.form) c.len-2.result c.args.at (map row c.args.rows.now) = ap (map row) c.as_slice.ensures.value ∙ c.in_ok-kept.ensures.rows in
+    let f = value_due S c.args.left.now c.whnf.new.left c.args.at c.len-2.result v c.args.columns c.cut.new.columns c.pop_front.new.self c.in_ok-parts.parts c.in_ok-columns.columns
+    column (record { depth = column.depth; told = c.unmoved.result }) c.args.rows.now c.as_slice.result.now c.in_ok-behind.ensures.before
+    (flip c.in_ok-behind.ensures.behind ∙ c.in-Some.ensures.items) c.in_ok-value.ensures.gives own c.in_ok-parts.ensures.columns c.in_ok-columns.ensures c.len-2.ensures.value kept in
     f ∙ c.in_ok-deeper.ensures.gives ∙ ap (λ (o : Option Selected). Some (selected o, c.select.new.left)) c.in-None.is
 
 pub select_by_value-returns-in_err-deeper-clause-gives : goal.select_by_value-returns-in_err-deeper-clause-gives
 select_by_value-returns-in_err-deeper-clause-gives t c =
-    let f = value_due (entries_of c.args.self.version.now) c.args.left.now c.whnf.new.left c.args.at c.len-2.result (tree c.in_ok-value.value.form) c.unmoved.result c.args.columns c.cut.new.columns c.pop_front.new.self
-    c.in_ok-parts.parts c.in_ok-columns.columns c.in-Some.column c.args.rows.now c.in_ok-kept.kept.items c.as_slice.result.now c.in_ok-behind.ensures.before (flip c.in_ok-behind.ensures.behind ∙ c.in-Some.ensures.items)
-    c.in_ok-value.ensures.gives (c.unmoved.ensures.form ∙ c.in_ok-copy.ensures) c.in_ok-parts.ensures.columns c.in_ok-columns.ensures c.len-2.ensures.value c.as_slice.ensures.value c.in_ok-kept.ensures.rows in
+    let S : PlainSignature = entries_of c.args.self.version.now in
+    let column : End = c.in-Some.column in
+    let v : Tree = tree c.in_ok-value.value.form in
+    let own : column_of (record { depth = c.in-Some.column.depth; told = c.unmoved.result }) ≡ record { depth = c.in-Some.column.depth; term = tree c.in_ok-value.value.form } =
+    ap (λ (x : Tree). record { depth = c.in-Some.column.depth; term = x }) (c.unmoved.ensures.form ∙ c.in_ok-copy.ensures) in
+    let kept : map row c.as_slice.result.now ≡ refined_rows (tree c.in_ok-value.value.form) c.len-2.result c.args.at (map row c.args.rows.now) = ap (map row) c.as_slice.ensures.value ∙ c.in_ok-kept.ensures.rows in
+    let f = value_due S c.args.left.now c.whnf.new.left c.args.at c.len-2.result v c.args.columns c.cut.new.columns c.pop_front.new.self c.in_ok-parts.parts c.in_ok-columns.columns
+    column (record { depth = column.depth; told = c.unmoved.result }) c.args.rows.now c.as_slice.result.now c.in_ok-behind.ensures.before
+    (flip c.in_ok-behind.ensures.behind ∙ c.in-Some.ensures.items) c.in_ok-value.ensures.gives own c.in_ok-parts.ensures.columns c.in_ok-columns.ensures c.len-2.ensures.value kept in
     grind (arith, common_steps)
 
 pub select_by_value-returns-in-Some-2-clause-gives : goal.select_by_value-returns-in-Some-2-clause-gives
 select_by_value-returns-in-Some-2-clause-gives t c =
-    let f = value_due (entries_of c.args.self.version.now) c.args.left.now c.whnf.new.left c.args.at c.len-2.result (tree c.in_ok-value.value.form) c.unmoved.result c.args.columns c.cut.new.columns c.pop_front.new.self
-    c.in_ok-parts.parts c.in_ok-columns.columns c.in-Some.column c.args.rows.now c.in_ok-kept.kept.items c.as_slice.result.now c.in_ok-behind.ensures.before (flip c.in_ok-behind.ensures.behind ∙ c.in-Some.ensures.items)
-    c.in_ok-value.ensures.gives (c.unmoved.ensures.form ∙ c.in_ok-copy.ensures) c.in_ok-parts.ensures.columns c.in_ok-columns.ensures c.len-2.ensures.value c.as_slice.ensures.value c.in_ok-kept.ensures.rows in
+    let S : PlainSignature = entries_of c.args.self.version.now in
+    let column : End = c.in-Some.column in
+    let v : Tree = tree c.in_ok-value.value.form in
+    let own : column_of (record { depth = c.in-Some.column.depth; told = c.unmoved.result }) ≡ record { depth = c.in-Some.column.depth; term = tree c.in_ok-value.value.form } =
+    ap (λ (x : Tree). record { depth = c.in-Some.column.depth; term = x }) (c.unmoved.ensures.form ∙ c.in_ok-copy.ensures) in
+    let kept : map row c.as_slice.result.now ≡ refined_rows (tree c.in_ok-value.value.form) c.len-2.result c.args.at (map row c.args.rows.now) = ap (map row) c.as_slice.ensures.value ∙ c.in_ok-kept.ensures.rows in
+    let f = value_due S c.args.left.now c.whnf.new.left c.args.at c.len-2.result v c.args.columns c.cut.new.columns c.pop_front.new.self c.in_ok-parts.parts c.in_ok-columns.columns
+    column (record { depth = column.depth; told = c.unmoved.result }) c.args.rows.now c.as_slice.result.now c.in_ok-behind.ensures.before
+    (flip c.in_ok-behind.ensures.behind ∙ c.in-Some.ensures.items) c.in_ok-value.ensures.gives own c.in_ok-parts.ensures.columns c.in_ok-columns.ensures c.len-2.ensures.value kept in
     f ∙ c.in_ok-deeper.ensures.gives ∙ ap (λ (o : Option Selected). Some (selected o, c.select.new.left)) c.in-Some-2.is
     ∙ ap (λ (p : PlainSelected). Some (Some p, c.select.new.left)) (flip (same_selected c.in-Some-2.deeper c.in_ok-folded-in-Some-2.field-0 c.in_ok-folded-in-Some-2.ensures.captures c.in_ok-folded-in-Some-2.ensures.rule))
 
@@ -324,3 +347,12 @@ heads_same-returns-in_ok-met_product-in-Prod-Prod-clause-told t c =
     (ap tree c.in-Prod-Prod.is-0 ∙ ap (λ (x : Term). product (tree x) (tree c.in-Prod-Prod.b.value)) (flip c.deref-in-Prod-Prod.ensures) ∙ ap (λ (x : Term). product f (tree x)) (flip c.deref-in-Prod-Prod-3.ensures))
     (ap tree c.in-Prod-Prod.is-1 ∙ ap (λ (x : Term). product (tree x) (tree c.in-Prod-Prod.d.value)) (flip c.deref-in-Prod-Prod-2.ensures) ∙ ap (λ (x : Term). product g (tree x)) (flip c.deref-in-Prod-Prod-4.ensures))
     c.in-Some-4.is c.in-Some-5.is c.in_ok-domains-in-Prod-Prod.ensures.told c.in_ok-codomains-in-Prod-Prod.ensures.told c.in_ok-met_product-in-Prod-Prod.ensures.meets
+
+pub heads_same-returns-in_ok-met_body-in-Some-3-clause-told : goal.heads_same-returns-in_ok-met_body-in-Some-3-clause-told
+heads_same-returns-in_ok-met_body-in-Some-3-clause-told t c =
+    let b : Tree = tree c.in_ok-b-in-Abs-None-default-Abs-None-default.b.now in
+    let d : Tree = tree c.in_ok-b-in-Abs-None-default-Abs-None-default.c.now in
+    meet_around (entries_of c.args.self.version.now) bare (tree c.args.t.now) (tree c.args.u.now) b d
+    c.in_ok-bodies-in-Abs-None-default-Abs-None-default.field-0 c.in-Some-3.bodies c.in_ok-met_body-in-Some-3.field-0
+    c.in_ok-b-in-Abs-None-default-Abs-None-default.ensures.first c.in_ok-b-in-Abs-None-default-Abs-None-default.ensures.second
+    c.in-Some-3.is c.in_ok-bodies-in-Abs-None-default-Abs-None-default.ensures.told c.in_ok-met_body-in-Some-3.ensures.meets
