@@ -1,16 +1,17 @@
 //! Terms that are made node by node, each after its parts, with no boxes.
 ghost use Rattle.std.specs.Prelude.{◌≡◌, ◌<◌, ◌≤◌, ◌∷◌, [], List, length, IfOk, OnOk};
-ghost use Rattle.dk_model.specs.Trees.{Tree, bare, rule_variable, star, symbol, variable};
+ghost use Rattle.dk_model.specs.Trees.{Tree, bare, rule_variable, star, symbol, tree, variable};
 ghost use Rattle.shared_term.specs.Changes.{joined};
 ghost use Rattle.shared_term.specs.Made.{AreMade, made, stack};
 ghost use Rattle.shared_term.specs.Pools.{IsWithin, denoted, terms};
 ghost use Rattle.shared_term.specs.Storage.{stored_term};
 
+use crate::boxing::boxed;
 use crate::change::Pair;
 use crate::listing::{Lately, shared};
 use crate::walk::joined;
 use crate::{Node, Stored, TermId};
-use dk_model::{NoMemory, NodeOf};
+use dk_model::{NoMemory, NodeOf, Term};
 use std::alloc::Global;
 use std::marker::Model;
 
@@ -164,5 +165,19 @@ impl Making {
             unreachable!()
         };
         Stored::of(self.alloc, self.nodes.as_slice(), root)
+    }
+
+    /// Takes the last term out, each part in memory of its own.
+    #[tactic(auto, using(crate::proofs::Made::popped_made, crate::proofs::Made::popped_there, crate::proofs::Made::taken_term, crate::proofs::Made::taken_rest))]
+    pub fn take_boxed(&mut self) -> Result<Term, NoMemory>
+        requires { 0 < length (stack self.old) }
+        ensures term { (x : Tree) (rest : List Tree) → stack self.old ≡ x ∷ rest →
+            IfOk result (λ t. tree t ≡ x) }
+        ensures rest { (x : Tree) (rest : List Tree) → stack self.old ≡ x ∷ rest → stack self.new ≡ rest }
+    {
+        let Some(root) = self.places.pop() else {
+            unreachable!()
+        };
+        boxed(self.alloc, self.nodes.as_slice(), root)
     }
 }
