@@ -1,5 +1,5 @@
 -- Reading goes on behind blanks.
-use Rattle.std.proofs.Common.{◌≡◌, ◌≤◌, ◌<◌, ℕ, Bool, true, suc, List, [], ◌∷◌, length, refl, sym, ap, subst, ◌∙◌, arith}
+use Rattle.std.proofs.Common.{◌≡◌, ◌≤◌, ◌<◌, ◌+◌, ℕ, Bool, true, suc, List, [], ◌∷◌, length, refl, sym, ap, subst, ◌∙◌, arith}
 use Rattle.std.specs.Prelude.{IfSome, Option, Some, None}
 use Rattle.dk_lexer.specs.declared.class.Class.{Class}
 use Rattle.dk_lexer.specs.declared.class.Class.TheVariants as class
@@ -8,6 +8,7 @@ use Rattle.dk_lexer.specs.declared.token.Token.{Token}
 use Rattle.dk_lexer.specs.Classes.{class_of}
 use Rattle.dk_lexer.specs.Spelling.{blank, spelled_by}
 use Rattle.dk_lexer.specs.Tokens.{behind, bound}
+use Rattle.dk_lexer.proofs.Bounds.{behind_offset}
 use Rattle.one_lexer.specs.declared.lexer.Lexer.{Lexer}
 use Rattle.one_lexer.specs.declared.lexer.State.TheVariants as state
 use Rattle.one_lexer.specs.Blanks.{GoesOver, is_blank_class}
@@ -31,11 +32,12 @@ blank_over last b here more is lt = λ over limits before ts command last_is r.
 -- so far, of all these bytes
 pub record Passed (last : ℕ) (here : Place) (bytes : List ℕ) (place : Place) (rest : List ℕ) : Type 0 where
   pub within : length rest ≤ length bytes
+  pub onward : here.offset ≤ place.offset
   pub rest_is : rest ≡ last_of (length rest) bytes
   pub goes_over : GoesOver last here bytes place rest
 
 pub passed_none : (last : ℕ) (here : Place) (bytes : List ℕ) → Passed last here bytes here bytes
-passed_none last here bytes = record { within = omega arith; rest_is = sym (last_all bytes); goes_over = λ over limits before ts command last_is r. r }
+passed_none last here bytes = record { within = omega arith; onward = omega arith; rest_is = sym (last_all bytes); goes_over = λ over limits before ts command last_is r. r }
 
 -- a first byte goes off the last ones
 rest_of : (rest more bytes : List ℕ) (b : ℕ) → rest ≡ b ∷ more → rest ≡ last_of (length rest) bytes → length rest ≤ length bytes → more ≡ last_of (length more) bytes
@@ -56,6 +58,7 @@ passed_more last b here place next bytes rest more is stands lt next_is p =
     let le = p.within in
     record {
       within = omega (arith, n, le);
+      onward = let on = p.onward in let next_offset : next.offset ≡ place.offset + 1 = ap (λ (q : Place). q.offset) next_is ∙ behind_offset place b in omega (arith, on, next_offset);
       rest_is = rest_of rest more bytes b is p.rest_is p.within;
       goes_over = λ over limits before ts command last_is r.
           let here_now = p.goes_over over limits before ts command last_is r in
@@ -75,7 +78,7 @@ pub knows_over_blanks : (over : Bool) (before bytes rest : List ℕ) (ts : List 
 knows_over_blanks over before bytes rest ts lexer place is goes k =
     knows over before rest ts (moved_to place lexer)
     (subst (KnowsBy over lexer.limits before ts rest (record { here = place; command = lexer.at.command })) (sym is)
-    (goes over lexer.limits before ts lexer.at.command refl (reads_between over before bytes ts lexer k is)))
+    (goes over lexer.limits before ts lexer.at.command (omega arith) (reads_between over before bytes ts lexer k is)))
 
 pub knows_if : (lexer : Lexer) (bytes : List ℕ) → lexer.state ≡ state.Between → (o : Option (Place × ℕ)) → IfSome o (λ passed. GoesOver (bound lexer.limits lexer.at.command).last lexer.at.here bytes passed.0 (last_of passed.1 bytes))
     → IfSome o (λ passed. (over : Bool) (before : List ℕ) (ts : List Token) → Knows over before ts bytes lexer → Knows over before ts (last_of passed.1 bytes) (moved_to passed.0 lexer))

@@ -1,4 +1,5 @@
 pub mod Slices
+pub mod NameBytes
 pub mod Bytes
 pub mod Quotes
 pub mod Wholes
@@ -19,5 +20,8 @@ pub mod Lexers
 pub mod Blanks
 pub mod Covers
 pub mod Founds
+pub mod SignLines
+pub mod PlainRuns
+pub mod Shorts
 pub mod FrontLaw
 pub mod Tells

@@ -1,5 +1,5 @@
 -- For proofs: reading goes on behind blanks.
-use Rattle.std.specs.Prelude.{◌≡◌, ℕ, Bool, true, false, List, Option}
+use Rattle.std.specs.Prelude.{◌≤◌, ℕ, Bool, true, false, List, Option}
 use Rattle.dk_model.specs.declared.limits.Limits.{Limits}
 use Rattle.dk_lexer.specs.declared.class.Class.{Class}
 use Rattle.dk_lexer.specs.declared.class.Class.TheVariants as class
@@ -14,7 +14,7 @@ is_blank_class class.Blank = true
 is_blank_class class.Newline = true
 is_blank_class _ = false
 
--- within this bound, what reads on at the one place reads on at the other
+-- where the bound is no nearer than this, what reads on at the one place reads on at the other
 abbrev pub GoesOver : ℕ → Place → List ℕ → Place → List ℕ → Type 0
 GoesOver last here bytes place rest = (over : Bool) (limits : Limits) (before : List ℕ) (ts : List Token) (command : Option ℕ)
-    → (bound limits command).last ≡ last → Reads over limits before ts here command bytes → Reads over limits before ts place command rest
+    → last ≤ (bound limits command).last → Reads over limits before ts here command bytes → Reads over limits before ts place command rest

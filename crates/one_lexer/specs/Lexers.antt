@@ -63,6 +63,10 @@ Takes over before ts bytes new (taken.Token spelt left) = Knows over before (ts 
 Takes over before ts bytes new (taken.More left) = Knows over before ts (last_of left bytes) new × HasAll over new.limits before ts new.at.here.line
 Takes over before ts bytes new (taken.Failed code) = Knows over before ts [] new × HasFault over new.limits before ts code new.at.here.line
 
+-- for proofs: the same lexer, standing elsewhere
+abbrev pub standing_at : Standing → Lexer → Lexer
+standing_at at lexer = record lexer { at = at }
+
 -- for proofs: the same lexer at another place
 abbrev pub moved_to : Place → Lexer → Lexer
 moved_to place lexer = record lexer { at = record { here = place; command = lexer.at.command } }

@@ -8,3 +8,4 @@ pub mod Bounds
 pub mod Places
 pub mod Steps
 pub mod Lexers
+pub mod Quick

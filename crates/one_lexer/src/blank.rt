@@ -5,23 +5,26 @@ ghost use Rattle.dk_lexer.specs.Tokens.{bound};
 ghost use Rattle.one_lexer.specs.Blanks.{GoesOver, is_blank_class};
 ghost use Rattle.one_lexer.specs.Reading.{last_of};
 
-use crate::next::{Standing, bound_of};
+use crate::bounds::bound_of;
+use crate::next::Standing;
 use dk_lexer::Place;
 use dk_model::Limits;
 
 // Does it stand between tokens.
 #[inline(always)]
 #[tactic(auto, unfolding(dk_lexer::specs::Classes::class_of))]
-fn is_blank(byte: u8) -> bool
+pub(crate) fn is_blank(byte: u8) -> bool
     ensures { result ≡ is_blank_class (class_of byte) }
 {
-    matches!(byte, b' ' | b'\t' | b'\r' | b'\n')
+    byte == b' ' || (byte < b' ' && matches!(byte, b'\t' | b'\r' | b'\n'))
 }
 
 // The place behind the blanks at the front of some bytes, as far as the bound goes, and how many bytes are left.
-fn over_blanks(last: u64, here: Place, bytes: &[u8]) -> (Place, usize)
+#[inline(always)]
+pub(crate) fn over_blanks(last: u64, here: Place, bytes: &[u8]) -> (Place, usize)
     requires { last ≤ 4294967294 }
     ensures within { result.1 ≤ length bytes.now }
+    ensures onward { here.offset ≤ result.0.offset }
     ensures goes_over { GoesOver last here bytes.now result.0 (last_of result.1 bytes.now) }
 {
     let mut place = here;

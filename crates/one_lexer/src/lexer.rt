@@ -2,11 +2,13 @@
 ghost use Rattle.std.specs.Prelude.{◌≡◌, ◌<◌, [], ℕ, Bool, List, IfSome, length, false, true};
 ghost use Rattle.dk_lexer.specs.declared.token.Token.{Token};
 ghost use Rattle.one_lexer.specs.Lexers.{BeginsWord, IsFewer, IsLeft, Knows, KnowsBy, Passes, Takes, limits_of, line_of, moved_to};
+ghost use Rattle.one_lexer.specs.Quick.{KnowsNext};
 ghost use Rattle.one_lexer.specs.Reading.{last_of};
 ghost use Rattle.one_lexer.specs.Steps.{Comes, ComesFrom, LeavesFewer};
 
 use crate::blank::pass_blanks;
 use crate::next::{Inside, Next, Spelt, Standing, read_inside, read_letters, read_next};
+use crate::quick::{Short, quick_token};
 use crate::word::{goes_on, word_begun};
 use dk_lexer::Place;
 use dk_model::{Code, Limits};
@@ -70,6 +72,7 @@ impl Lexer {
 
     /// Takes the next token of these bytes, which are those of the input that aren't taken yet, as far as they are there.
     /// After a fault every later call answers it again.
+    #[inline(always)]
     pub fn take<'a>(&mut self, bytes: &'a [u8]) -> Taken<'a>
         ensures limits { limits_of self.new ≡ limits_of self.old }
         ensures takes { (before : List ℕ) (ts : List Token) → Knows false before ts bytes.now self.old →
@@ -81,6 +84,7 @@ impl Lexer {
 
     /// Takes the next token of these bytes, which are all those of the input that aren't taken yet; where there is none,
     /// none is left.
+    #[inline(always)]
     pub fn finish<'a>(&mut self, bytes: &'a [u8]) -> Taken<'a>
         ensures limits { limits_of self.new ≡ limits_of self.old }
         ensures takes { (before : List ℕ) (ts : List Token) → Knows true before ts bytes.now self.old →
@@ -97,8 +101,35 @@ impl Lexer {
         self.at.here.line
     }
 
-    // One spelling after the other, up to a token.
+    // The next token, by the short way or by one spelling after the other.
+    #[inline(always)]
     fn step<'a>(&mut self, over: bool, bytes: &'a [u8]) -> Taken<'a>
+        ensures limits { limits_of self.new ≡ limits_of self.old }
+        ensures takes { (before : List ℕ) (ts : List Token) → Knows over before ts bytes.now self.old →
+            Takes over before ts bytes.now self.new result }
+        ensures left { IsLeft over (length bytes.now) result }
+    {
+        if let Some(short) = self.quick(bytes) {
+            self.at = short.behind;
+            return Taken::Token(short.spelt, short.left);
+        }
+        self.steps(over, bytes)
+    }
+
+    // The next token, where the short way has it.
+    #[inline(always)]
+    fn quick<'a>(&self, bytes: &'a [u8]) -> Option<Short<'a>>
+        ensures { IfSome result (λ short. KnowsNext bytes.now short self.now) }
+    {
+        match self.state {
+            State::Between => quick_token(self.limits, self.at, bytes),
+            State::Word(_) | State::Comment(_) | State::Failed(_) => None,
+        }
+    }
+
+    // One spelling after the other, up to a token.
+    #[inline(never)]
+    fn steps<'a>(&mut self, over: bool, bytes: &'a [u8]) -> Taken<'a>
         ensures limits { limits_of self.new ≡ limits_of self.old }
         ensures takes { (before : List ℕ) (ts : List Token) → Knows over before ts bytes.now self.old →
             Takes over before ts bytes.now self.new result }

@@ -2,6 +2,7 @@
 #![tactic(auto)]
 
 mod blank;
+mod bounds;
 mod carried;
 mod comment;
 mod dotted;
@@ -10,6 +11,7 @@ mod laws;
 mod lexer;
 mod name;
 mod next;
+mod quick;
 mod quoted;
 mod sign;
 mod spelled;

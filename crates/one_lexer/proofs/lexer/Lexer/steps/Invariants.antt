@@ -2,7 +2,7 @@ use Rattle.std.proofs.Common.{◌≡◌, ◌≤◌, ℕ, List, length}
 use Rattle.dk_lexer.specs.declared.token.Token.{Token}
 use Rattle.one_lexer.specs.Lexers.{Knows}
 use Rattle.one_lexer.specs.Reading.{last_of}
-use Rattle.one_lexer.proofs.lexer.Lexer.step.Given as goal
+use Rattle.one_lexer.proofs.lexer.Lexer.steps.Given as goal
 
 abbrev pub invariant-loop-rest : goal.invariant-loop-rest
 invariant-loop-rest l = record {
