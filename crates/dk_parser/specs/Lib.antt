@@ -3,6 +3,7 @@ pub mod Grammar
 pub mod Groups
 pub mod Levels
 pub mod Modules
+pub mod Needed
 pub mod Parsing
 pub mod RawViews
 pub mod Reading

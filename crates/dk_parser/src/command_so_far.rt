@@ -128,11 +128,11 @@ impl CommandSoFar {
         match (replace(&mut self.due, Due::Command), x) {
             (Due::Command, x) => Ok(self.command_next(alloc, x)),
             (Due::Name(sort), Terminal::Name(name)) => Ok(self.named(alloc, sort, name)),
-            (Due::Head, x) => Ok(self.head_next(alloc, x)),
+            (Due::Head, x) => Ok(self.head_next(x)),
             (Due::Binder, Terminal::Name(name)) => Ok(self.goes(Due::BinderColon(Some(name)))),
             (Due::Binder, Terminal::Wildcard) => Ok(self.goes(Due::BinderColon(None))),
             (Due::BinderColon(binder), Terminal::Sign(Sign::Colon)) => {
-                Ok(self.goes_into(alloc, Purpose::Param(binder)))
+                Ok(self.goes_into(Purpose::Param(binder)))
             }
             (Due::RuleName, Terminal::Name(_)) => Ok(self.goes(Due::RuleBrace)),
             (Due::RuleName, Terminal::Qualified(_, _)) => Ok(self.goes(Due::RuleBrace)),
@@ -172,10 +172,10 @@ impl CommandSoFar {
     }
 
     // Goes on with a term.
-    pub(crate) fn goes_into(&mut self, alloc: Global, purpose: Purpose) -> Advance
+    pub(crate) fn goes_into(&mut self, purpose: Purpose) -> Advance
         ensures { plain_step result self.new ≡ goes_into (plain_purpose self.old purpose) }
     {
-        self.term.begin(alloc);
+        self.term.begin();
         self.goes(Due::Term(purpose))
     }
 
@@ -204,10 +204,10 @@ impl CommandSoFar {
             }
             Terminal::NameWord => self.goes(Due::Module(Directive::Name)),
             Terminal::RequireWord => self.goes(Due::Module(Directive::Require)),
-            Terminal::Check => self.asks(alloc, false),
-            Terminal::Assert => self.asks(alloc, true),
-            Terminal::Infer => self.goes_into(alloc, Purpose::Query(Asking::Infer)),
-            Terminal::Eval => self.goes_into(alloc, Purpose::Query(Asking::Eval)),
+            Terminal::Check => self.asks(false),
+            Terminal::Assert => self.asks(true),
+            Terminal::Infer => self.goes_into(Purpose::Query(Asking::Infer)),
+            Terminal::Eval => self.goes_into(Purpose::Query(Asking::Eval)),
             _ => Advance::Refuses,
         }
     }
@@ -245,7 +245,7 @@ impl CommandSoFar {
                 Ok(self.goes(Due::Head))
             }
             (Purpose::Type, Sign::Dot) => self.dot_behind_type(alloc, term),
-            (Purpose::Type, Sign::Defined) => Ok(self.body_behind_type(alloc, term)),
+            (Purpose::Type, Sign::Defined) => Ok(self.body_behind_type(term)),
             (Purpose::Body(typ), Sign::Dot) => self.declares(alloc, typ, Some(term)),
             (Purpose::Entry(name), sign) => self.entry_read(alloc, name, Some(term), sign),
             (Purpose::Guard, Sign::CloseBrace) => {
@@ -253,7 +253,7 @@ impl CommandSoFar {
                 Ok(self.goes(Due::Left))
             }
             (Purpose::Right(left), sign) => self.rule_read(alloc, left, term, sign),
-            (Purpose::Asked(demand), sign) => Ok(self.asked_read(alloc, demand, term, sign)),
+            (Purpose::Asked(demand), sign) => Ok(self.asked_read(demand, term, sign)),
             (Purpose::Query(asking), sign) => self.query_read(alloc, asking, term, sign),
             _ => Ok(Advance::Refuses),
         }

@@ -45,14 +45,14 @@ impl CommandSoFar {
     }
 
     // A parameter, the colon, or `:=`.
-    pub(crate) fn head_next(&mut self, alloc: Global, x: Terminal) -> Advance
+    pub(crate) fn head_next(&mut self, x: Terminal) -> Advance
         ensures { plain_step result self.new ≡ head_next (plain_head self.old.head) x }
     {
         match x {
             Terminal::Sign(Sign::OpenBracket) => self.goes(Due::Binder),
-            Terminal::Sign(Sign::Colon) => self.goes_into(alloc, Purpose::Type),
+            Terminal::Sign(Sign::Colon) => self.goes_into(Purpose::Type),
             Terminal::Sign(Sign::Defined) => match self.head.sort {
-                SymSort::Definable => self.goes_into(alloc, Purpose::Body(None)),
+                SymSort::Definable => self.goes_into(Purpose::Body(None)),
                 _ => Advance::Refuses,
             },
             _ => Advance::Refuses,
@@ -98,13 +98,13 @@ impl CommandSoFar {
     }
 
     // The `:=` behind the type of a declaration.
-    pub(crate) fn body_behind_type(&mut self, alloc: Global, typ: RawTerm) -> Advance
+    pub(crate) fn body_behind_type(&mut self, typ: RawTerm) -> Advance
         ensures { plain_step result self.new
             ≡ body_behind_type self.old.head.sort (plain_head self.old.head) (written typ) }
     {
         match self.head.sort {
             SymSort::Static => Advance::Refuses,
-            _ => self.goes_into(alloc, Purpose::Body(Some(typ))),
+            _ => self.goes_into(Purpose::Body(Some(typ))),
         }
     }
 }

@@ -14,7 +14,7 @@ mod raw;
 mod rule_part;
 mod standing;
 
-pub use dk_terms::{RawBare, RawBinding, RawPair, RawPat, RawQualified, RawTerm, Terminal};
+pub use dk_terms::{Opening, RawOperation, RawPat, RawTerm, Span, Terminal, Wrap};
 pub use laws::{grammar_law, reading_law};
 pub use parser::{ParseFault, Parser, Step};
 pub use raw::{Raw, RawAsked, RawForm, RawNote, RawParam, RawRule};

@@ -2,15 +2,16 @@
 ghost use Rattle.std.specs.Prelude.{◌≡◌, ◌∷◌, ◌++◌, [], map, reverse, IfOk, OnOk};
 ghost use Rattle.std.specs.List.{flat_map};
 ghost use Rattle.dk_parser.specs.Modules.{modules_in, modules_in_asked, modules_in_maybe, modules_in_note, modules_in_param, modules_in_pattern, modules_in_rule, modules_of};
+ghost use Rattle.dk_parser.specs.Needed.{modules_at};
 ghost use Rattle.dk_parser.specs.RawViews.{maybe_written, written, written_asked, written_form, written_note, written_param, written_pattern, written_rule};
 
 use crate::{RawAsked, RawForm, RawNote, RawParam, RawRule};
 use dk_model::{Listed, NoMemory};
-use dk_terms::{RawPat, RawTerm};
+use dk_terms::{RawOperation, RawPat, RawTerm};
 use std::alloc::Global;
 
-// The modules so far, from the last one on. It goes backwards: an application is gone through by a loop from its last argument
-// to its head, and only brackets and bodies nest.
+// The modules so far, from the last one on. It goes backwards: a term is gone through by a loop from its last operation on, an
+// application of patterns from its last argument to its head, and only brackets of patterns nest.
 #[derive(Drop)]
 struct Needs {
     alloc: Global,
@@ -52,7 +53,7 @@ impl Needs {
             RawForm::Rules(rules) => self.rules(rules.as_slice()),
             RawForm::Query { asked, .. } => self.asked(asked),
             RawForm::Module(_) => Ok(()),
-            RawForm::Require(name) => self.add(name),
+            RawForm::Require(name) => self.add(name.as_slice()),
         }
     }
 
@@ -130,25 +131,30 @@ impl Needs {
         }
     }
 
+    // From the last operation on: names stand in a list as in the text.
+    #[tactic(auto, using(crate::proofs::Needed::needed_before, crate::proofs::Needed::all_needed))]
     fn term(&mut self, term: &RawTerm) -> Result<(), NoMemory>
         ensures { OnOk result (self.new.modules.items
             ≡ self.old.modules.items ++ reverse (modules_in (written term.now))) }
     {
-        let mut front = term;
-        loop {
-            match front {
-                RawTerm::Qualified(it) => return self.add(&it.module_name),
-                RawTerm::App(pair) | RawTerm::Arrow(pair) => {
-                    self.term(&pair.second)?;
-                    front = &pair.first;
-                }
-                RawTerm::Prod(it) | RawTerm::Annotated(it) => {
-                    self.term(&it.body)?;
-                    front = &it.domain;
-                }
-                RawTerm::Bare(it) => front = &it.body,
-                RawTerm::Name(_) | RawTerm::Star | RawTerm::Wild => return Ok(()),
+        let mut rest = term.operations.as_slice();
+        while let Some((last, front)) = rest.split_last() {
+            self.operation(term, *last)?;
+            rest = front;
+        }
+        Ok(())
+    }
+
+    fn operation(&mut self, term: &RawTerm, operation: RawOperation) -> Result<(), NoMemory>
+        ensures { OnOk result (self.new.modules.items
+            ≡ self.old.modules.items ++ modules_at term.now.letters operation) }
+    {
+        match operation {
+            RawOperation::Qualified(span, count) => {
+                let (module_name, _) = term.qualified(span, count);
+                self.add(module_name)
             }
+            _ => Ok(()),
         }
     }
 
@@ -159,7 +165,7 @@ impl Needs {
         let mut front = pattern;
         loop {
             match front {
-                RawPat::Qualified(name, _) => return self.add(name),
+                RawPat::Qualified(name, _) => return self.add(name.as_slice()),
                 RawPat::Guard(guard) => return self.term(guard),
                 RawPat::App(function, argument) => {
                     self.pattern(argument)?;
@@ -171,10 +177,10 @@ impl Needs {
         }
     }
 
-    fn add(&mut self, name: &Listed<u8>) -> Result<(), NoMemory>
+    fn add(&mut self, name: &[u8]) -> Result<(), NoMemory>
         ensures { OnOk result (self.new.modules.items ≡ self.old.modules.items ++ name.now ∷ []) }
     {
-        let name = name.copy(self.alloc)?;
+        let name = Listed::from_slice(self.alloc, name)?;
         self.modules.push(name)?;
         Ok(())
     }

@@ -52,26 +52,20 @@ impl Asking {
 
 impl CommandSoFar {
     // Behind `#CHECK` or `#ASSERT`.
-    pub(crate) fn asks(&mut self, alloc: Global, demand: bool) -> Advance
+    pub(crate) fn asks(&mut self, demand: bool) -> Advance
         ensures { plain_step result self.new ≡ asks demand }
     {
-        self.term.begin_asked(alloc);
+        self.term.begin_asked();
         self.goes(Due::Term(Purpose::Asked(demand)))
     }
 
     // A sign behind what is asked of.
-    pub(crate) fn asked_read(
-        &mut self,
-        alloc: Global,
-        demand: bool,
-        term: RawTerm,
-        sign: Sign,
-    ) -> Advance
+    pub(crate) fn asked_read(&mut self, demand: bool, term: RawTerm, sign: Sign) -> Advance
         ensures { plain_step result self.new ≡ behind_asked demand (written term) sign }
     {
         match sign {
-            Sign::Colon => self.goes_into(alloc, Purpose::Query(Asking::Typed(demand, term))),
-            Sign::Equal => self.goes_into(alloc, Purpose::Query(Asking::Equal(demand, term))),
+            Sign::Colon => self.goes_into(Purpose::Query(Asking::Typed(demand, term))),
+            Sign::Equal => self.goes_into(Purpose::Query(Asking::Equal(demand, term))),
             _ => Advance::Refuses,
         }
     }

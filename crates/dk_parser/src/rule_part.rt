@@ -74,7 +74,7 @@ impl CommandSoFar {
             ≡ named_next (plain_rule_head self.old.rules) name x) }
     {
         match x {
-            Terminal::Sign(Sign::Colon) => Ok(self.goes_into(alloc, Purpose::Entry(name))),
+            Terminal::Sign(Sign::Colon) => Ok(self.goes_into(Purpose::Entry(name))),
             Terminal::Sign(sign) => self.entry_read(alloc, name, None, sign),
             _ => Ok(Advance::Refuses),
         }
@@ -86,10 +86,10 @@ impl CommandSoFar {
             ≡ in_left_next (plain_rule_head self.old.rules) (plain_left self.old.left) x) }
     {
         match x {
-            Terminal::Sign(Sign::OpenBrace) => Ok(self.goes_into(alloc, Purpose::Guard)),
+            Terminal::Sign(Sign::OpenBrace) => Ok(self.goes_into(Purpose::Guard)),
             x => match self.left.next(alloc, x)? {
                 LeftStep::Goes => Ok(self.goes(Due::Left)),
-                LeftStep::Ends(left) => Ok(self.goes_into(alloc, Purpose::Right(left))),
+                LeftStep::Ends(left) => Ok(self.goes_into(Purpose::Right(left))),
                 LeftStep::Refuses => Ok(Advance::Refuses),
             },
         }

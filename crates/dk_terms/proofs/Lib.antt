@@ -1,1 +1,4 @@
+pub mod Framed
+pub mod Spelt
 pub mod Stacked
+pub mod Whole

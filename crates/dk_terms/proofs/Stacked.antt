@@ -1,20 +1,15 @@
 -- Lists that grow and shrink at their ends, as plain data.
-use Rattle.std.proofs.Common.{◌≡◌, ℕ, List, [], ◌∷◌, ◌++◌, refl, sym, ap, ◌∙◌}
-use Rattle.std.specs.Prelude.{Option, None}
+use Rattle.std.proofs.Common.{◌≡◌, ◌+◌, ℕ, List, [], ◌∷◌, ◌++◌, refl, sym, ap, ◌∙◌}
+use Rattle.std.specs.Prelude.{Option, None, drop}
+use Rattle.std.proofs.lemmas.List.{drop-drop}
 use Rattle.dk_lexer.specs.declared.token.Sign.{Sign}
-use Rattle.dk_terms.specs.declared.term_so_far.Frame.{Frame}
-use Rattle.dk_terms.specs.declared.term_so_far.Frame.TheVariants as frame
-use Rattle.dk_terms.specs.declared.term_so_far.Role.{Role}
-use Rattle.dk_terms.specs.declared.term_so_far.Wrap.{Wrap}
 use Rattle.dk_terms.specs.declared.left_so_far.PatternFrame.{PatternFrame}
 use Rattle.dk_terms.specs.declared.left_so_far.PatternFrame.TheVariants as pattern_frame
-use Rattle.dk_terms.specs.declared.raw.RawTerm.{RawTerm}
 use Rattle.dk_terms.specs.declared.raw.RawPat.{RawPat}
 use Rattle.dk_terms.specs.Parsing as plain
-use Rattle.dk_terms.specs.Parsing.{bracket_ended, domain_closed, ended, left_bound, left_ended, pattern_bracket_ended}
-use Rattle.dk_terms.specs.RawViews.{maybe_written}
-use Rattle.dk_terms.specs.Views.{maybe_pattern, plain_frame, plain_frames, plain_pattern_frame, plain_pattern_frames, plain_role, stacked_on, wrapped}
-use Rattle.dk_terms.specs.Written.{Written, WrittenPattern, pattern_bare}
+use Rattle.dk_terms.specs.Parsing.{left_bound, left_ended, pattern_bracket_ended}
+use Rattle.dk_terms.specs.Views.{maybe_pattern, plain_pattern_frame, plain_pattern_frames, stacked_on}
+use Rattle.dk_terms.specs.Written.{WrittenPattern, pattern_bare}
 
 stacked_more : {A B : Type 0} → (view : A → B) (ys : List B) (xs : List A) (x : A) → stacked_on view ys (xs ++ x ∷ []) ≡ view x ∷ stacked_on view ys xs
 stacked_more view ys [] x = refl
@@ -24,19 +19,7 @@ stacked_more view ys (y ∷ xs) x = stacked_more view (view y ∷ ys) xs x
 pub pushed : {A B : Type 0} → (view : A → B) (old new : List A) (x : A) → new ≡ old ++ x ∷ [] → stacked_on view [] new ≡ view x ∷ stacked_on view [] old
 pushed view old new x e = ap (stacked_on view []) e ∙ stacked_more view [] old x
 
--- the innermost frame makes a longer term
-pub ended_wrap : (old new : List Frame) (w : Wrap) (a t : Written) (s : Sign) → old ≡ new ++ frame.Wraps w ∷ [] → t ≡ wrapped w a → ended (plain_frames new) t s ≡ ended (plain_frames old) a s
-ended_wrap old new w a t s e is = ap (λ t. ended (plain_frames new) t s) is ∙ ap (λ fs. ended fs a s) (sym (pushed plain_frame new old (frame.Wraps w) e))
-
--- or it is a bracket
-pub ended_bracket : (old new : List Frame) (p : Role) (o : Option RawTerm) (a : Written) (s : Sign) → old ≡ new ++ frame.Bracket p o ∷ [] → bracket_ended (plain_frames new) (plain_role p) (maybe_written o) a s ≡ ended (plain_frames old) a s
-ended_bracket old new p o a s e = ap (λ fs. ended fs a s) (sym (pushed plain_frame new old (frame.Bracket p o) e))
-
--- a bracket closes behind a binder and its domain
-pub domain_popped : (old new : List Frame) (f : Frame) (v : Option (List ℕ)) (a : Written) (s : Sign) → old ≡ new ++ f ∷ [] → domain_closed (plain_frame f ∷ plain_frames new) v a s ≡ domain_closed (plain_frames old) v a s
-domain_popped old new f v a s e = ap (λ fs. domain_closed fs v a s) (sym (pushed plain_frame new old f e))
-
--- the same of the frames of a left side
+-- a frame of a left side makes a longer pattern
 pub left_wrap : (old new : List PatternFrame) (v : Option (List ℕ)) (p q : WrittenPattern) (s : Sign) → old ≡ new ++ pattern_frame.Bare v ∷ [] → q ≡ pattern_bare v p → left_ended (plain_pattern_frames new) q s ≡ left_ended (plain_pattern_frames old) p s
 left_wrap old new v p q s e is = ap (λ q. left_ended (plain_pattern_frames new) q s) is ∙ ap (λ fs. left_ended fs p s) (sym (pushed plain_pattern_frame new old (pattern_frame.Bare v) e))
 
@@ -50,3 +33,7 @@ bound_goes old outer same new f v e e' is =
     ap (λ fs. plain.left_within fs (plain.pattern_reading None)) (pushed plain_pattern_frame same new (pattern_frame.Bare v) is)
     ∙ ap (λ fs. plain.left_within (plain_pattern_frame (pattern_frame.Bare v) ∷ fs) (plain.pattern_reading None)) (pushed plain_pattern_frame outer same f e')
     ∙ ap (λ fs. left_bound fs (plain.pattern_bindable v)) (sym (pushed plain_pattern_frame outer old f e))
+
+-- what stands behind one more
+pub behind_one_more : (n : ℕ) (xs : List ℕ) → drop 1 (drop n xs) ≡ drop (n + 1) xs
+behind_one_more n xs = drop-drop 1 n xs

@@ -1,7 +1,12 @@
 pub mod Grammar
+pub mod Makes
 pub mod Parsing
+pub mod Parts
+pub mod Postfix
 pub mod RawViews
+pub mod Shapes
 pub mod Signs
+pub mod Stacks
 pub mod Terminals
 pub mod Views
 pub mod Written

@@ -1,13 +1,13 @@
 -- For proofs: terms and left sides so far as plain data.
-use Rattle.std.specs.Prelude.{List, [], ◌∷◌, Option, Some, None}
-use Rattle.dk_terms.specs.declared.term_so_far.Role.{Role}
-use Rattle.dk_terms.specs.declared.term_so_far.Role.TheVariants as role
-use Rattle.dk_terms.specs.declared.term_so_far.Application.{Application}
-use Rattle.dk_terms.specs.declared.term_so_far.Application.TheVariants as application
-use Rattle.dk_terms.specs.declared.term_so_far.Wrap.{Wrap}
-use Rattle.dk_terms.specs.declared.term_so_far.Wrap.TheVariants as wrap
-use Rattle.dk_terms.specs.declared.term_so_far.Frame.{Frame}
-use Rattle.dk_terms.specs.declared.term_so_far.Frame.TheVariants as frame
+use Rattle.std.specs.Prelude.{ℕ, Bool, true, false, List, [], ◌∷◌, Option, Some, None}
+use Rattle.dk_lexer.specs.declared.token.Sign.{Sign}
+use Rattle.dk_terms.specs.declared.operation.Wrap.{Wrap}
+use Rattle.dk_terms.specs.declared.frame.Role.{Role}
+use Rattle.dk_terms.specs.declared.frame.Role.TheVariants as role
+use Rattle.dk_terms.specs.declared.frame.Application.{Application}
+use Rattle.dk_terms.specs.declared.frame.Application.TheVariants as application
+use Rattle.dk_terms.specs.declared.frame.Frame.{Frame}
+use Rattle.dk_terms.specs.declared.frame.Frame.TheVariants as frame
 use Rattle.dk_terms.specs.declared.term_so_far.TermSoFar.{TermSoFar}
 use Rattle.dk_terms.specs.declared.term_so_far.TermStep.{TermStep}
 use Rattle.dk_terms.specs.declared.term_so_far.TermStep.TheVariants as term_step
@@ -19,44 +19,80 @@ use Rattle.dk_terms.specs.declared.left_so_far.LeftSoFar.{LeftSoFar}
 use Rattle.dk_terms.specs.declared.left_so_far.LeftStep.{LeftStep}
 use Rattle.dk_terms.specs.declared.left_so_far.LeftStep.TheVariants as left_step
 use Rattle.dk_terms.specs.declared.raw.RawPat.{RawPat}
-use Rattle.dk_terms.specs.Written.{Written, written_arrow, written_product, written_bare, written_annotated, WrittenPattern, pattern_bare}
-use Rattle.dk_terms.specs.RawViews.{maybe_written, written, written_pattern}
+use Rattle.dk_terms.specs.Written.{Written, written_star, WrittenPattern, pattern_bare}
+use Rattle.dk_terms.specs.Parts.{Parts, before_waiting, binder_in, last_waiting, parts}
+use Rattle.dk_terms.specs.Postfix.{Item, below, item_term, top_term, wrapped_items}
+use Rattle.dk_terms.specs.RawViews.{written, written_pattern}
+use Rattle.dk_terms.specs.Stacks.{innermost_first}
+pub use Rattle.dk_terms.specs.Stacks.{stacked_on}
 use Rattle.dk_terms.specs.Parsing as plain
-
--- these things on others, the last one on top
-abbrev pub stacked_on : {A B : Type 0} → (A → B) → List B → List A → List B
-stacked_on view ys [] = ys
-stacked_on view ys (x ∷ xs) = stacked_on view (view x ∷ ys) xs
 
 abbrev pub maybe_pattern : Option RawPat → Option WrittenPattern
 maybe_pattern None = None
 maybe_pattern (Some p) = Some (written_pattern p)
 
-abbrev pub plain_role : Role → plain.Role
-plain_role role.Front = plain.at_front
-plain_role role.Asked = plain.asked
-plain_role (role.Domain v) = plain.domain v
+-- ---- a term so far, by what its parts are: frames and applications take them from the top
 
-abbrev pub plain_application : Application → plain.Application
-plain_application (application.Reading p o) = plain.reading (plain_role p) (maybe_written o)
-plain_application (application.Bindable v) = plain.bindable v
-plain_application (application.Bracketed v a) = plain.bracketed v (written a)
+abbrev pub plain_role : Role → List (Option (List ℕ)) → plain.Role
+plain_role role.Front waiting = plain.at_front
+plain_role role.Asked waiting = plain.asked
+plain_role role.Domain waiting = plain.domain (last_waiting waiting)
 
-abbrev pub wrapped : Wrap → Written → Written
-wrapped (wrap.Arrow a) b = written_arrow (written a) b
-wrapped (wrap.Product v a) b = written_product v (written a) b
-wrapped (wrap.Bare v) b = written_bare v b
-wrapped (wrap.Annotated v a) b = written_annotated v (written a) b
+-- the binders that wait outside of an application
+abbrev pub waiting_outside : Role → List (Option (List ℕ)) → List (Option (List ℕ))
+waiting_outside role.Domain waiting = before_waiting waiting
+waiting_outside r waiting = waiting
 
-abbrev pub plain_frame : Frame → plain.Frame
-plain_frame (frame.Bracket p o) = plain.bracket_frame (plain_role p) (maybe_written o)
-plain_frame (frame.Wraps w) = plain.wrapping (λ b. wrapped w b)
+-- what stands before an atom, where something does
+abbrev pub read_before : Bool → List Item → Option Written
+read_before false items = None
+read_before true items = Some (top_term items)
 
-abbrev pub plain_frames : List Frame → List plain.Frame
-plain_frames fs = stacked_on plain_frame [] fs
+abbrev pub items_outside : Bool → List Item → List Item
+items_outside false items = items
+items_outside true items = below items
+
+-- the frames, the innermost first
+abbrev pub frames_over : List Item → List (Option (List ℕ)) → List Frame → List plain.Frame
+frames_over items waiting [] = []
+frames_over items waiting (frame.Bracket r read ∷ fs) =
+    plain.bracket_frame (plain_role r waiting) (read_before read items) ∷ frames_over (items_outside read items) (waiting_outside r waiting) fs
+frames_over items waiting (frame.Wraps w ∷ fs) =
+    plain.wrapping (λ b. top_term (wrapped_items w (item_term b ∷ items))) ∷ frames_over (below (wrapped_items w (item_term written_star ∷ items))) waiting fs
+
+abbrev pub term_over : Parts → List Frame → Application → plain.TermSoFar
+term_over p fs (application.Reading r read) = record {
+  frames = frames_over (items_outside read p.items) (waiting_outside r p.waiting) fs;
+  application = plain.reading (plain_role r p.waiting) (read_before read p.items);
+}
+term_over p fs application.Bindable = record {
+  frames = frames_over (below p.items) p.waiting fs;
+  application = plain.bindable (binder_in (top_term p.items));
+}
+term_over p fs application.Bracketed = record {
+  frames = frames_over (below p.items) (before_waiting p.waiting) fs;
+  application = plain.bracketed (last_waiting p.waiting) (top_term p.items);
+}
 
 abbrev pub plain_term : TermSoFar → plain.TermSoFar
-plain_term t = record { frames = plain_frames t.frames; application = plain_application t.application }
+plain_term t = term_over (parts t.list) (innermost_first t.frames.items) t.application
+
+-- a bracket opens: a term is due in it
+abbrev pub bracket_over : Parts → List Frame → Role → Bool → plain.TermStep
+bracket_over p fs r read = plain.framed (plain.bracket_frame (plain_role r p.waiting) (read_before read p.items))
+    (frames_over (items_outside read p.items) (waiting_outside r p.waiting) (innermost_first fs))
+
+-- a scope begins whose binder is on top of these parts: a term is due in it
+abbrev pub scope_over : Parts → List Frame → Wrap → plain.TermStep
+scope_over p fs w = plain.framed (plain.wrapping (λ b. top_term (wrapped_items w (item_term b ∷ p.items))))
+    (frames_over (below (wrapped_items w (item_term written_star ∷ p.items))) p.waiting (innermost_first fs))
+
+-- the last term in its frames, as a whole one, as the domain of the binder that waits last, and the sign behind it
+abbrev pub ended_over : Parts → List Frame → Sign → plain.TermStep
+ended_over p fs s = plain.ended (frames_over (below p.items) p.waiting (innermost_first fs)) (top_term p.items) s
+
+abbrev pub domain_over : Parts → List Frame → Sign → plain.TermStep
+domain_over p fs s = plain.domain_closed (frames_over (below p.items) (before_waiting p.waiting) (innermost_first fs)) (last_waiting p.waiting) (top_term p.items) s
 
 -- what a terminal came to, and the term that it left
 abbrev pub plain_term_step : TermStep → TermSoFar → plain.TermStep

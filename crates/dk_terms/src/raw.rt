@@ -1,59 +1,38 @@
 //! Terms and patterns as they are written, before scoping (docs/syntax.md).
+ghost use Rattle.std.specs.Prelude.{◌≡◌, [], Some, drop, take};
+ghost use Rattle.dk_terms.specs.Postfix.{one_term, shape_from, spelling};
+
+use crate::operation::{RawOperation, Span};
+use crate::slices::{before, behind};
 use dk_model::Listed;
 
-/// A term as written. Names keep their spelling; brackets are gone.
+/// A term as written, as a postfix list of its own. Names keep their spelling; brackets are gone.
 #[derive(Drop)]
-#[cycle(raw_term)]
-pub enum RawTerm {
-    Name(Listed<u8>),
-    /// A module and a name in it.
-    Qualified(Box<RawQualified>),
-    /// The word `Type`.
-    Star,
-    /// The wildcard.
-    Wild,
-    /// A term and its argument.
-    App(Box<RawPair>),
-    /// `A -> B`.
-    Arrow(Box<RawPair>),
-    /// `binder : A -> B`.
-    Prod(Box<RawBinding>),
-    /// `binder => t`.
-    Bare(Box<RawBare>),
-    /// `binder : A => t`.
-    Annotated(Box<RawBinding>),
+pub struct RawTerm {
+    pub operations: Listed<RawOperation>,
+    /// The letters of its names, one behind the other.
+    pub letters: Listed<u8>,
+    ghost whole: { shape_from operations (Some []) ≡ one_term },
 }
 
-/// A module and a name in it.
-#[derive(Drop)]
-pub struct RawQualified {
-    pub module_name: Listed<u8>,
-    pub name: Listed<u8>,
-}
+impl RawTerm {
+    /// The letters of a name.
+    pub fn spelling(&self, span: Span) -> &[u8]
+        ensures { result.now ≡ spelling self.now.letters span }
+    {
+        let letters = before(self.letters.as_slice(), span.to as usize);
+        behind(letters, span.from as usize)
+    }
 
-/// A term under a binder without a type. A binder that is None is the wildcard.
-#[derive(Drop)]
-#[cycle(raw_term)]
-pub struct RawBare {
-    pub binder: Option<Listed<u8>>,
-    pub body: RawTerm,
-}
-
-/// A term under a binder with a type. A binder that is None is the wildcard.
-#[derive(Drop)]
-#[cycle(raw_term)]
-pub struct RawBinding {
-    pub binder: Option<Listed<u8>>,
-    pub domain: RawTerm,
-    pub body: RawTerm,
-}
-
-/// Two terms in one block.
-#[derive(Drop)]
-#[cycle(raw_term)]
-pub struct RawPair {
-    pub first: RawTerm,
-    pub second: RawTerm,
+    /// The letters of a module, of which there are so many, and of a name in it.
+    pub fn qualified(&self, span: Span, count: u32) -> (&[u8], &[u8])
+        ensures module_name { result.0.now ≡ take count (spelling self.now.letters span) }
+        ensures name { result.1.now ≡ drop count (spelling self.now.letters span) }
+    {
+        let letters = self.spelling(span);
+        let count = count as usize;
+        (before(letters, count), behind(letters, count))
+    }
 }
 
 /// A pattern as written.

@@ -1,126 +1,26 @@
 //! Terms, one terminal at a time.
-ghost use Rattle.std.specs.Prelude.{◌≡◌, [], ◌∷◌, IfOk, None, Some};
-ghost use Rattle.dk_terms.specs.Parsing.{applied_to, arrow_next, asked_due, atom_next, binder_next, binder_term, bracket_ended, colon_next, domain_closed, double_arrow_next, end_next, ended, framed, open_next, reading, term_due, term_next, within};
-ghost use Rattle.dk_terms.specs.Views.{plain_application, plain_frame, plain_role, plain_term, plain_term_step, wrapped};
-ghost use Rattle.dk_terms.specs.RawViews.{maybe_written, written};
+ghost use Rattle.std.specs.Prelude.{◌≡◌, true, IfOk};
+ghost use Rattle.dk_terms.specs.Parts.{parts};
+ghost use Rattle.dk_terms.specs.Shapes.{is_bindable, shape_due};
 
-use crate::raw::{RawBare, RawBinding, RawQualified};
+use crate::RawTerm;
+use crate::frame::{Application, Frame, Role, is_closing};
+use crate::operation::Wrap;
+use crate::parts_so_far::{Atom, PartsSoFar};
 use crate::terminal::Terminal;
-use crate::{RawPair, RawTerm};
 use dk_lexer::Sign;
-use dk_model::{Listed, NoMemory};
+use dk_model::NoMemory;
 use std::alloc::Global;
-use std::mem::replace;
-
-/// Where an application stands.
-#[derive(Drop)]
-pub enum Role {
-    /// At the front of a term.
-    Front,
-    /// As what a query asks of: an application, and no longer term.
-    Asked,
-    /// As the domain of a binder. None is the wildcard.
-    Domain(Option<Listed<u8>>),
-}
-
-/// What has been read of an application and before it.
-#[derive(Drop)]
-pub enum Application {
-    /// Nothing, or some atoms.
-    Reading(Role, Option<RawTerm>),
-    /// A name or a wildcard at the front of a term: a binder or the first atom.
-    Bindable(Option<Listed<u8>>),
-    /// A binder and its domain in brackets: an arrow is due.
-    Bracketed(Option<Listed<u8>>, RawTerm),
-}
-
-/// What makes a longer term of the one behind it.
-#[derive(Drop)]
-pub enum Wrap {
-    /// `A ->`.
-    Arrow(RawTerm),
-    /// `x : A ->`.
-    Product(Option<Listed<u8>>, RawTerm),
-    /// `x =>`.
-    Bare(Option<Listed<u8>>),
-    /// `x : A =>`.
-    Annotated(Option<Listed<u8>>, RawTerm),
-}
-
-/// What waits for a term.
-#[derive(Drop)]
-pub enum Frame {
-    /// An open bracket, and what stood before it.
-    Bracket(Role, Option<RawTerm>),
-    Wraps(Wrap),
-}
-
-// A binder read as a term.
-#[inline(always)]
-fn binder_term(binder: Option<Listed<u8>>) -> RawTerm
-    ensures { written result ≡ binder_term binder }
-{
-    match binder {
-        Some(name) => RawTerm::Name(name),
-        None => RawTerm::Wild,
-    }
-}
-
-// An atom behind what has been read of its application.
-#[inline(always)]
-fn applied_to(alloc: Global, first: Option<RawTerm>, second: RawTerm) -> Result<RawTerm, NoMemory>
-    ensures { IfOk result (λ t. written t ≡ applied_to (maybe_written first) (written second)) }
-{
-    match first {
-        Some(first) => {
-            let pair = RawPair { first, second };
-            Ok(RawTerm::App(Box::new(alloc, pair)?))
-        }
-        None => Ok(second),
-    }
-}
-
-impl Wrap {
-    /// The longer term.
-    pub fn around(self, alloc: Global, b: RawTerm) -> Result<RawTerm, NoMemory>
-        ensures { IfOk result (λ t. written t ≡ wrapped self (written b)) }
-    {
-        match self {
-            Wrap::Arrow(first) => {
-                let second = b;
-                let pair = RawPair { first, second };
-                Ok(RawTerm::Arrow(Box::new(alloc, pair)?))
-            }
-            Wrap::Product(binder, a) => {
-                let it = RawBinding {
-                    binder,
-                    domain: a,
-                    body: b,
-                };
-                Ok(RawTerm::Prod(Box::new(alloc, it)?))
-            }
-            Wrap::Bare(binder) => {
-                let it = RawBare { binder, body: b };
-                Ok(RawTerm::Bare(Box::new(alloc, it)?))
-            }
-            Wrap::Annotated(binder, a) => {
-                let it = RawBinding {
-                    binder,
-                    domain: a,
-                    body: b,
-                };
-                Ok(RawTerm::Annotated(Box::new(alloc, it)?))
-            }
-        }
-    }
-}
 
 /// A term that has begun.
 #[derive(Drop)]
 pub struct TermSoFar {
-    // What waits for its parts, the outermost first.
-    frames: Listed<Frame>,
+    list: PartsSoFar,
+    // What waits for a term, the outermost first.
+    frames: Vec<Frame>,
     application: Application,
+    ghost shaped: { (parts list).shape ≡ shape_due application frames.items },
+    ghost bindable: { is_bindable application (parts list).items ≡ true },
 }
 
 /// What a terminal came to.
@@ -135,54 +35,52 @@ pub enum TermStep {
 }
 
 impl TermSoFar {
+    ghost use Rattle.dk_terms.specs.Parts.{binder_in, is_lone, with_scope, with_waiting, written_atom};
+    ghost use Rattle.dk_terms.specs.Parsing.{arrow_next, asked_due, atom_next, binder_next, colon_next, double_arrow_next, end_next, open_next, term_due, term_next};
+    ghost use Rattle.dk_terms.specs.Postfix.{by_arrow};
+    ghost use Rattle.dk_terms.specs.Shapes.{HasRead, is_after_term};
+    ghost use Rattle.dk_terms.specs.Views.{bracket_over, domain_over, ended_over, plain_term, plain_term_step, scope_over};
+
     /// Before the first terminal.
     pub fn new(alloc: Global) -> TermSoFar
         ensures { plain_term result ≡ term_due }
     {
         TermSoFar {
-            frames: Listed::new(alloc),
-            application: Application::Reading(Role::Front, None),
+            list: PartsSoFar::new(alloc),
+            frames: Vec::new(alloc),
+            application: Application::Reading(Role::Front, false),
         }
     }
 
     /// Begins anew.
-    pub fn begin(&mut self, alloc: Global)
+    pub fn begin(&mut self)
         ensures { plain_term self.new ≡ term_due }
     {
-        self.begin_as(alloc, Role::Front);
+        self.list.clear();
+        self.frames.clear();
+        self.application = Application::Reading(Role::Front, false);
     }
 
     /// Begins anew, with an application that a colon or another sign ends.
-    pub fn begin_asked(&mut self, alloc: Global)
+    pub fn begin_asked(&mut self)
         ensures { plain_term self.new ≡ asked_due }
     {
-        self.begin_as(alloc, Role::Asked);
+        self.list.clear();
+        self.frames.clear();
+        self.application = Application::Reading(Role::Asked, false);
     }
 
-    fn begin_as(&mut self, alloc: Global, role: Role)
-        ensures { plain_term self.new
-            ≡ record { frames = []; application = reading (plain_role role) None } }
-    {
-        let mut frames = replace(&mut self.frames, Listed::new(alloc)).into_vec();
-        frames.clear();
-        self.frames = Listed::from_vec(frames);
-        self.application = Application::Reading(role, None);
-    }
-
-    /// Takes a terminal.
+    /// Takes a terminal. Only a whole term takes memory that isn't kept.
     #[inline(always)]
     pub fn next(&mut self, alloc: Global, x: Terminal) -> Result<TermStep, NoMemory>
         ensures { IfOk result (λ step. plain_term_step step self.new
             ≡ term_next (plain_term self.old) x) }
     {
         match x {
-            Terminal::Name(n) => self.binder(alloc, Some(n)),
-            Terminal::Wildcard => self.binder(alloc, None),
-            Terminal::Qualified(module_name, name) => {
-                let it = RawQualified { module_name, name };
-                self.atom(alloc, RawTerm::Qualified(Box::new(alloc, it)?))
-            }
-            Terminal::Star => self.atom(alloc, RawTerm::Star),
+            Terminal::Name(n) => self.binder(Atom::Name(n.as_slice())),
+            Terminal::Wildcard => self.binder(Atom::Wild),
+            Terminal::Qualified(m, n) => self.atom(Atom::Qualified(m.as_slice(), n.as_slice())),
+            Terminal::Star => self.atom(Atom::Star),
             Terminal::Sign(Sign::OpenBracket) => self.open(),
             Terminal::Sign(Sign::Colon) => self.colon(alloc),
             Terminal::Sign(Sign::Arrow) => self.arrow(),
@@ -192,127 +90,99 @@ impl TermSoFar {
         }
     }
 
-    // The application, taken out.
-    #[inline(always)]
-    fn taken(&mut self) -> Application
-        ensures value { result ≡ self.old.application }
-        ensures frames { self.new.frames ≡ self.old.frames }
-    {
-        replace(
-            &mut self.application,
-            Application::Reading(Role::Front, None),
-        )
-    }
-
-    // Goes on behind this application.
-    #[inline(always)]
-    fn within(&mut self, application: Application) -> TermStep
-        ensures { plain_term_step result self.new
-            ≡ within (plain_term self.old).frames (plain_application application) }
-    {
-        self.application = application;
-        TermStep::Goes
-    }
-
-    // Puts a frame on; a term is due in it.
-    #[tactic(auto, using(crate::proofs::Stacked::pushed))]
-    #[inline(always)]
-    fn framed(&mut self, frame: Frame) -> Result<TermStep, NoMemory>
-        ensures { IfOk result (λ step. plain_term_step step self.new
-            ≡ framed (plain_frame frame) (plain_term self.old).frames) }
-    {
-        self.frames.push(frame)?;
-        Ok(self.within(Application::Reading(Role::Front, None)))
-    }
-
-    // An atom behind what has been read of its application.
-    #[inline(always)]
-    fn applied(
-        &mut self,
-        alloc: Global,
-        role: Role,
-        f: Option<RawTerm>,
-        a: RawTerm,
-    ) -> Result<TermStep, NoMemory>
-        ensures { IfOk result (λ step. plain_term_step step self.new
-            ≡ within (plain_term self.old).frames
-            (reading (plain_role role) (Some (applied_to (maybe_written f) (written a))))) }
-    {
-        let a = applied_to(alloc, f, a)?;
-        Ok(self.within(Application::Reading(role, Some(a))))
-    }
-
     // Another atom.
+    #[tactic(auto, using(crate::proofs::Framed::front_read))]
     #[inline(always)]
-    fn atom(&mut self, alloc: Global, a: RawTerm) -> Result<TermStep, NoMemory>
+    fn atom(&mut self, atom: Atom) -> Result<TermStep, NoMemory>
         ensures { IfOk result (λ step. plain_term_step step self.new
             ≡ atom_next (plain_term self.old).frames (plain_term self.old).application
-            (written a)) }
+            (written_atom atom.entry)) }
     {
-        match self.taken() {
-            Application::Reading(role, f) => self.applied(alloc, role, f, a),
-            Application::Bindable(v) => self.applied(alloc, Role::Front, Some(binder_term(v)), a),
-            Application::Bracketed(_, _) => Ok(TermStep::Refuses),
+        match self.application {
+            Application::Reading(role, read) => {
+                self.list.atom(atom, read)?;
+                self.application = Application::Reading(role, true);
+                Ok(TermStep::Goes)
+            }
+            Application::Bindable => {
+                self.list.atom(atom, true)?;
+                self.application = Application::Reading(Role::Front, true);
+                Ok(TermStep::Goes)
+            }
+            Application::Bracketed => Ok(TermStep::Refuses),
         }
     }
 
     // A name or a wildcard.
+    #[tactic(auto, using(crate::proofs::Framed::bound_later))]
     #[inline(always)]
-    fn binder(&mut self, alloc: Global, binder: Option<Listed<u8>>) -> Result<TermStep, NoMemory>
+    fn binder(&mut self, atom: Atom) -> Result<TermStep, NoMemory>
+        requires { is_lone (written_atom atom) ≡ true }
         ensures { IfOk result (λ step. plain_term_step step self.new
-            ≡ binder_next (plain_term self.old).frames (plain_term self.old).application binder) }
+            ≡ binder_next (plain_term self.old).frames (plain_term self.old).application
+            (binder_in (written_atom atom.entry))) }
     {
-        match self.application {
-            Application::Reading(Role::Front, None) => {
-                Ok(self.within(Application::Bindable(binder)))
-            }
-            _ => self.atom(alloc, binder_term(binder)),
+        if !self.application.is_first() {
+            return self.atom(atom);
         }
+        self.list.atom(atom, false)?;
+        self.application = Application::Bindable;
+        Ok(TermStep::Goes)
     }
 
+    #[tactic(auto, using(crate::proofs::Framed::front_read))]
     #[inline(always)]
     fn open(&mut self) -> Result<TermStep, NoMemory>
         ensures { IfOk result (λ step. plain_term_step step self.new
             ≡ open_next (plain_term self.old).frames (plain_term self.old).application) }
     {
-        match self.taken() {
-            Application::Reading(role, f) => self.framed(Frame::Bracket(role, f)),
-            Application::Bindable(v) => {
-                self.framed(Frame::Bracket(Role::Front, Some(binder_term(v))))
-            }
-            Application::Bracketed(_, _) => Ok(TermStep::Refuses),
+        match self.application {
+            Application::Reading(role, read) => self.bracket(role, read),
+            Application::Bindable => self.bracket(Role::Front, true),
+            Application::Bracketed => Ok(TermStep::Refuses),
         }
+    }
+
+    // A bracket in an application of which something may have been read.
+    #[tactic(auto, using(crate::proofs::Framed::on_top, crate::proofs::Framed::shaped_bracket))]
+    #[inline(always)]
+    fn bracket(&mut self, role: Role, read: bool) -> Result<TermStep, NoMemory>
+        requires { HasRead self.old.application read }
+        ensures { IfOk result (λ step. plain_term_step step self.new
+            ≡ bracket_over (parts self.old.list) self.old.frames.items role read) }
+    {
+        self.frames.reserve(1)?;
+        self.frames.push_reserved(Frame::Bracket(role, read));
+        self.application = Application::Reading(Role::Front, false);
+        Ok(TermStep::Goes)
     }
 
     fn colon(&mut self, alloc: Global) -> Result<TermStep, NoMemory>
         ensures { IfOk result (λ step. plain_term_step step self.new
             ≡ colon_next (plain_term self.old).frames (plain_term self.old).application) }
     {
-        match self.taken() {
-            Application::Bindable(v) => {
-                Ok(self.within(Application::Reading(Role::Domain(v), None)))
+        match self.application {
+            Application::Bindable => {
+                self.list.wait()?;
+                self.application = Application::Reading(Role::Domain, false);
+                Ok(TermStep::Goes)
             }
-            Application::Reading(role, read) => match (role, read) {
-                (Role::Asked, Some(a)) => self.unwind(alloc, a, Sign::Colon),
-                _ => Ok(TermStep::Refuses),
-            },
-            Application::Bracketed(_, _) => Ok(TermStep::Refuses),
+            Application::Reading(Role::Asked, true) => self.unwind(alloc, Sign::Colon),
+            _ => Ok(TermStep::Refuses),
         }
     }
 
+    #[tactic(auto, using(crate::proofs::Framed::front_read))]
     fn arrow(&mut self) -> Result<TermStep, NoMemory>
         ensures { IfOk result (λ step. plain_term_step step self.new
             ≡ arrow_next (plain_term self.old).frames (plain_term self.old).application) }
     {
-        match self.taken() {
-            Application::Bindable(v) => self.framed(Frame::Wraps(Wrap::Arrow(binder_term(v)))),
-            Application::Reading(role, read) => match (role, read) {
-                (Role::Front, Some(a)) => self.framed(Frame::Wraps(Wrap::Arrow(a))),
-                (Role::Domain(v), Some(a)) => self.framed(Frame::Wraps(Wrap::Product(v, a))),
-                (Role::Asked, Some(_)) => Ok(TermStep::Refuses),
-                (_, None) => Ok(TermStep::Refuses),
-            },
-            Application::Bracketed(v, a) => self.framed(Frame::Wraps(Wrap::Product(v, a))),
+        match self.application {
+            Application::Bindable => self.scope_of_arrow(),
+            Application::Reading(Role::Front, true) => self.scope_of_arrow(),
+            Application::Reading(Role::Domain, true) => self.scope(Wrap::Product),
+            Application::Bracketed => self.scope(Wrap::Product),
+            _ => Ok(TermStep::Refuses),
         }
     }
 
@@ -320,99 +190,103 @@ impl TermSoFar {
         ensures { IfOk result (λ step. plain_term_step step self.new
             ≡ double_arrow_next (plain_term self.old).frames (plain_term self.old).application) }
     {
-        match self.taken() {
-            Application::Bindable(v) => self.framed(Frame::Wraps(Wrap::Bare(v))),
-            Application::Reading(role, read) => match (role, read) {
-                (Role::Domain(v), Some(a)) => self.framed(Frame::Wraps(Wrap::Annotated(v, a))),
-                _ => Ok(TermStep::Refuses),
-            },
-            Application::Bracketed(_, _) => Ok(TermStep::Refuses),
+        match self.application {
+            Application::Bindable => {
+                self.list.wait()?;
+                self.application = Application::Reading(Role::Domain, false);
+                self.scope(Wrap::Bare)
+            }
+            Application::Reading(Role::Domain, true) => self.scope(Wrap::Annotated),
+            _ => Ok(TermStep::Refuses),
         }
     }
 
+    // Behind the arrow of a domain without a binder, the last term.
+    #[tactic(auto, using(crate::proofs::Framed::on_top, crate::proofs::Framed::shaped_scope))]
+    fn scope_of_arrow(&mut self) -> Result<TermStep, NoMemory>
+        requires { HasRead self.old.application true }
+        ensures { IfOk result (λ step. plain_term_step step self.new ≡ scope_over
+            (with_scope by_arrow (parts self.old.list)) self.old.frames.items Wrap.Product) }
+    {
+        self.frames.reserve(1)?;
+        self.list.begin_arrow()?;
+        self.frames.push_reserved(Frame::Wraps(Wrap::Product));
+        self.application = Application::Reading(Role::Front, false);
+        Ok(TermStep::Goes)
+    }
+
+    // Behind the arrow of the binder that waits last.
+    #[tactic(auto, using(crate::proofs::Framed::on_top, crate::proofs::Framed::shaped_scope))]
+    fn scope(&mut self, wrap: Wrap) -> Result<TermStep, NoMemory>
+        requires { HasRead self.old.application (is_after_term wrap) }
+        ensures { IfOk result (λ step. plain_term_step step self.new ≡ scope_over
+            (with_waiting (parts self.old.list)) self.old.frames.items wrap) }
+    {
+        self.frames.reserve(1)?;
+        self.list.begin_waiting()?;
+        self.frames.push_reserved(Frame::Wraps(wrap));
+        self.application = Application::Reading(Role::Front, false);
+        Ok(TermStep::Goes)
+    }
+
     // A sign that ends an application.
+    #[tactic(auto, using(crate::proofs::Framed::front_read))]
     fn end(&mut self, alloc: Global, sign: Sign) -> Result<TermStep, NoMemory>
         ensures { IfOk result (λ step. plain_term_step step self.new
             ≡ end_next (plain_term self.old).frames (plain_term self.old).application sign) }
     {
-        match self.taken() {
-            Application::Bindable(v) => self.unwind(alloc, binder_term(v), sign),
-            Application::Reading(role, read) => match (role, read) {
-                (Role::Front, Some(a)) => self.unwind(alloc, a, sign),
-                (Role::Asked, Some(a)) => self.unwind(alloc, a, sign),
-                (Role::Domain(v), Some(a)) => Ok(self.close_domain(v, a, sign)),
-                (_, None) => Ok(TermStep::Refuses),
-            },
-            Application::Bracketed(_, _) => Ok(TermStep::Refuses),
-        }
-    }
-
-    // A binder and its domain in brackets, at the front of a term.
-    #[tactic(auto, using(crate::proofs::Stacked::domain_popped))]
-    fn close_domain(&mut self, binder: Option<Listed<u8>>, a: RawTerm, sign: Sign) -> TermStep
-        ensures { plain_term_step result self.new
-            ≡ domain_closed (plain_term self.old).frames binder (written a) sign }
-    {
-        match self.frames.pop() {
-            Some(frame) => self.close_front(frame, binder, a, sign),
-            None => TermStep::Refuses,
-        }
-    }
-
-    fn close_front(
-        &mut self,
-        frame: Frame,
-        binder: Option<Listed<u8>>,
-        a: RawTerm,
-        sign: Sign,
-    ) -> TermStep
-        ensures { plain_term_step result self.new ≡ domain_closed
-            (plain_frame frame ∷ (plain_term self.old).frames) binder (written a) sign }
-    {
-        match frame {
-            Frame::Bracket(role, read) => match (role, read, sign) {
-                (Role::Front, None, Sign::CloseBracket) => {
-                    self.within(Application::Bracketed(binder, a))
-                }
-                _ => TermStep::Refuses,
-            },
-            Frame::Wraps(_) => TermStep::Refuses,
-        }
-    }
-
-    // The sign behind a term in its frames.
-    #[tactic(auto, using(crate::proofs::Stacked::ended_wrap, crate::proofs::Stacked::ended_bracket))]
-    fn unwind(&mut self, alloc: Global, a: RawTerm, sign: Sign) -> Result<TermStep, NoMemory>
-        ensures { IfOk result (λ step. plain_term_step step self.new
-            ≡ ended (plain_term self.old).frames (written a) sign) }
-    {
-        let mut term = a;
-        while let Some(frame) = self.frames.pop() {
-            match frame {
-                Frame::Wraps(wrap) => term = wrap.around(alloc, term)?,
-                Frame::Bracket(role, f) => return self.close(alloc, role, f, term, sign),
-            }
-        }
-        Ok(TermStep::Ends(term, sign))
-    }
-
-    // The bracket around a term, and the sign behind the term.
-    #[inline(always)]
-    fn close(
-        &mut self,
-        alloc: Global,
-        role: Role,
-        f: Option<RawTerm>,
-        a: RawTerm,
-        sign: Sign,
-    ) -> Result<TermStep, NoMemory>
-        ensures { IfOk result (λ step. plain_term_step step self.new
-            ≡ bracket_ended (plain_term self.old).frames (plain_role role) (maybe_written f)
-            (written a) sign) }
-    {
-        match sign {
-            Sign::CloseBracket => self.applied(alloc, role, f, a),
+        match self.application {
+            Application::Bindable => self.unwind(alloc, sign),
+            Application::Reading(Role::Front, true) => self.unwind(alloc, sign),
+            Application::Reading(Role::Asked, true) => self.unwind(alloc, sign),
+            Application::Reading(Role::Domain, true) => Ok(self.close_domain(sign)),
             _ => Ok(TermStep::Refuses),
         }
+    }
+
+    // The binder that waits last and its domain in brackets, at the front of a term.
+    #[tactic(auto, using(crate::proofs::Framed::shaped_domain))]
+    fn close_domain(&mut self, sign: Sign) -> TermStep
+        requires { HasRead self.old.application true }
+        ensures { plain_term_step result self.new
+            ≡ domain_over (parts self.old.list) self.old.frames.items sign }
+    {
+        let Some(frame) = self.frames.pop() else {
+            return TermStep::Refuses;
+        };
+        if frame.is_domain() && is_closing(sign) {
+            self.application = Application::Bracketed;
+            return TermStep::Goes;
+        }
+        self.frames.push_reserved(frame);
+        TermStep::Refuses
+    }
+
+    // The sign behind the last term in its frames.
+    #[tactic(auto, using(crate::proofs::Framed::shaped_wrap, crate::proofs::Framed::shaped_close))]
+    fn unwind(&mut self, alloc: Global, sign: Sign) -> Result<TermStep, NoMemory>
+        requires { HasRead self.old.application true }
+        ensures { IfOk result (λ step. plain_term_step step self.new
+            ≡ ended_over (parts self.old.list) self.old.frames.items sign) }
+    {
+        self.application = Application::Reading(Role::Front, true);
+        self.list.reserve()?;
+        while let Some(frame) = self.frames.pop() {
+            match frame {
+                Frame::Wraps(wrap) => self.list.wrap(wrap),
+                Frame::Bracket(role, read) => {
+                    if is_closing(sign) {
+                        self.list.apply(read);
+                        self.application = Application::Reading(role, true);
+                        return Ok(TermStep::Goes);
+                    }
+                    self.frames.push_reserved(frame);
+                    return Ok(TermStep::Refuses);
+                }
+            }
+            self.list.reserve()?;
+        }
+        let term = self.list.whole(alloc)?;
+        Ok(TermStep::Ends(term, sign))
     }
 }

@@ -1,7 +1,8 @@
 //! Terminals: what a token is to the grammar (docs/grammar.md).
-ghost use Rattle.std.specs.Prelude.{◌≡◌, ◌+◌, IfOk, drop, position, take};
+ghost use Rattle.std.specs.Prelude.{◌≡◌, IfOk, position};
 ghost use Rattle.dk_terms.specs.Terminals.{dot_role, is_dot, module_part, name_part, query_terminal, terminal_of, word_terminal};
 
+use crate::slices::{before, behind};
 use dk_lexer::{Sign, Token, TokenKind};
 use dk_model::{Listed, NoMemory};
 use std::alloc::Global;
@@ -91,6 +92,7 @@ fn query_word(spelling: &[u8]) -> Terminal
 }
 
 // The two parts of a qualified name.
+#[tactic(auto, using(crate::proofs::Stacked::behind_one_more))]
 fn qualified(alloc: Global, spelling: Listed<u8>) -> Result<Terminal, NoMemory>
     ensures { IfOk result
         (λ x. x ≡ Terminal.Qualified (module_part spelling) (name_part spelling)) }
@@ -98,7 +100,7 @@ fn qualified(alloc: Global, spelling: Listed<u8>) -> Result<Terminal, NoMemory>
     let bytes = spelling.as_slice();
     let dot = dot_role(bytes);
     let module = Listed::from_slice(alloc, before(bytes, dot))?;
-    let name = Listed::from_slice(alloc, behind(bytes, dot))?;
+    let name = Listed::from_slice(alloc, behind(behind(bytes, dot), 1))?;
     Ok(Terminal::Qualified(module, name))
 }
 
@@ -114,26 +116,4 @@ fn dot_role(bytes: &[u8]) -> usize
     ensures { result ≡ dot_role bytes.now }
 {
     first_dot(bytes).unwrap_or(bytes.len())
-}
-
-// What stands before a place.
-fn before(bytes: &[u8], role: usize) -> &[u8]
-    ensures { result.now ≡ take role bytes.now }
-{
-    if role < bytes.len() {
-        &bytes[..role]
-    } else {
-        bytes
-    }
-}
-
-// What stands behind a place.
-fn behind(bytes: &[u8], role: usize) -> &[u8]
-    ensures { result.now ≡ drop (role + 1) bytes.now }
-{
-    if role < bytes.len() {
-        &bytes[role + 1..]
-    } else {
-        &[]
-    }
 }

@@ -1,6 +1,7 @@
 -- The commands of a file, found one after the other.
 use Rattle.std.proofs.Common.{List, [], ◌∷◌, ◌++◌, length, ℕ, suc, ◌≡◌, ◌+◌, Bool, true, false, refl, ap, sym, subst, ◌∙◌, arith, if◌then◌else◌}
-use Rattle.std.specs.Prelude.{Option, Some, None, Err}
+use Rattle.std.specs.Prelude.{Option, Some, None, Result, Ok, Err, IfOk}
+use Rattle.dk_model.specs.declared.memory.NoMemory.{NoMemory}
 use Rattle.dk_model.specs.Scoping.{PlainCommand}
 use Rattle.dk_model.specs.declared.limits.Limits.{Limits}
 use Rattle.dk_lexer.specs.Tokens.{whole}
@@ -24,6 +25,7 @@ use Rattle.command_texts.specs.declared.span.Span.{Span}
 use Rattle.prune_theory.specs.Folds.{AreAccepted, Declared, accepts_none, accepts_more}
 use Rattle.prune_file.specs.Files.{commands_in, stated_in}
 use Rattle.prune_file.specs.Pruned.{declared_at, declares}
+use Rattle.prune_file.specs.declared.commands.Commands.{Commands}
 use Rattle.prune_file.specs.Commands.{Adds, AreScoped, Found, HasAll, HasTaken, Stands, Takes, TakesBy, TakesNext, nothing_found, place_with, spans_in, symbols_behind}
 
 -- ---- one more at the end of a list
@@ -212,3 +214,13 @@ same_commands own (f ∷ fs) (c ∷ cs) (accepts_more {c = d} e a rest) are =
   where
     same_scoped : (c d : PlainCommand) → scoped c ≡ scoped d → c ≡ d
     same_scoped c d e = cc
+
+-- what is told of all that was found tells more
+pub tells : (o : Result Commands NoMemory) (P Q : Commands → Type 0) → IfOk o P → ((all : Commands) → P all → Q all) → IfOk o Q
+tells (Ok all) P Q is more = more all is
+tells (Err n) P Q is more = tt
+
+-- of all that was found, where reading ended with the file
+pub whole_found : (o : Result Commands NoMemory) (e : ReadEnd) (found : Commands) (Q : Commands → Type 0)
+    → IfOk o (λ all. (e ≡ end.Whole) × (all ≡ found)) → (e ≡ end.Whole → Q found) → IfOk o Q
+whole_found o e found Q is holds = tells o _ Q is (λ all whole. subst Q (sym whole.1) (holds whole.0))

@@ -75,6 +75,12 @@ abbrev pub TakesNext : List ℕ → Next → Span → Found → Found → Type 0
 TakesNext name (next.Command raw) span old new = Adds name (written_form raw.form) span old new
 TakesNext name (next.Directive raw) span old new = new ≡ old
 
+-- the first of these spans is that of the next one, and these are behind it
+pub record TakesFirst (name : List ℕ) (next : Next) (spans behind : List Span) (old new : Found) : Type 0 where
+  pub span : Span
+  pub first : spans ≡ span ∷ behind
+  pub takes : TakesNext name next span old new
+
 -- these commands and directives, with these spans, were gone through
 pub record HasTaken (own : Module) (name : List ℕ) (done : List WrittenCommand) (spans : List Span) (s : Found) : Type 0 where
   pub even : length spans ≡ length done

@@ -1,11 +1,15 @@
 //! The commands of a file in memory, each scoped behind those before it.
-ghost use Rattle.std.specs.Prelude.{◌≡◌, [], List, IfOk, OnOk};
+ghost use Rattle.std.specs.Prelude.{◌≡◌, ℕ, [], List, IfOk, OnOk};
+ghost use Rattle.dk_model.specs.declared.limits.Limits.{Limits};
 ghost use Rattle.dk_parser.specs.RawViews.{written_form};
 ghost use Rattle.dk_parser.specs.Written.{WrittenCommand};
 ghost use Rattle.scope_terms.specs.Names.{reading};
 ghost use Rattle.scope_terms.specs.Reading.{after_entering, no_reading};
 ghost use Rattle.text_law.specs.Cuts.{IsReadAs};
-ghost use Rattle.prune_file.specs.Commands.{Adds, HasAll, TakesNext, found_of, nothing_found};
+ghost use Rattle.file_reader.specs.declared.reader.ReadEnd.TheVariants.{Whole};
+ghost use Rattle.file_reader.specs.Progress.{HasBegun};
+ghost use Rattle.scope_terms.specs.Scopes.{Module};
+ghost use Rattle.prune_file.specs.Commands.{Adds, HasAll, Stands, TakesFirst, TakesNext, found_of, nothing_found};
 ghost use Rattle.prune_file.specs.Pruned.{declares};
 
 use crate::memory::BookInMemory;
@@ -111,6 +115,62 @@ impl Commands {
             Next::Directive(_) => Ok(()),
         }
     }
+
+    // The next command or directive, with the first of these spans; gives those behind it.
+    fn take_first<'s>(
+        &mut self,
+        alloc: Global,
+        name: &[u8],
+        next: &Next,
+        spans: &'s [Span],
+    ) -> Result<&'s [Span], NoMemory>
+        ensures { IfOk result (λ behind. TakesFirst name.now next.now spans.now behind.now
+            (found_of self.old) (found_of self.new)) }
+    {
+        let Some((span, behind)) = spans.split_first() else {
+            return Err(NoMemory);
+        };
+        self.take(alloc, name, next, *span)?;
+        Ok(behind)
+    }
+
+    // All that the reader gives of the book up to its end, with these spans.
+    fn read_on(
+        mut self,
+        name: &[u8],
+        reader: &mut Reader,
+        book: &mut BookInMemory,
+        spans: &[Span],
+    ) -> Result<Commands, NoMemory>
+        requires { HasBegun reader.old }
+        ensures { IfOk result (λ all. (limits : Limits) (own : Module) (bytes : List ℕ) →
+            Stands limits own name.now bytes spans.now [] reader.old book.old.rest.now spans.now
+            (found_of self) → (items : List WrittenCommand) → IsReadAs limits bytes items →
+            HasAll own name.now items spans.now (found_of all)) }
+    {
+        let alloc = *self.scoped.allocator();
+        let mut rest = spans;
+        'items: loop {
+            match reader.next(alloc, book) {
+                Ok(next) => {
+                    let behind = self.take_first(alloc, name, &next, rest);
+                    drop(next);
+                    rest = behind?;
+                }
+                Err(end) => return found_whole(end, self),
+            }
+        }
+    }
+}
+
+// What was found, where reading ended with the file.
+fn found_whole(end: ReadEnd, found: Commands) -> Result<Commands, NoMemory>
+    ensures { IfOk result (λ all. (end ≡ Whole) × (all ≡ found)) }
+{
+    match end {
+        ReadEnd::Whole => Ok(found),
+        _ => Err(NoMemory),
+    }
 }
 
 /// The commands of a file with these bytes, whose commands and directives have these spans. Where not all of it can be read and
@@ -127,8 +187,7 @@ pub fn read_commands(
         IsReadAs limits bytes.now items →
         HasAll own.now name.now items spans.now (found_of found)) }
 {
-    let names = names_in(alloc, own)?;
-    let mut found = Commands::new(alloc, names);
+    let found = Commands::new(alloc, names_in(alloc, own)?);
     let mut reader = Reader::new(alloc, limits);
     let mut book = BookInMemory {
         rest: bytes,
@@ -136,18 +195,5 @@ pub fn read_commands(
         has_below: false,
         missed: 0,
     };
-    let mut rest = spans;
-    'items: loop {
-        match reader.next(alloc, &mut book) {
-            Ok(next) => {
-                let Some((span, behind)) = rest.split_first() else {
-                    return Err(NoMemory);
-                };
-                found.take(alloc, name, &next, *span)?;
-                rest = behind;
-            }
-            Err(ReadEnd::Whole) => return Ok(found),
-            Err(_) => return Err(NoMemory),
-        }
-    }
+    found.read_on(name, &mut reader, &mut book, spans)
 }

@@ -1,4 +1,4 @@
--- The context of a rule, entry by entry.
+-- The context of a rule, entry by entry, and rules.
 use Rattle.std.proofs.Common.{◌≡◌, ◌∙◌, ap, sym, subst, ℕ, ◌+◌, ◌<◌, Bool, true, false, not, List, [], ◌∷◌, ◌++◌, length, map, drop, get_or, is_some, if◌then◌else◌, refl, arith}
 use Rattle.std.specs.Prelude.{Option}
 use Rattle.std.proofs.lemmas.List.{at_drop_more, map-append}
@@ -8,11 +8,13 @@ use Rattle.dk_model.specs.declared.term.Term.{Term}
 use Rattle.dk_model.specs.declared.code.Code.TheVariants.{E13}
 use Rattle.dk_model.specs.declared.code.Fault.{Fault}
 use Rattle.dk_model.specs.declared.code.Fault.TheVariants.{Refused}
-use Rattle.dk_model.specs.Scoping.{PlainLeft, PlainScopedRule}
+use Rattle.dk_model.specs.Scoping.{PlainLeft, PlainScopedRule, plain_scoped_rule}
+use Rattle.dk_model.specs.declared.scoped.ScopedRule.{ScopedRule}
 use Rattle.dk_parser.specs.Written.{WrittenNote, WrittenRule}
-use Rattle.dk_parser.specs.RawViews.{written_note}
+use Rattle.dk_parser.specs.RawViews.{written_note, written_rule}
 use Rattle.dk_parser.specs.declared.raw.RawNote.{RawNote}
-use Rattle.scope_terms.specs.Scopes.{Numbered, Symbols, no_names, term_of, left_of, rule_of, Scoping, scoped, refused, both, number_of, with_name, maybe_term_of, notes_of, variables_of}
+use Rattle.dk_parser.specs.declared.raw.RawRule.{RawRule}
+use Rattle.scope_terms.specs.Scopes.{Numbered, Symbols, no_names, term_of, left_of, rule_of, rules_of, Scoping, scoped, refused, both, number_of, with_name, maybe_term_of, notes_of, variables_of}
 use Rattle.scope_terms.specs.Answers.{IsFaultOf}
 use Rattle.scope_terms.proofs.Stages.{behind, behind_more, both_scoped, both_first, one_fault, first_of}
 
@@ -55,6 +57,17 @@ notes_fault symbols names before context i e lt is whole done fault first at not
     ∙ ap (λ (x : RawNote). behind (map maybe_tree done) (notes_of symbols names before (written_note x ∷ map written_note (drop (i + 1) context)))) (sym is) in
     let faulty : IsFaultOf (if there then refused E13 else both_of) first = subst (λ (f : Fault). IsFaultOf (if there then refused E13 else both_of) f) (sym which) (first_of there E13 both_of fault (both_first (λ x xs. x ∷ xs) here rest fault note)) in
     subst (λ (s : Scoping (List (Option Tree))). IsFaultOf s first) (sym now) (one_fault into (if there then refused E13 else both_of) first faulty)
+
+-- the first fault at a rule that has one
+pub rules_fault : (symbols : Symbols) (names : Numbered) (rules : List RawRule) (i : ℕ) (r : RawRule) → i < length rules → r ≡ get_or rules i r → (whole : Scoping (List PlainScopedRule)) (done : List ScopedRule) (fault : Fault) → whole ≡ behind (map plain_scoped_rule done) (rules_of symbols names (map written_rule (drop i rules))) → IsFaultOf (rule_of symbols names (written_rule r)) fault → IsFaultOf whole fault
+rules_fault symbols names rules i r lt is whole done fault at faulty =
+    let first = map plain_scoped_rule done in
+    let here : Scoping PlainScopedRule = rule_of symbols names (written_rule r) in
+    let rest : Scoping (List PlainScopedRule) = rules_of symbols names (map written_rule (drop (i + 1) rules)) in
+    let now = at ∙ at_drop_more (λ rs. behind first (rules_of symbols names (map written_rule rs))) rules i r lt
+    ∙ ap (λ (x : RawRule). behind first (rules_of symbols names (written_rule x ∷ map written_rule (drop (i + 1) rules)))) (sym is) in
+    subst (λ (s : Scoping (List PlainScopedRule)). IsFaultOf s fault) (sym now)
+    (one_fault (λ ss. first ++ ss) (both (λ s ss. s ∷ ss) here rest) fault (both_first (λ s ss. s ∷ ss) here rest fault faulty))
 
 -- each entry takes one number
 pub count_variables : (before : Numbered) (es : List WrittenNote) → (variables_of before es).count ≡ before.count + length es

@@ -8,8 +8,8 @@ pub mod Stages
 pub mod Contexts
 pub mod Declarations
 pub mod Rows
-pub mod Spines
 pub mod PatternSpines
 pub mod Binding
 pub mod Placing
 pub mod PlacedDeclarations
+pub mod Standing

@@ -56,12 +56,6 @@ body_under (refused c) s = refl
 body_under (scoped a) (refused c) = refl
 body_under (scoped a) (scoped x) = refl
 
-nothing_under : (a : Scoping Tree) (s : Scoping Declaration) → ((d : Declaration) → s ≡ scoped d → s ≡ scoped (plain None None))
-    → (d : Declaration) → both with_parameter a s ≡ scoped d → both with_parameter a s ≡ scoped (plain None None)
-nothing_under (refused c) s h d is = cc
-nothing_under (scoped a) (refused c) h d is = cc
-nothing_under (scoped a) (scoped inner) h d is = ap (one (with_parameter a)) (h inner refl)
-
 -- ---- under all
 
 module _ (symbols : Symbols) (names : Numbered) where
@@ -83,19 +77,7 @@ module _ (symbols : Symbols) (names : Numbered) where
       ap (both with_parameter (term_of symbols names no_names bound p.typ)) (declared_bodied (p.binder ∷ bound) ps b)
       ∙ body_under (term_of symbols names no_names bound p.typ) (under_params symbols names Abstraction (p.binder ∷ bound) ps b)
 
-  declared_nothing : (bound : List Binder) (ps : List WrittenParam) (d : Declaration) → declaration_of symbols names bound ps None None ≡ scoped d
-      → declaration_of symbols names bound ps None None ≡ scoped (plain None None)
-  declared_nothing bound [] d is = refl
-  declared_nothing bound (p ∷ ps) d is =
-      nothing_under (term_of symbols names no_names bound p.typ) (declaration_of symbols names (p.binder ∷ bound) ps None None) (declared_nothing (p.binder ∷ bound) ps) d is
-
   -- ---- what the code comes to
-
-  pub nothing_placed : (bound : List Binder) (ps : List WrittenParam) (t b : Option Written) (d : Declaration) → t ≡ None → b ≡ None
-      → declaration_of symbols names bound ps t b ≡ scoped d → declaration_of symbols names bound ps t b ≡ scoped (plain None None)
-  nothing_placed bound ps None None d e f is = declared_nothing bound ps d is
-  nothing_placed bound ps None (Some b) d e f is = cc
-  nothing_placed bound ps (Some t) b d e f is = cc
 
   pub whole_placed : (bound : List Binder) (ps : List WrittenParam) (t b : Written) (x y : Tree) → under_params symbols names Product bound ps t ≡ scoped x → under_params symbols names Abstraction bound ps b ≡ scoped y
       → declaration_of symbols names bound ps (Some t) (Some b) ≡ scoped (whole x y)

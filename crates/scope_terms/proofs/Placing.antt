@@ -1,7 +1,7 @@
 -- What is made of two parts, one after the other.
 use Rattle.std.proofs.Common.{◌≡◌, ◌-◌, ◌<◌, ◌≤◌, List, [], ◌∷◌, drop, get_or, length, map, take, ap, sym, subst, ◌∙◌, refl, arith}
 use Rattle.std.proofs.lemmas.List.{take_all}
-use Rattle.std.specs.Borrow.{Bor}
+use Rattle.std.specs.Prelude.{None}
 use Rattle.dk_model.specs.Trees.{Tree}
 use Rattle.dk_model.specs.declared.code.Fault.{Fault}
 use Rattle.dk_parser.specs.RawViews.{written, written_param}
@@ -11,10 +11,9 @@ use Rattle.shared_term.specs.Changes.{joined}
 use Rattle.shared_term.specs.declared.change.Pair.{Pair}
 use Rattle.scope_terms.specs.Answers.{IsFaultOf}
 use Rattle.scope_terms.specs.Binding.{binders}
-use Rattle.scope_terms.specs.Meanings.{names_of, rule_variables, symbols_of, term_sense}
-use Rattle.scope_terms.specs.Placing.{Pushes, under_params, under_sense}
-use Rattle.scope_terms.specs.Scopes.{Binder, Numbered, Scoping, both, no_names, one, scoped, term_of}
-use Rattle.scope_terms.specs.Spines.{spine_sense}
+use Rattle.scope_terms.specs.Meanings.{declaring, names_of, rule_variables, symbols_of, term_sense}
+use Rattle.scope_terms.specs.Placing.{Pushes, no_parts, under_params, under_sense}
+use Rattle.scope_terms.specs.Scopes.{Binder, Declaration, Numbered, Scoping, both, declaration_of, no_names, one, scoped, term_of, with_parameter}
 use Rattle.scope_terms.specs.declared.binders.Binders.{Binders}
 use Rattle.scope_terms.specs.declared.meaning.Scope.{Scope}
 use Rattle.scope_terms.proofs.Stages.{both_scoped, both_second, one_scoped}
@@ -75,17 +74,22 @@ module _ (scope : Scope) (bound under : Binders) (pair : Pair) (param : RawParam
       subst (λ (s : Scoping Tree). Pushes s old new) (under_more none is at)
       (pushes_both (joined pair) (term_sense scope bound param.typ) (under_sense scope under pair others raw) old mid later new p q join)
 
--- ---- an application, argument by argument
+-- ---- a parameter with nothing under it
 
-pub two_on : (s : Scoping Tree) (mid later old : List Tree) (x : Tree) → mid ≡ x ∷ old → Pushes s mid later → 2 ≤ length later
-two_on s mid later old x is p =
-    subst (λ (ts : List Tree). 2 ≤ length ts) (sym (p.made ∙ ap (λ ts. p.term ∷ ts) is)) (omega arith)
+module _ (scope : Scope) (bound under : Binders) (param : RawParam) (others all : List RawParam) where
+  params_more : rule_variables scope ≡ no_names → all ≡ param ∷ others → binders under ≡ param.binder ∷ binders bound
+      → both with_parameter (term_sense scope bound param.typ) (declaring scope under others None None) ≡ declaring scope bound all None None
+  params_more none is at =
+      ap (λ (v : Numbered). both with_parameter (term_of (symbols_of scope) (names_of scope) v (binders bound) (written param.typ)) (declaring scope under others None None)) none
+      ∙ ap (λ (bs : List Binder). both with_parameter (term_of (symbols_of scope) (names_of scope) no_names (binders bound) (written param.typ)) (declaration_of (symbols_of scope) (names_of scope) bs (map written_param others) None None)) at
+      ∙ ap (λ (ps : List RawParam). declaring scope bound ps None None) (sym is)
 
--- all arguments were made
-pub spine_ended : (scope : Scope) (bound : Binders) (all : Scoping Tree) (top : Tree) (rs : List (Bor RawTerm)) (old new : List Tree) → rs ≡ []
-    → spine_sense scope bound (scoped top) rs ≡ all → new ≡ top ∷ old → Pushes all old new
-spine_ended scope bound all top rs old new none is made = record {
-  term = top;
-  is = sym is ∙ ap (spine_sense scope bound (scoped top)) none;
-  made = made;
-}
+  pub params_placed : (old mid : List Tree) → rule_variables scope ≡ no_names → all ≡ param ∷ others → binders under ≡ param.binder ∷ binders bound
+      → Pushes (term_sense scope bound param.typ) old mid → declaring scope under others None None ≡ scoped no_parts → declaring scope bound all None None ≡ scoped no_parts
+  params_placed old mid none is at p q =
+      sym (params_more none is at) ∙ both_scoped with_parameter (term_sense scope bound param.typ) (declaring scope under others None None) p.term no_parts no_parts p.is q refl
+
+  pub params_second_fault : (old mid : List Tree) (e : Fault) → rule_variables scope ≡ no_names → all ≡ param ∷ others → binders under ≡ param.binder ∷ binders bound
+      → Pushes (term_sense scope bound param.typ) old mid → IsFaultOf (declaring scope under others None None) e → IsFaultOf (declaring scope bound all None None) e
+  params_second_fault old mid e none is at p f =
+      subst (λ (s : Scoping Declaration). IsFaultOf s e) (params_more none is at) (both_second with_parameter (term_sense scope bound param.typ) (declaring scope under others None None) p.term e p.is f)

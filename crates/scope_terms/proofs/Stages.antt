@@ -1,5 +1,7 @@
 -- Scoping of two parts, one after the other.
-use Rattle.std.proofs.Common.{◌≡◌, ap, ◌∙◌, sym, refl, Bool, true, false, if◌then◌else◌, List, [], ◌∷◌, ◌++◌}
+use Rattle.std.proofs.Common.{◌≡◌, ap, ◌∙◌, subst, sym, refl, Bool, true, false, if◌then◌else◌, List, [], ◌∷◌, ◌++◌}
+use Rattle.std.specs.Prelude.{IfErr, Result, Ok, Err}
+use Rattle.std.specs.Result.{IsErrAnd}
 use Rattle.std.proofs.lemmas.List.{append_assoc}
 use Rattle.dk_model.specs.declared.code.Code.{Code}
 use Rattle.dk_model.specs.declared.code.Fault.{Fault}
@@ -24,6 +26,11 @@ both_first f s t NoMemory is = tt
 pub both_second : {A B C : Type 0} (f : A → B → C) (s : Scoping A) (t : Scoping B) (a : A) (e : Fault) → s ≡ scoped a → IsFaultOf t e → IsFaultOf (both f s t) e
 both_second f s t a (Refused c) is it = ap (λ s'. both f s' t) is ∙ ap (one (f a)) it
 both_second f s t a NoMemory is it = tt
+
+-- a fault that a call hands on
+pub handed_on : {A : Type 0} (r : Result A Fault) (e : Fault) (P : Fault → Type 0) → P e → IsErrAnd r (λ f. f ≡ e) → IfErr r P
+handed_on (Ok x) e P p is = tt
+handed_on (Err f) e P p is = subst P (sym is) p
 
 -- a code that stands before
 pub first_of : {A : Type 0} (there : Bool) (c : Code) (s : Scoping A) (e : Fault) → IsFaultOf s e → IsFaultOf (if there then refused c else s) (if there then Refused c else e)

@@ -10,3 +10,4 @@ pub mod Binding
 pub mod Found
 pub mod Hashing
 pub mod Placing
+pub mod Standing

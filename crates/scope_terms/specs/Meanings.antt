@@ -1,12 +1,10 @@
 -- For proofs: what the code holds as plain data, and its scoping.
 use Rattle.std.specs.Prelude.{ℕ, Option, List, [], map}
-use Rattle.std.specs.Option.{option_map}
-use Rattle.std.specs.Borrow.{Bor}
 use Rattle.dk_model.specs.Trees.{Tree}
 use Rattle.dk_model.specs.Scoping.{PlainLeft, PlainScopedRule, PlainAsked, PlainCommand, plain_scoped_rule}
 use Rattle.dk_model.specs.declared.scoped.ScopedRule.{ScopedRule}
 use Rattle.dk_parser.specs.RawViews.{written, maybe_written, written_pattern, written_param, written_note, written_rule, written_asked, written_form}
-use Rattle.dk_parser.specs.Written.{Written, written_apply, written_product, written_bare, written_annotated}
+use Rattle.dk_parser.specs.Written.{Written}
 use Rattle.dk_parser.specs.declared.raw.Raw.{Raw}
 use Rattle.dk_terms.specs.declared.raw.RawTerm.{RawTerm}
 use Rattle.dk_terms.specs.declared.raw.RawPat.{RawPat}
@@ -14,10 +12,10 @@ use Rattle.dk_parser.specs.declared.raw.RawParam.{RawParam}
 use Rattle.dk_parser.specs.declared.raw.RawNote.{RawNote}
 use Rattle.dk_parser.specs.declared.raw.RawRule.{RawRule}
 use Rattle.dk_parser.specs.declared.raw.RawAsked.{RawAsked}
-use Rattle.scope_terms.specs.Scopes.{Binder, Meaning, means_variable, means_rule_variable, means_symbol, unknown, Declaration, Numbered, no_names, Symbols, Scoping, meant_term, meant_left, meaning_of, qualified_meaning, term_of, maybe_term_of, left_of, declaration_of, notes_of, variables_of, rule_of, rules_of, asked_of, scope_of}
+use Rattle.scope_terms.specs.Scopes.{Meaning, means_variable, means_rule_variable, means_symbol, unknown, Declaration, Numbered, no_names, Symbols, Scoping, meant_term, meant_left, meaning_of, qualified_meaning, term_of, maybe_term_of, left_of, declaration_of, notes_of, variables_of, rule_of, rules_of, asked_of, scope_of}
 use Rattle.scope_terms.specs.Names.{reading}
 use Rattle.scope_terms.specs.Reading.{Reading, current, own_names}
-use Rattle.dk_model.specs.Signatures.{maybe_tree}
+use Rattle.dk_model.specs.Signatures.{maybe_by, maybe_tree}
 use Rattle.scope_terms.specs.declared.declaration.TypeAndBody.{TypeAndBody}
 use Rattle.scope_terms.specs.declared.binders.Binders.{Binders}
 use Rattle.scope_terms.specs.Binding.{binders}
@@ -33,8 +31,8 @@ meaning (RuleVariable k) = means_rule_variable k
 meaning (Symbol k) = means_symbol k
 meaning Unknown = unknown
 
-abbrev pub declaration : TypeAndBody → Declaration
-declaration d = record { typ = maybe_tree d.typ; body = maybe_tree d.body }
+abbrev pub declaration : {T : Type 0} → (T → Tree) → TypeAndBody T → Declaration
+declaration view d = record { typ = maybe_by view d.typ; body = maybe_by view d.body }
 
 -- ---- the scoping of what the parser gives
 
@@ -79,27 +77,11 @@ qualified_term scope m x = meant_term (qualified_meaning (symbols_of scope) m x)
 abbrev pub qualified_left : Scope → List ℕ → List ℕ → Scoping PlainLeft
 qualified_left scope m x = meant_left (qualified_meaning (symbols_of scope) m x)
 
-abbrev pub binder : Option (Bor (List ℕ)) → Binder
-binder x = option_map (λ y. y.now) x
-
 abbrev pub written_sense : Scope → Binders → Written → Scoping Tree
 written_sense scope bound w = term_of (symbols_of scope) (names_of scope) (rule_variables scope) (binders bound) w
 
 abbrev pub term_sense : Scope → Binders → RawTerm → Scoping Tree
 term_sense scope bound t = written_sense scope bound (written t)
-
--- an application, a product, an abstraction by its parts
-abbrev pub application_sense : Scope → Binders → RawTerm → RawTerm → Scoping Tree
-application_sense scope bound f a = written_sense scope bound (written_apply (written f) (written a))
-
-abbrev pub product_sense : Scope → Binders → Option (Bor (List ℕ)) → RawTerm → RawTerm → Scoping Tree
-product_sense scope bound x a b = written_sense scope bound (written_product (binder x) (written a) (written b))
-
-abbrev pub bare_sense : Scope → Binders → Option (Bor (List ℕ)) → RawTerm → Scoping Tree
-bare_sense scope bound x b = written_sense scope bound (written_bare (binder x) (written b))
-
-abbrev pub annotated_sense : Scope → Binders → Option (Bor (List ℕ)) → RawTerm → RawTerm → Scoping Tree
-annotated_sense scope bound x a b = written_sense scope bound (written_annotated (binder x) (written a) (written b))
 
 abbrev pub maybe_sense : Scope → Binders → Option RawTerm → Scoping (Option Tree)
 maybe_sense scope bound t = maybe_term_of (symbols_of scope) (names_of scope) (rule_variables scope) (binders bound) (maybe_written t)

@@ -30,7 +30,7 @@ pub(crate) struct Spans {
 pub(crate) enum Binders<'a> {
     Outermost,
     Named {
-        name: &'a Listed<u8>,
+        name: &'a [u8],
         /// Those of the names from here on.
         spans: Spans,
         class: u8,
@@ -145,18 +145,17 @@ fn nearest<'a>(class: u8, bound: &'a Binders<'a>) -> Result<Link<'a>, NoMemory>
 
 /// The binders with a name more, the innermost.
 #[tactic(auto, using(crate::proofs::Binding::told_named))]
-fn named<'a>(name: &'a Listed<u8>, outer: &'a Binders<'a>) -> Result<Binders<'a>, NoMemory>
+fn named<'a>(name: &'a [u8], outer: &'a Binders<'a>) -> Result<Binders<'a>, NoMemory>
     requires { IsTold outer.now }
     ensures is { IfOk result (λ b. binders b ≡ Some name.now ∷ binders outer.now) }
     ensures told { IfOk result (λ b. IsTold b) }
 {
     let inside = spans_of(outer);
-    let spelling = name.as_slice();
     let spans = Spans {
-        lengths: widened(inside.lengths, spelling.len()),
-        firsts: widened(inside.firsts, first_byte(spelling)),
+        lengths: widened(inside.lengths, name.len()),
+        firsts: widened(inside.firsts, first_byte(name)),
     };
-    let class = class_of(spelling);
+    let class = class_of(name);
     let Link { passed, next } = nearest(class, outer)?;
     Ok(Binders::Named {
         name,
@@ -182,7 +181,7 @@ fn unnamed<'a>(bound: &'a Binders<'a>) -> Result<Binders<'a>, NoMemory>
 
 /// The binders with one more, the innermost.
 pub(crate) fn under<'a>(
-    binder: Option<&'a Listed<u8>>,
+    binder: Option<&'a [u8]>,
     bound: &'a Binders<'a>,
 ) -> Result<Binders<'a>, NoMemory>
     requires { IsTold bound.now }
@@ -192,6 +191,21 @@ pub(crate) fn under<'a>(
 {
     match binder {
         Some(name) => named(name, bound),
+        None => unnamed(bound),
+    }
+}
+
+/// The binders with one more that is kept as it is spelt.
+pub(crate) fn under_listed<'a>(
+    binder: &'a Option<Listed<u8>>,
+    bound: &'a Binders<'a>,
+) -> Result<Binders<'a>, NoMemory>
+    requires { IsTold bound.now }
+    ensures is { IfOk result (λ b. binders b ≡ binder.now ∷ binders bound.now) }
+    ensures told { IfOk result (λ b. IsTold b) }
+{
+    match binder {
+        Some(name) => named(name.as_slice(), bound),
         None => unnamed(bound),
     }
 }
@@ -267,7 +281,7 @@ fn number_among<'a>(bound: &'a Binders<'a>, name: &[u8], class: u8) -> Result<Op
                 if *other != class {
                     at = further(at, 1)?;
                     rest = *outer;
-                } else if name == binder.as_slice() {
+                } else if name == *binder {
                     return Ok(Some(at));
                 } else {
                     at = further(further(at, 1)?, *passed)?;

@@ -9,11 +9,12 @@ ghost use Rattle.scope_terms.specs.Binding.{IsTold};
 ghost use Rattle.scope_terms.specs.Meanings.{named_left, qualified_left, left_sense};
 ghost use Rattle.scope_terms.specs.Spines.{applied_pattern, pattern_references, pattern_size, total_pattern_size};
 
-use crate::binders::{Binders, under};
+use crate::binders::{Binders, under_listed};
 use crate::meaning::{Named, Scope, look_up, qualified};
 use crate::term::term_at;
 use dk_model::{Code, Fault, Left, Listed, NoMemory};
 use dk_parser::RawPat;
+use shared_term::Making;
 use std::alloc::Global;
 
 fn make_left_app(alloc: Global, f: Left, a: Left) -> Result<Left, NoMemory>
@@ -98,7 +99,7 @@ fn spine<'a>(
 /// application.
 #[tactic(auto, using(crate::proofs::Stages::one_scoped, crate::proofs::Stages::one_fault, crate::proofs::PatternSpines::total_pushed, crate::proofs::PatternSpines::spine_begun, crate::proofs::PatternSpines::spine_head_fault, crate::proofs::PatternSpines::spine_further, crate::proofs::PatternSpines::spine_argument_fault))]
 pub(crate) fn left_at<'a>(
-    alloc: Global,
+    making: &mut Making,
     scope: &Scope,
     raw: &'a RawPat,
     bound: &'a Binders<'a>,
@@ -112,23 +113,24 @@ pub(crate) fn left_at<'a>(
         RawPat::Qualified(module_name, name) => { qualified_at(scope, module_name, name) },
         RawPat::Wild => Ok(Left::Any),
         RawPat::Guard(guard) => {
-            let guard = term_at(alloc, scope, guard, &Binders::Outermost)?;
+            let guard = term_at(making, scope, guard, &Binders::Outermost)?;
             Ok(Left::Guard(guard))
         }
         RawPat::App(f, a) => {
+            let alloc = making.alloc();
             let (head, arguments) = spine(alloc, f, a)?;
             let mut arguments = arguments;
-            let mut whole = left_at(alloc, scope, head, bound)?;
+            let mut whole = left_at(making, scope, head, bound)?;
             while let Some(argument) = arguments.pop() {
-                let argument = left_at(alloc, scope, argument, bound)?;
+                let argument = left_at(making, scope, argument, bound)?;
                 whole = make_left_app(alloc, whole, argument)?;
             }
             Ok(whole)
         }
         RawPat::Abs(x, body) => {
-            let under = under(x.as_ref(), bound)?;
-            let body = left_at(alloc, scope, body, &under)?;
-            Ok(make_left_abs(alloc, body)?)
+            let under = under_listed(x, bound)?;
+            let body = left_at(making, scope, body, &under)?;
+            Ok(make_left_abs(making.alloc(), body)?)
         }
     }
 }

@@ -14,7 +14,6 @@ mod modules;
 mod names;
 mod placed;
 mod placed_command;
-mod placed_declaration;
 mod query;
 mod rule;
 mod spelt;

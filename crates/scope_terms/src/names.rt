@@ -2,7 +2,6 @@
 ghost use Rattle.std.specs.Prelude.{◌≤◌, All, length};
 ghost use Rattle.scope_terms.specs.Modules.{IsKept, past};
 
-use crate::binders::Binders;
 use crate::declaration::{TypeAndBody, declaration_at};
 use crate::meaning::Scope;
 use crate::modules::{Entered, Modules, Place, last_place};
@@ -11,6 +10,7 @@ use crate::rule::rules_at;
 use crate::spelt::Symbol;
 use dk_model::{Code, Fault, Listed, NoMemory, Scoped};
 use dk_parser::{Raw, RawForm};
+use shared_term::Making;
 use std::alloc::Global;
 
 /// Why a command wasn't scoped: its first code from left to right, or want of memory.
@@ -152,6 +152,7 @@ impl Names {
         ensures refused { IfErr result (IsFaultOf (scoping_of (reading self.old) raw.now)) }
         ensures err { OnErr result (reading self.new ≡ reading self.old) }
     {
+        let mut making = Making::new(alloc);
         match &raw.form {
             RawForm::Declare {
                 sort,
@@ -162,9 +163,12 @@ impl Names {
             } => {
                 let scope = Scope::Command(self);
                 let params = params.as_slice();
-                let outermost = Binders::Outermost;
                 let TypeAndBody { typ, body } = match declaration_at(
-                    alloc, &scope, params, typ, body, &outermost,
+                    &mut making,
+                    &scope,
+                    params,
+                    typ,
+                    body,
                 ) {
                     Ok(declared) => declared,
                     Err(fault) => return Err(self.first_fault(name, Code::E11, fault)),
@@ -179,12 +183,12 @@ impl Names {
                 })
             }
             RawForm::Rules(rules) => {
-                let rules = rules_at(alloc, rules.as_slice(), self)?;
+                let rules = rules_at(&mut making, rules.as_slice(), self)?;
                 self.add_number()?;
                 Ok(Scoped::Rules(rules))
             }
             RawForm::Query { demand, asked } => {
-                let asked = asked_at(alloc, asked, self)?;
+                let asked = asked_at(&mut making, asked, self)?;
                 self.add_number()?;
                 Ok(Scoped::Query {
                     demand: *demand,

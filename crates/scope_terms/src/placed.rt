@@ -1,22 +1,28 @@
-//! The term that a written term stands for at a place of a command, made node by node: `term.rt` makes the same of boxes.
-ghost use Rattle.std.specs.Prelude.{◌≡◌, IfErr, OnOk};
+//! The term that a written term stands for at a place of a command, made node by node as the
+//! operations of its list go.
+ghost use Rattle.std.specs.Prelude.{◌≡◌, ◌≤◌, List, length, slice_get, IfErr, IfOk, OnOk};
+ghost use Rattle.std.specs.Option.{option_map};
+ghost use Rattle.dk_model.specs.Trees.{Tree, apply};
+ghost use Rattle.dk_parser.specs.RawViews.{written};
+ghost use Rattle.dk_terms.specs.Postfix.{begun_at, begun_binder};
 ghost use Rattle.shared_term.specs.Made.{stack};
 ghost use Rattle.scope_terms.specs.Answers.{IsFaultOf};
 ghost use Rattle.scope_terms.specs.Binding.{IsTold};
-ghost use Rattle.scope_terms.specs.Meanings.{annotated_sense, application_sense, bare_sense, named_term, product_sense, qualified_term, term_sense};
+ghost use Rattle.scope_terms.specs.Meanings.{named_term, qualified_term, term_sense};
 ghost use Rattle.scope_terms.specs.Placing.{Pushes};
+ghost use Rattle.scope_terms.specs.Scopes.{Binder};
+ghost use Rattle.scope_terms.specs.Standing.{IsAtEnd, IsReady, Stands, two_on_top, under_binders, wrap_made, wrap_of, wrap_parts};
 
 use crate::binders::{Binders, under};
 use crate::meaning::{Named, Scope, look_up, qualified};
-use crate::term::{is_long, spine};
-use dk_model::{Code, Fault, Listed};
-use dk_parser::{RawQualified, RawTerm};
+use dk_model::{Code, Fault, NoMemory};
+use dk_parser::{Opening, RawOperation, RawTerm, Wrap};
 use shared_term::{Making, Pair};
 
 fn name_placed<'a>(
     making: &mut Making,
     scope: &Scope,
-    name: &Listed<u8>,
+    name: &[u8],
     bound: &'a Binders<'a>,
 ) -> Result<(), Fault>
     requires told { IsTold bound.now }
@@ -24,7 +30,7 @@ fn name_placed<'a>(
         (Pushes (named_term scope.now bound.now name.now) (stack making.old) (stack making.new)) }
     ensures refused { IfErr result (IsFaultOf (named_term scope.now bound.now name.now)) }
 {
-    match look_up(scope, bound, name.as_slice())? {
+    match look_up(scope, bound, name)? {
         Named::Variable(number) => Ok(making.variable(number)?),
         Named::RuleVariable(number) => Ok(making.rule_variable(number)?),
         Named::Symbol(number) => Ok(making.symbol(number)?),
@@ -32,20 +38,124 @@ fn name_placed<'a>(
     }
 }
 
-fn qualified_placed(making: &mut Making, scope: &Scope, name: &RawQualified) -> Result<(), Fault>
+fn qualified_placed(
+    making: &mut Making,
+    scope: &Scope,
+    module_name: &[u8],
+    name: &[u8],
+) -> Result<(), Fault>
     ensures ok { OnOk result (Pushes
-        (qualified_term scope.now name.now.module_name name.now.name) (stack making.old) (stack making.new)) }
+        (qualified_term scope.now module_name.now name.now) (stack making.old) (stack making.new)) }
     ensures refused { IfErr result
-        (IsFaultOf (qualified_term scope.now name.now.module_name name.now.name)) }
+        (IsFaultOf (qualified_term scope.now module_name.now name.now)) }
 {
-    match qualified(scope, name.module_name.as_slice(), name.name.as_slice()) {
+    match qualified(scope, module_name, name) {
         Some(number) => Ok(making.symbol(number)?),
         None => Err(Fault::Refused(Code::E10)),
     }
 }
 
-/// Makes the term under these binders, or answers its first code. It nests as `term_at` does.
-#[cycle(placing)]
+// The letters of the binder that begins a scope.
+fn binder_of(term: &RawTerm, opening: Opening) -> Option<&[u8]>
+    ensures { option_map (λ y. y.now) result ≡ begun_binder (begun_at term.now.letters opening) }
+{
+    match opening {
+        Opening::Binder(Some(span)) => Some(term.spelling(span)),
+        Opening::Binder(None) => None,
+        Opening::Arrow => None,
+    }
+}
+
+// How the scope that ends at a place of the list does.
+fn wrap_at(term: &RawTerm, at: usize) -> Option<Wrap>
+    ensures { result ≡ wrap_of (slice_get term.now.operations at) }
+{
+    match term.operations.get(at) {
+        Some(RawOperation::Wrap(wrap)) => Some(*wrap),
+        _ => None,
+    }
+}
+
+// An application of the last two terms.
+#[tactic(auto, using(crate::proofs::Standing::two_joined))]
+fn applied(making: &mut Making) -> Result<(), NoMemory>
+    requires { 2 ≤ length (stack making.old) }
+    ensures { OnOk result (stack making.new ≡ two_on_top apply (stack making.old)) }
+{
+    making.join(Pair::Application)
+}
+
+// The term that the end of a scope makes of the last ones.
+#[tactic(auto, using(crate::proofs::Standing::two_joined, crate::proofs::Standing::one_joined))]
+fn wrapped(making: &mut Making, wrap: Wrap) -> Result<(), NoMemory>
+    requires { wrap_parts wrap ≤ length (stack making.old) }
+    ensures { OnOk result (stack making.new ≡ wrap_made wrap (stack making.old)) }
+{
+    match wrap {
+        Wrap::Product => making.join(Pair::Product),
+        Wrap::Bare => making.bare(),
+        Wrap::Annotated => making.join(Pair::Abstraction),
+    }
+}
+
+// Makes the terms of the operations from here on, up to the end of the scope of these binders, or
+// of the list: its place. It nests with binders.
+fn placed_from<'a>(
+    making: &mut Making,
+    scope: &Scope,
+    term: &'a RawTerm,
+    at: usize,
+    bound: &'a Binders<'a>,
+) -> Result<usize, Fault>
+    requires told { IsTold bound.now }
+    requires ready { IsReady scope.now term.now at bound.now (stack making.old) }
+    ensures further { IfOk result (λ end. at ≤ end) }
+    ensures at_end { IfOk result (λ end. IsAtEnd (slice_get term.now.operations end)) }
+    ensures ok { IfOk result (λ end. (outside : List Binder) (below : List Tree) →
+        Stands scope.now term.now outside below at bound.now (stack making.old) →
+        Stands scope.now term.now outside below end bound.now (stack making.new)) }
+    ensures refused { IfErr result (λ fault. (outside : List Binder) (below : List Tree) →
+        Stands scope.now term.now outside below at bound.now (stack making.old) →
+        IsFaultOf (under_binders scope.now outside (written term.now)) fault) }
+{
+    let operations = term.operations.as_slice();
+    let mut at = at;
+    while let Some(operation) = operations.get(at) {
+        match operation {
+            RawOperation::Name(span) => {
+                name_placed(making, scope, term.spelling(*span), bound)?;
+                at += 1;
+            }
+            RawOperation::Qualified(span, count) => {
+                let (module_name, name) = term.qualified(*span, *count);
+                qualified_placed(making, scope, module_name, name)?;
+                at += 1;
+            }
+            RawOperation::Star => {
+                making.star()?;
+                at += 1;
+            }
+            RawOperation::Wild => return Err(Fault::Refused(Code::E12)),
+            RawOperation::Apply => {
+                applied(making)?;
+                at += 1;
+            }
+            RawOperation::Begin(opening) => {
+                let under = under(binder_of(term, *opening), bound)?;
+                at = placed_from(making, scope, term, at + 1, &under)?;
+                let Some(wrap) = wrap_at(term, at) else {
+                    unreachable!()
+                };
+                wrapped(making, wrap)?;
+                at += 1;
+            }
+            RawOperation::Wrap(_) => return Ok(at),
+        }
+    }
+    Ok(at)
+}
+
+/// Makes the term under these binders, or answers its first code.
 pub(crate) fn placed_at<'a>(
     making: &mut Making,
     scope: &Scope,
@@ -57,157 +167,6 @@ pub(crate) fn placed_at<'a>(
         (Pushes (term_sense scope.now bound.now raw.now) (stack making.old) (stack making.new)) }
     ensures refused { IfErr result (IsFaultOf (term_sense scope.now bound.now raw.now)) }
 {
-    match raw {
-        RawTerm::Name(name) => name_placed(making, scope, name, bound),
-        RawTerm::Qualified(name) => qualified_placed(making, scope, name),
-        RawTerm::Star => Ok(making.star()?),
-        RawTerm::Wild => Err(Fault::Refused(Code::E12)),
-        RawTerm::App(pair) => {
-            if is_long(&pair.first) {
-                spine_placed(making, scope, &pair.first, &pair.second, bound)
-            } else {
-                application_placed(making, scope, &pair.first, &pair.second, bound)
-            }
-        }
-        RawTerm::Arrow(pair) => {
-            product_placed(making, scope, None, &pair.first, &pair.second, bound)
-        }
-        RawTerm::Prod(it) => {
-            product_placed(
-                making,
-                scope,
-                it.binder.as_ref(),
-                &it.domain,
-                &it.body,
-                bound,
-            )
-        }
-        RawTerm::Bare(it) => bare_placed(making, scope, it.binder.as_ref(), &it.body, bound),
-        RawTerm::Annotated(it) => {
-            annotated_placed(
-                making,
-                scope,
-                it.binder.as_ref(),
-                &it.domain,
-                &it.body,
-                bound,
-            )
-        }
-    }
-}
-
-/// `f a`.
-#[cycle(placing)]
-#[inline(never)]
-#[tactic(auto, using(crate::proofs::Placing::pushes_both, crate::proofs::Placing::two_pushed, crate::proofs::Placing::second_fault, crate::proofs::Stages::both_first))]
-fn application_placed<'a>(
-    making: &mut Making,
-    scope: &Scope,
-    f: &'a RawTerm,
-    a: &'a RawTerm,
-    bound: &'a Binders<'a>,
-) -> Result<(), Fault>
-    requires told { IsTold bound.now }
-    ensures ok { OnOk result
-        (Pushes (application_sense scope.now bound.now f.now a.now) (stack making.old) (stack making.new)) }
-    ensures refused { IfErr result (IsFaultOf (application_sense scope.now bound.now f.now a.now)) }
-{
-    placed_at(making, scope, f, bound)?;
-    placed_at(making, scope, a, bound)?;
-    Ok(making.join(Pair::Application)?)
-}
-
-/// The same, argument by argument.
-#[cycle(placing)]
-#[inline(never)]
-#[tactic(auto, using(crate::proofs::Placing::two_on, crate::proofs::Placing::spine_ended, crate::proofs::Spines::total_pushed, crate::proofs::Spines::spine_argument_fault))]
-fn spine_placed<'a>(
-    making: &mut Making,
-    scope: &Scope,
-    f: &'a RawTerm,
-    a: &'a RawTerm,
-    bound: &'a Binders<'a>,
-) -> Result<(), Fault>
-    requires told { IsTold bound.now }
-    ensures ok { OnOk result
-        (Pushes (application_sense scope.now bound.now f.now a.now) (stack making.old) (stack making.new)) }
-    ensures refused { IfErr result (IsFaultOf (application_sense scope.now bound.now f.now a.now)) }
-{
-    let (head, arguments) = spine(making.alloc(), f, a)?;
-    let mut arguments = arguments;
-    placed_at(making, scope, head, bound)?;
-    while let Some(argument) = arguments.pop() {
-        placed_at(making, scope, argument, bound)?;
-        making.join(Pair::Application)?;
-    }
+    placed_from(making, scope, raw, 0, bound)?;
     Ok(())
-}
-
-/// `x : a -> b`, and `a -> b` where there is no `x`.
-#[cycle(placing)]
-#[inline(never)]
-#[tactic(auto, using(crate::proofs::Placing::pushes_both, crate::proofs::Placing::two_pushed, crate::proofs::Placing::second_fault, crate::proofs::Stages::both_first))]
-fn product_placed<'a>(
-    making: &mut Making,
-    scope: &Scope,
-    x: Option<&'a Listed<u8>>,
-    a: &'a RawTerm,
-    b: &'a RawTerm,
-    bound: &'a Binders<'a>,
-) -> Result<(), Fault>
-    requires told { IsTold bound.now }
-    ensures ok { OnOk result
-        (Pushes (product_sense scope.now bound.now x.entry a.now b.now) (stack making.old) (stack making.new)) }
-    ensures refused { IfErr result
-        (IsFaultOf (product_sense scope.now bound.now x.entry a.now b.now)) }
-{
-    placed_at(making, scope, a, bound)?;
-    let under = under(x, bound)?;
-    placed_at(making, scope, b, &under)?;
-    Ok(making.join(Pair::Product)?)
-}
-
-/// `x => b`.
-#[cycle(placing)]
-#[inline(never)]
-#[tactic(auto, using(crate::proofs::Placing::pushes_one, crate::proofs::Placing::one_pushed, crate::proofs::Stages::one_fault))]
-fn bare_placed<'a>(
-    making: &mut Making,
-    scope: &Scope,
-    x: Option<&'a Listed<u8>>,
-    b: &'a RawTerm,
-    bound: &'a Binders<'a>,
-) -> Result<(), Fault>
-    requires told { IsTold bound.now }
-    ensures ok { OnOk result
-        (Pushes (bare_sense scope.now bound.now x.entry b.now) (stack making.old) (stack making.new)) }
-    ensures refused { IfErr result (IsFaultOf (bare_sense scope.now bound.now x.entry b.now)) }
-{
-    let under = under(x, bound)?;
-    placed_at(making, scope, b, &under)?;
-    Ok(making.bare()?)
-}
-
-/// `x : a => b`.
-#[cycle(placing)]
-#[inline(never)]
-#[tactic(auto, using(crate::proofs::Placing::pushes_both, crate::proofs::Placing::two_pushed, crate::proofs::Placing::second_fault, crate::proofs::Stages::both_first))]
-fn annotated_placed<'a>(
-    making: &mut Making,
-    scope: &Scope,
-    x: Option<&'a Listed<u8>>,
-    a: &'a RawTerm,
-    b: &'a RawTerm,
-    bound: &'a Binders<'a>,
-) -> Result<(), Fault>
-    requires told { IsTold bound.now }
-    ensures ok { OnOk result
-        (Pushes (annotated_sense scope.now bound.now x.entry a.now b.now) (stack making.old) (stack making.new)) }
-    ensures refused { IfErr result
-        (IsFaultOf (annotated_sense scope.now bound.now x.entry a.now b.now)) }
-{
-    placed_at(making, scope, a, bound)?;
-    let under = under(x, bound)?;
-    placed_at(making, scope, b, &under)?;
-    Ok(making.join(Pair::Abstraction)?)
 }

@@ -8,8 +8,8 @@ ghost use Rattle.scope_terms.specs.Names.{reading};
 ghost use Rattle.scope_terms.specs.Reading.{after_command};
 ghost use Rattle.scope_terms.specs.Scopes.{scoped};
 
+use crate::declaration::{TypeAndBody, declaration_at};
 use crate::meaning::Scope;
-use crate::placed_declaration::{StoredParts, stored_parts};
 use crate::query::asked_at;
 use crate::rule::rules_at;
 use crate::{Names, ScopeFault};
@@ -38,7 +38,7 @@ impl Names {
             } => {
                 let scope = Scope::Command(self);
                 let params = params.as_slice();
-                let StoredParts { typ, body } = match stored_parts(
+                let TypeAndBody { typ, body } = match declaration_at(
                     making, &scope, params, typ, body,
                 ) {
                     Ok(parts) => parts,
@@ -54,12 +54,12 @@ impl Names {
                 })
             }
             RawForm::Rules(rules) => {
-                let rules = rules_at(alloc, rules.as_slice(), self)?;
+                let rules = rules_at(making, rules.as_slice(), self)?;
                 self.add_number()?;
                 Ok(StoredCommand::Rules(rules))
             }
             RawForm::Query { demand, asked } => {
-                let asked = asked_at(alloc, asked, self)?;
+                let asked = asked_at(making, asked, self)?;
                 self.add_number()?;
                 Ok(StoredCommand::Query {
                     demand: *demand,

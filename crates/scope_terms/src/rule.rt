@@ -14,7 +14,7 @@ use crate::term::{maybe_term_at, term_at};
 use crate::variables::Variables;
 use dk_model::{Code, Fault, Listed, ScopedRule, Term};
 use dk_parser::{RawNote, RawRule};
-use std::alloc::Global;
+use shared_term::Making;
 
 /// A scoped context: its rule variables by number and their annotations.
 #[derive(Drop)]
@@ -24,11 +24,16 @@ struct ScopedContext {
 }
 
 /// The context, or its first code.
-fn context_at(alloc: Global, context: &[RawNote], names: &Names) -> Result<ScopedContext, Fault>
+fn context_at(
+    making: &mut Making,
+    context: &[RawNote],
+    names: &Names,
+) -> Result<ScopedContext, Fault>
     ensures ok { IfOk result (λ c. notes_sense (reading names.now) context.now ≡ scoped (noted c)) }
     ensures variables { IfOk result (λ c. c.variables ≡ declared context.now) }
     ensures refused { IfErr result (IsFaultOf (notes_sense (reading names.now) context.now)) }
 {
+    let alloc = making.alloc();
     let mut variables = Variables::new(alloc);
     let mut notes = Listed::new(alloc);
     for entry in context {
@@ -36,7 +41,7 @@ fn context_at(alloc: Global, context: &[RawNote], names: &Names) -> Result<Scope
             symbols: names,
             variables: &variables,
         };
-        let note = match maybe_term_at(alloc, &scope, &entry.note, &Binders::Outermost) {
+        let note = match maybe_term_at(making, &scope, &entry.note, &Binders::Outermost) {
             Ok(note) => note,
             Err(fault) => return Err(variables.first_fault(&entry.name, Code::E13, fault)),
         };
@@ -53,17 +58,17 @@ fn context_at(alloc: Global, context: &[RawNote], names: &Names) -> Result<Scope
 }
 
 /// The rule, or its first code.
-fn rule_at(alloc: Global, rule: &RawRule, names: &Names) -> Result<ScopedRule, Fault>
+fn rule_at(making: &mut Making, rule: &RawRule, names: &Names) -> Result<ScopedRule, Fault>
     ensures ok { IfOk result (λ r. rule_sense (reading names.now) rule.now ≡ scoped (plain_scoped_rule r)) }
     ensures refused { IfErr result (IsFaultOf (rule_sense (reading names.now) rule.now)) }
 {
-    let ScopedContext { variables, notes } = context_at(alloc, rule.context.as_slice(), names)?;
+    let ScopedContext { variables, notes } = context_at(making, rule.context.as_slice(), names)?;
     let scope = Scope::Rule {
         symbols: names,
         variables: &variables,
     };
-    let left = left_at(alloc, &scope, &rule.left, &Binders::Outermost)?;
-    let right = term_at(alloc, &scope, &rule.right, &Binders::Outermost)?;
+    let left = left_at(making, &scope, &rule.left, &Binders::Outermost)?;
+    let right = term_at(making, &scope, &rule.right, &Binders::Outermost)?;
     Ok(ScopedRule {
         vars: variables.count(),
         notes,
@@ -74,16 +79,16 @@ fn rule_at(alloc: Global, rule: &RawRule, names: &Names) -> Result<ScopedRule, F
 
 /// The rules in order, or their first code.
 pub(crate) fn rules_at(
-    alloc: Global,
+    making: &mut Making,
     rules: &[RawRule],
     names: &Names,
 ) -> Result<Listed<ScopedRule>, Fault>
     ensures ok { IfOk result (λ rs. rules_sense (reading names.now) rules.now ≡ scoped (plain_rules rs)) }
     ensures refused { IfErr result (IsFaultOf (rules_sense (reading names.now) rules.now)) }
 {
-    let mut scoped = Listed::new(alloc);
+    let mut scoped = Listed::new(making.alloc());
     for rule in rules {
-        let rule = rule_at(alloc, rule, names)?;
+        let rule = rule_at(making, rule, names)?;
         scoped.push(rule)?;
     }
     Ok(scoped)
