@@ -5,11 +5,14 @@ ghost use Rattle.dk_model.specs.Verdicts.{entry_of, verdict_of};
 ghost use Rattle.dk_parser.specs.RawViews.{written_form};
 ghost use Rattle.scope_terms.specs.Names.{reading};
 ghost use Rattle.scope_terms.specs.Reading.{after_entering, after_leaving, no_reading};
+ghost use Rattle.std.specs.Option.{option_map};
 ghost use Rattle.shared_term.specs.Commands.{stored_command};
+ghost use Rattle.shared_term.specs.Finding.{plain_found};
 ghost use Rattle.shared_term.specs.Storage.{stored_term};
 ghost use Rattle.signature_log.specs.Versions.{entries_of, stored_entry};
 ghost use Rattle.file_report.specs.Outcomes.{no_theory};
-ghost use Rattle.file_check.specs.Jobs.{IsOtherVerdict, KeepsModules, Prepares, theory_of, verdict_in};
+ghost use Rattle.file_check.specs.Jobs.{GoesOn, IsOtherVerdict, IsPrepared, KeepsModules, Prepares, theory_of, verdict_in};
+ghost use Rattle.file_check.specs.Shown.{shown_with, words_in};
 
 use crate::finding::{Findings, find, is_early};
 use crate::halt::Located;
@@ -18,8 +21,9 @@ use crate::shown::shown_with;
 use board_core::Past;
 use command_check::entry_of_stored;
 use dk_model::{Entry, Fault, Listed, NoMemory, TypeFault, Verdict};
+use dk_parser::Raw;
 use scope_terms::Names;
-use shared_term::{Making, Stored, StoredCommand};
+use shared_term::{Found, Making, Stored, StoredCommand};
 use signature_log::Version;
 use std::alloc::Global;
 use std::mem::replace;
@@ -67,6 +71,66 @@ fn entry_after(
         Err(TypeFault::Ended) => Err(Verdict::Ended),
         Err(TypeFault::NoMemory) => Err(Verdict::Memory),
     }
+}
+
+/// The command that the theory went on by.
+#[derive(Drop)]
+pub struct GoneOn {
+    /// The version before it.
+    pub before: Version,
+    pub stored: StoredCommand,
+    /// What the reader found of it itself.
+    pub found: Option<Found>,
+    pub settled: bool,
+}
+
+// What the report shows of the next command, where the reader found this of it itself.
+fn title_of(
+    alloc: Global,
+    names: &Names,
+    command: Located,
+    found: &Option<Found>,
+) -> Result<Title, NoMemory>
+    ensures { IfOk result (λ title. title ≡ record {
+      shown = shown_with (words_in (reading names.now)) (written_form command.raw.form)
+          (option_map plain_found found.now);
+      place = command.place;
+    }) }
+{
+    let Located { raw, place } = command;
+    let shown = shown_with(alloc, names, raw.form, found)?;
+    Ok(Title { shown, place })
+}
+
+// The job of a command that the theory went on by, whose names these are.
+fn as_job(
+    alloc: Global,
+    names: &Names,
+    budget: u64,
+    gone: GoneOn,
+    command: Located,
+) -> Result<Prepared, NoMemory>
+    ensures { IfOk result (λ p. IsPrepared budget names.now gone
+        (written_form command.raw.form) command.place p) }
+{
+    let title = title_of(alloc, names, command, &gone.found)?;
+    let GoneOn {
+        before,
+        stored,
+        found: _,
+        settled,
+    } = gone;
+    let job = Job {
+        version: before,
+        command: stored,
+        budget,
+        title: Past::of(&title),
+    };
+    Ok(Prepared {
+        job,
+        settled,
+        title,
+    })
 }
 
 // Enters a module that is new.
@@ -138,32 +202,47 @@ impl Theory {
         ensures err { IfErr result
             (IsOtherVerdict (verdict_in budget self.old (written_form command.raw.form))) }
     {
-        let Located { raw, place } = command;
-        let stored = match self.names.place(&mut self.making, &raw) {
+        match self.go_on(alloc, worker, budget, &command.raw) {
+            Ok(gone) => {
+                let Ok(prepared) = as_job(alloc, &self.names, budget, gone, command) else {
+                    return Err(Verdict::Memory);
+                };
+                Ok(prepared)
+            }
+            Err(verdict) => Err(verdict),
+        }
+    }
+
+    // Goes on as if the next command were accepted.
+    fn go_on(
+        &mut self,
+        alloc: Global,
+        worker: &mut Worker,
+        budget: u64,
+        raw: &Raw,
+    ) -> Result<GoneOn, Verdict>
+        requires few { (theory_of self.old).names.count < 4294967295 }
+        ensures ok { IfOk result (λ g.
+            GoesOn budget self.old (written_form raw.now.form) g self.new) }
+        ensures err { IfErr result
+            (IsOtherVerdict (verdict_in budget self.old (written_form raw.now.form))) }
+    {
+        let stored = match self.names.place(&mut self.making, raw) {
             Ok(stored) => stored,
             Err(Fault::Refused(code)) => return Err(Verdict::Refused(code)),
             Err(Fault::NoMemory) => return Err(Verdict::Memory),
         };
         let Findings { typ, found } = find(worker, &self.version, &stored, budget)?;
         let entry = entry_after(alloc, &self.version, &stored, typ, budget)?;
-        let Ok(shown) = shown_with(alloc, &self.names, raw.form, &found) else {
-            return Err(Verdict::Memory);
-        };
         let settled = is_early(&stored);
         let Ok(before) = self.advance(alloc, entry) else {
             return Err(Verdict::Memory);
         };
-        let title = Title { shown, place };
-        let job = Job {
-            version: before,
-            command: stored,
-            budget,
-            title: Past::of(&title),
-        };
-        Ok(Prepared {
-            job,
+        Ok(GoneOn {
+            before,
+            stored,
+            found,
             settled,
-            title,
         })
     }
 

@@ -1,61 +1,43 @@
-use Rattle.std.proofs.Common.{◌≡◌, ◌∙◌, ◌++◌, ◌∷◌, [], true, ap, refl, sym}
-use Rattle.std.specs.Option.{option_map}
-use Rattle.dk_model.specs.Scoping.{PlainCommand}
-use Rattle.dk_model.specs.Signatures.{PlainEntry, PlainSignature}
-use Rattle.dk_model.specs.Verdicts.{entry_of, inferred_type, verdict_of}
-use Rattle.dk_parser.specs.RawViews.{written_form}
-use Rattle.scope_terms.specs.Names.{reading}
-use Rattle.scope_terms.specs.Reading.{Reading}
-use Rattle.scope_terms.specs.Scopes.{Scoping, Symbols, scoped}
-use Rattle.scope_terms.specs.declared.names.Names.{Names}
+use Rattle.std.proofs.Common.{◌≡◌, ◌∙◌, ℕ, true, ap, sym}
+use Rattle.dk_model.specs.Verdicts.{verdict_of}
+use Rattle.scope_terms.specs.Scopes.{scoped}
+use Rattle.shared_term.specs.declared.command.StoredCommand.{StoredCommand}
 use Rattle.shared_term.specs.Commands.{stored_command}
-use Rattle.shared_term.specs.Finding.{plain_found}
 use Rattle.signature_log.specs.Versions.{entries_of}
+use Rattle.signature_log.specs.declared.version.Version.{Version}
 use Rattle.verdict_book.specs.Titles.{shown_in}
-use Rattle.file_report.specs.Outcomes.{Theory, scoped_entry}
+use Rattle.verdict_book.specs.declared.shown.Shown.{Shown}
+use Rattle.board_core.specs.declared.event.Place.{Place}
 use Rattle.file_check.specs.Findings.{is_early}
-use Rattle.file_check.specs.Jobs.{theory_in, theory_of}
-use Rattle.file_check.specs.Shown.{shown_with, words_in}
-use Rattle.file_check.proofs.Showing.{shown_next}
 use Rattle.file_check.proofs.theory.Theory.prepare.Goals as goal
 
-abbrev theory : Symbols → PlainSignature → Theory
-theory names signature = record { names = names; signature = signature }
-
-same_theory : (a b : Theory) → a.names ≡ b.names → a.signature ≡ b.signature → a ≡ b
-same_theory a b names signature =
-    ap (λ (n : Symbols). theory n a.signature) names ∙ ap (theory b.names) signature
-
-pub returns-clause-ok : goal.returns-clause-ok
-returns-clause-ok c =
-    let old = c.args.self.now in
-    let budget = c.args.budget in
-    let form = written_form c.args.command.raw.form in
-    let command = stored_command c.in-Ok.stored in
-    let S = entries_of old.version in
-    let advanced = c.in-Ok-advance.ensures in
+pub returns-in-Ok-as_job-clause-ok : goal.returns-in-Ok-as_job-clause-ok
+returns-in-Ok-as_job-clause-ok c =
+    let before = c.in-Ok.gone in
+    let known = c.in-Ok.ensures.ok in
+    let job = c.in-Ok-as_job.prepared.job in
+    let made = c.in-Ok-as_job.ensures in
     record {
-      signature = ap entries_of advanced.before;
-      command = c.in-Ok.ensures.ok;
-      budget_is = refl;
-      place_is = refl;
+      signature = ap entries_of made.version ∙ known.before;
+      command = known.command ∙ ap (λ (s : StoredCommand). scoped (stored_command s)) (sym made.command);
+      budget_is = made.budget_is;
+      place_is = made.place_is;
       shown_is =
-          let home = c.args.command.place.«module» in
-          ap (shown_in home) (c.in-Ok-shown_with.ensures ∙ ap (λ (r : Reading). shown_with (words_in r) form (option_map plain_found c.in_ok-typ.field-0.found)) c.in-Ok.ensures.added)
-          ∙ shown_next (reading old.names) home S budget form command c.in_ok-typ.field-0 c.in-Ok.ensures.ok c.in_ok-typ.ensures.ok;
-      title = sym c.of.ensures;
-      early = c.is_early-settled.ensures;
+          ap (λ (p : Place). shown_in p.«module» c.in-Ok-as_job.prepared.title.shown) made.place_is
+          ∙ ap (λ (s : Shown). shown_in c.args.command.place.«module» s) made.shown
+          ∙ known.shown c.args.command.place.«module»;
+      title = made.title;
+      early = made.settled ∙ known.early ∙ ap (λ (s : StoredCommand). is_early (stored_command s)) (sym made.command);
       settled = λ is.
-          let early : is_early command ≡ true = sym c.is_early-settled.ensures ∙ is in (
-            early,
-            ap (λ v. verdict_of (entries_of v) command budget) advanced.before ∙ c.in_ok-typ.ensures.accepted early,
+          let both = known.settled (sym made.settled ∙ is) in (
+            ap (λ (s : StoredCommand). is_early (stored_command s)) made.command ∙ both.0,
+            ap (λ (v : Version). verdict_of (entries_of v) (stored_command job.command) job.budget) made.version
+                ∙ ap (λ (s : StoredCommand). verdict_of (entries_of before.before) (stored_command s) job.budget) made.command
+                ∙ ap (λ (units : ℕ). verdict_of (entries_of before.before) (stored_command before.stored) units) made.budget_is
+                ∙ both.1,
           );
-      theory = same_theory (theory_of c.advance.new.self) (theory_in budget old form) (ap (λ (n : Names). (reading n).symbols) advanced.kept ∙ ap (λ (r : Reading). r.symbols) c.in-Ok.ensures.added)
-          (advanced.after ∙ ap (λ (e : PlainEntry). S ++ e ∷ []) (c.in_ok-entry.ensures.ok ∙ ap (entry_of S command) c.in_ok-typ.ensures.ok.typ) ∙ ap (λ (s : Scoping PlainCommand). S ++ scoped_entry S budget s) (sym c.in-Ok.ensures.ok));
+      theory = known.theory;
     }
 
-pub returns-clause-modules : goal.returns-clause-modules
-returns-clause-modules c = record {
-  entered = ap (λ (n : Names). (reading n).entered) c.in-Ok-advance.ensures.kept ∙ ap (λ (r : Reading). r.entered) c.in-Ok.ensures.added;
-  standing = ap (λ (n : Names). (reading n).standing) c.in-Ok-advance.ensures.kept ∙ ap (λ (r : Reading). r.standing) c.in-Ok.ensures.added;
-}
+pub returns-in-Ok-as_job-clause-modules : goal.returns-in-Ok-as_job-clause-modules
+returns-in-Ok-as_job-clause-modules c = c.in-Ok.ensures.ok.modules
