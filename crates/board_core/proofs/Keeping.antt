@@ -16,7 +16,7 @@ use Rattle.board_core.specs.declared.event.Event.{Event}
 use Rattle.board_core.specs.declared.event.Event.TheVariants.{Put, Claim, Answer, Seal}
 use Rattle.board_core.specs.Events.{is_accepted, is_put, is_seal, is_fault, claims, claims_by, faults, puts, answered_verdict, is_settled}
 use Rattle.board_core.specs.Machine.{IsFree, IsBelowFaults, IsClaimable, HoldsNone, Allowed, AllowedFrom}
-use Rattle.board_core.specs.Kept.{Keeps, IsFaultOf, IsSealOf, Each, Ascends}
+use Rattle.board_core.specs.Kept.{Keeps, IsFaultOf, Each, Ascends}
 use Rattle.board_core.specs.Parts.{lesser, fault_with, reaches, Blocked}
 use Rattle.board_core.proofs.Histories.{or_left, kept_or, or_right, not_before, not_after, and_left, not_true, any_snoc, any_same, any_kept, any_hit, any_cases, puts_snoc, claimed_by, no_fault, fault_any, first_of, unanswered, verdict_same, verdict_new, verdict_kept, verdict_faults, unsealed, end_append, end_same, count_answered}
 use Rattle.board_core.proofs.Lawful.{lawful_snoc, not_answered}
@@ -87,15 +87,6 @@ pub get_last : {X : Type 0} (xs : List X) (y : X) → slice_get (xs ++ y ∷ [])
 get_last [] y = refl
 get_last (x ∷ xs) y = get_last xs y
 
--- an event that is no seal leaves the seal where it stands
-seal_same : (es : List Event) (e : Event) → is_seal e ≡ false → (o : Option ℕ) → IsSealOf es o → IsSealOf (es ++ e ∷ []) o
-seal_same es e q None h = any_same is_seal es e q ∙ h
-seal_same es e q (Some at) h = (h.0, get_left es (e ∷ []) at (Seal h.0) h.1, end_same es e q ∙ h.2)
-
-open_seal : (es : List Event) (o : Option ℕ) → list_any is_seal es ≡ false → IsSealOf es o → o ≡ None
-open_seal es None q h = refl
-open_seal es (Some at) q h = let t : None ≡ Some h.0 = sym (unsealed es q) ∙ h.2 in cc
-
 past : (es : List Event) (f : Option (ℕ × Verdict)) → IsFaultOf es f → (n : ℕ) → reaches f n ≡ false → IsBelowFaults es n
 past es None h n r m bad = let t = fault_any m es bad in cc
 past es (Some f) h n r m bad = let t = h.0.2 m bad in let u = leb-false f.0 n r in omega (arith, t, u)
@@ -104,7 +95,7 @@ not_past : (es : List Event) (f : Option (ℕ × Verdict)) → IsFaultOf es f �
 not_past es None h n m r above all = cc
 not_past es (Some f) h n m r above all = let t = all f.0 (verdict_faults f.0 f.1 es h.0.0 h.0.1) in let u = leb-true f.0 n r in omega (arith, t, u)
 
-module _ {room : ℕ} {marks : List Bool} {waiting : List ℕ} {verdicts : List (Option Verdict)} {fault : Option (ℕ × Verdict)} {sealed_at : Option ℕ} {es : List Event} (k : Keeps room marks waiting verdicts fault sealed_at es) where
+module _ {room : ℕ} {marks : List Bool} {waiting : List ℕ} {verdicts : List (Option Verdict)} {fault : Option (ℕ × Verdict)} {end : Option End} {es : List Event} (k : Keeps room marks waiting verdicts fault end es) where
   -- a claimed number has its place
   pub inside : (w n : ℕ) → list_any (claims_by w n) es ≡ true → (0 < n) × (n ≤ length marks)
   inside w n by = k.only_put n (claimed_by w n es by)
@@ -117,7 +108,7 @@ module _ {room : ℕ} {marks : List Bool} {waiting : List ℕ} {verdicts : List 
   pub answer_room : (w n : ℕ) (v : Verdict) → Allowed marks es (Answer w n v) → length es < room
   answer_room w n v ok = let t = at_verdict w n v ok in let one = count_answered verdicts (n - 1) v t.1 t.2 in omega (arith, one, k.few_events, k.has_room)
 
-  pub answer_keeps : (w n : ℕ) (v : Verdict) → Allowed marks es (Answer w n v) → Keeps room marks waiting (set verdicts (n - 1) (Some v)) (fault_with fault n v) sealed_at (es ++ Answer w n v ∷ [])
+  pub answer_keeps : (w n : ℕ) (v : Verdict) → Allowed marks es (Answer w n v) → Keeps room marks waiting (set verdicts (n - 1) (Some v)) (fault_with fault n v) end (es ++ Answer w n v ∷ [])
   answer_keeps w n v ok = let e = Answer w n v in let at = at_verdict w n v ok in let inside = at.1 in let one = count_answered verdicts (n - 1) v at.1 at.2 in record {
     few = k.few;
     as_many = length-set verdicts (n - 1) (Some v) ∙ k.as_many;
@@ -130,20 +121,20 @@ module _ {room : ℕ} {marks : List Bool} {waiting : List ℕ} {verdicts : List 
         (λ i. let j : m - 1 ≡ n - 1 = omega arith in get_or-set_at verdicts (n - 1) (m - 1) (Some v) None j inside ∙ sym (subst (λ z. answered_verdict z (es ++ e ∷ []) ≡ Some v) (sym i) (verdict_new w n v es [] at.3)))
         (λ ne. let pos = at.0 in let o : (m - 1) ≢ (n - 1) = λ x. ne (omega (arith, x, pos, h)) in let miss : eqb n m ≡ false = ne_eqb n m (λ x. ne (sym x)) in get_or-set_other verdicts (n - 1) (m - 1) (Some v) None o ∙ (k.verdicts_kept m h ∙ sym (verdict_same m es e miss)));
     fault_kept = fault_answered es w n v fault (is_accepted v) refl at.3 k.fault_kept;
-    seal_kept = seal_same es e refl sealed_at k.seal_kept;
+    end_kept = end_same es e refl ∙ k.end_kept;
     few_events = (let t = length-append es (e ∷ []) in let u = k.few_events in omega (arith, t, u, one));
     has_room = k.has_room;
     lawful = lawful_snoc marks [] es e k.lawful ok;
   }
 
-  no_seal : list_any is_seal es ≡ false → sealed_at ≡ None
-  no_seal h = open_seal es sealed_at h k.seal_kept
+  no_end : list_any is_seal es ≡ false → end ≡ None
+  no_end h = sym k.end_kept ∙ unsealed es h
 
   pub seal_room : list_any is_seal es ≡ false → length es < room
-  seal_room h = let one : ◌≡◌ {A = ℕ} (cond (is_none sealed_at) 1 0) 1 = ap (λ x. cond (is_none x) 1 0) (no_seal h) in omega (arith, one, k.few_events, k.has_room)
+  seal_room h = let one : ◌≡◌ {A = ℕ} (cond (is_none end) 1 0) 1 = ap (λ x. cond (is_none x) 1 0) (no_end h) in omega (arith, one, k.few_events, k.has_room)
 
-  pub seal_keeps : (x : End) (n : ℕ) → n ≡ length es → Allowed marks es (Seal x) → Keeps room marks waiting verdicts fault (Some n) (es ++ Seal x ∷ [])
-  seal_keeps x n last ok = let e = Seal x in let one : ◌≡◌ {A = ℕ} (cond (is_none sealed_at) 1 0) 1 = ap (λ x. cond (is_none x) 1 0) (no_seal ok.0) in record {
+  pub seal_keeps : (x : End) → Allowed marks es (Seal x) → Keeps room marks waiting verdicts fault (Some x) (es ++ Seal x ∷ [])
+  seal_keeps x ok = let e = Seal x in let one : ◌≡◌ {A = ℕ} (cond (is_none end) 1 0) 1 = ap (λ x. cond (is_none x) 1 0) (no_end ok.0) in record {
     few = k.few;
     as_many = k.as_many;
     all_put = (let t = puts_snoc es e in let u = k.all_put in omega (arith, t, u));
@@ -153,13 +144,13 @@ module _ {room : ℕ} {marks : List Bool} {waiting : List ℕ} {verdicts : List 
     in_order = k.in_order;
     verdicts_kept = λ m h. k.verdicts_kept m h ∙ sym (verdict_same m es e refl);
     fault_kept = fault_same es e fault refl k.fault_kept;
-    seal_kept = (x, ap (slice_get (es ++ e ∷ [])) last ∙ get_last es e, end_append es (e ∷ []) ∙ ap (λ o. first_of o (Some x)) (unsealed es ok.0));
+    end_kept = end_append es (e ∷ []) ∙ ap (λ o. first_of o (Some x)) (unsealed es ok.0);
     few_events = (let t = length-append es (e ∷ []) in let u = k.few_events in omega (arith, t, u, one));
     has_room = k.has_room;
     lawful = lawful_snoc marks [] es e k.lawful ok;
   }
 
-  pub roomier : (room' : ℕ) → room ≤ room' → Keeps room' marks waiting verdicts fault sealed_at es
+  pub roomier : (room' : ℕ) → room ≤ room' → Keeps room' marks waiting verdicts fault end es
   roomier room' more = let h = k.has_room in record {
     few = k.few;
     as_many = k.as_many;
@@ -170,22 +161,22 @@ module _ {room : ℕ} {marks : List Bool} {waiting : List ℕ} {verdicts : List 
     in_order = k.in_order;
     verdicts_kept = k.verdicts_kept;
     fault_kept = k.fault_kept;
-    seal_kept = k.seal_kept;
+    end_kept = k.end_kept;
     few_events = k.few_events;
     has_room = omega (arith, h, more);
     lawful = k.lawful;
   }
 
-module _ {room : ℕ} {marks : List Bool} {verdicts : List (Option Verdict)} {fault : Option (ℕ × Verdict)} {sealed_at : Option ℕ} {es : List Event} where
+module _ {room : ℕ} {marks : List Bool} {verdicts : List (Option Verdict)} {fault : Option (ℕ × Verdict)} {end : Option End} {es : List Event} where
   -- nothing waits, or the first that waits lies past the fault
-  pub drained : (waiting : List ℕ) → Keeps room marks waiting verdicts fault sealed_at es → Blocked fault waiting → (n : ℕ) → ¬ IsClaimable marks es n
+  pub drained : (waiting : List ℕ) → Keeps room marks waiting verdicts fault end es → Blocked fault waiting → (n : ℕ) → ¬ IsClaimable marks es n
   drained [] k b n c = let t = k.all_wait n c.0 in cc
   drained (m ∷ ns) k b n c = not_past es fault k.fault_kept m n b (first_least m ns k n c.0) c.2
     where
-      first_least : (m : ℕ) (ns : List ℕ) → Keeps room marks (m ∷ ns) verdicts fault sealed_at es → (n : ℕ) → IsFree marks es n → m ≤ n
+      first_least : (m : ℕ) (ns : List ℕ) → Keeps room marks (m ∷ ns) verdicts fault end es → (n : ℕ) → IsFree marks es n → m ≤ n
       first_least m ns k n f = ⊎_elim (λ t. let i = eqb-true m n t in omega arith) (λ t. let i = each_at (λ n. m < n) ns n k.in_order.0 t in omega arith) (or_left (eqb m n) (list_any (λ j. eqb j n) ns) (k.all_wait n f))
 
-  module _ {n : ℕ} {ns : List ℕ} (k : Keeps room marks (n ∷ ns) verdicts fault sealed_at es) where
+  module _ {n : ℕ} {ns : List ℕ} (k : Keeps room marks (n ∷ ns) verdicts fault end es) where
     first_least : (m : ℕ) → IsFree marks es m → n ≤ m
     first_least m f = ⊎_elim (λ t. let i = eqb-true n m t in omega arith) (λ t. let i = each_at (λ m. n < m) ns m k.in_order.0 t in omega arith) (or_left (eqb n m) (list_any (λ j. eqb j m) ns) (k.all_wait m f))
 
@@ -195,7 +186,7 @@ module _ {room : ℕ} {marks : List Bool} {verdicts : List (Option Verdict)} {fa
     pub claim_room : length es < room
     claim_room = omega (arith, k.few_events, k.has_room)
 
-    pub claim_keeps : (w : ℕ) → Allowed marks es (Claim w n) → Keeps room marks ns verdicts fault sealed_at (es ++ Claim w n ∷ [])
+    pub claim_keeps : (w : ℕ) → Allowed marks es (Claim w n) → Keeps room marks ns verdicts fault end (es ++ Claim w n ∷ [])
     claim_keeps w ok = let e = Claim w n in record {
       few = k.few;
       as_many = k.as_many;
@@ -209,7 +200,7 @@ module _ {room : ℕ} {marks : List Bool} {verdicts : List (Option Verdict)} {fa
       in_order = k.in_order.1;
       verdicts_kept = λ m h. k.verdicts_kept m h ∙ sym (verdict_same m es e refl);
       fault_kept = fault_same es e fault refl k.fault_kept;
-      seal_kept = seal_same es e refl sealed_at k.seal_kept;
+      end_kept = end_same es e refl ∙ k.end_kept;
       few_events = (let t = length-append es (e ∷ []) in let u = k.few_events in omega (arith, t, u));
       has_room = k.has_room;
       lawful = lawful_snoc marks [] es e k.lawful ok;
@@ -249,7 +240,7 @@ abbrev pub newcomer : Bool → ℕ → List ℕ
 newcomer true n = []
 newcomer false n = n ∷ []
 
-module _ {room : ℕ} {marks : List Bool} {waiting : List ℕ} {verdicts : List (Option Verdict)} {fault : Option (ℕ × Verdict)} {sealed_at : Option ℕ} {es : List Event} (k : Keeps room marks waiting verdicts fault sealed_at es) where
+module _ {room : ℕ} {marks : List Bool} {waiting : List ℕ} {verdicts : List (Option Verdict)} {fault : Option (ℕ × Verdict)} {end : Option End} {es : List Event} (k : Keeps room marks waiting verdicts fault end es) where
   abbrev the_number : ℕ
   the_number = length marks + 1
 
@@ -290,7 +281,7 @@ module _ {room : ℕ} {marks : List Bool} {waiting : List ℕ} {verdicts : List 
   fewer false = omega (arith, length-append waiting (the_number ∷ []))
 
   pub put_keeps : (room' : ℕ) (s : Bool) → 3 * (length marks + 1) + 1 ≤ room' → length marks < 2 ^ 32 - 2 → list_any is_seal es ≡ false → list_any is_fault es ≡ false
-      → Keeps room' (marks ++ s ∷ []) (waiting ++ newcomer s the_number) (verdicts ++ None ∷ []) fault sealed_at (es ++ Put the_number ∷ [])
+      → Keeps room' (marks ++ s ∷ []) (waiting ++ newcomer s the_number) (verdicts ++ None ∷ []) fault end (es ++ Put the_number ∷ [])
   put_keeps room' s more few unsealed good = let e = Put the_number in let put = k.all_put in
       let wide : length (marks ++ s ∷ []) ≡ length marks + 1 = omega (arith, length-append marks (s ∷ [])) in record {
         few = omega (arith, wide, few);
@@ -302,7 +293,7 @@ module _ {room : ℕ} {marks : List Bool} {waiting : List ℕ} {verdicts : List 
         in_order = in_order_then s;
         verdicts_kept = λ m h. get_snoc verdicts None (m - 1) ∙ (k.verdicts_kept m h ∙ sym (verdict_same m es e refl));
         fault_kept = fault_same es e fault refl k.fault_kept;
-        seal_kept = seal_same es e refl sealed_at k.seal_kept;
+        end_kept = end_same es e refl ∙ k.end_kept;
         few_events = (let a = length-append es (e ∷ []) in let b = fewer s in let c = sum_by-append (λ x. cond (is_none x) 1 0) verdicts (None ∷ []) in let u = k.few_events in omega (arith, a, b, c, u, wide));
         has_room = omega (arith, wide, more);
         lawful = lawful_snoc (marks ++ s ∷ []) [] es e (lawful_wider marks s [] es (omega (arith, put)) k.lawful) (omega (arith, put), unsealed, good);

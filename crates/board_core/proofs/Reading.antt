@@ -48,14 +48,3 @@ count_blanks b (j ∷ jobs) = ap suc (count_blanks b jobs)
 pub marks_blanks : {J B : Type 0} (b : B) (jobs : List (J × Bool)) → marks_of (blanks b jobs) ≡ marks_of jobs
 marks_blanks b [] = refl
 marks_blanks b (j ∷ jobs) = ap (λ ms. j.1 ∷ ms) (marks_blanks b jobs)
-
--- the event where the seal stands
-pub seal_within : (es : List Event) (at : ℕ) (e : Event) → slice_get es at ≡ Some e → at < length es
-seal_within [] at e h = cc
-seal_within (x ∷ es) zero e h = omega arith
-seal_within (x ∷ es) (suc at) e h = let t = seal_within es at e h in omega (arith, t)
-
-pub seal_read : (es : List Event) (at : ℕ) (e r : Event) → slice_get es at ≡ Some e → r ≡ get_or es at r → r ≡ e
-seal_read [] at e r h is = cc
-seal_read (x ∷ es) zero e r h is = let t : x ≡ e = cc in is ∙ t
-seal_read (x ∷ es) (suc at) e r h is = seal_read es at e r h is

@@ -29,6 +29,12 @@ allowed_narrow marks es (Claim w n) a = (a.0, (free_narrow marks es n a.1.0, (λ
 allowed_narrow marks es (Answer w n v) a = a
 allowed_narrow marks es (Seal x) a = a
 
+-- an element read with itself as its default
+pub got : {X : Type 0} (l : List X) (i : ℕ) (x : X) → slice_get l i ≡ Some x → get_or l i x ≡ x
+got [] i x h = refl
+got (y ∷ l) zero x h = cc
+got (y ∷ l) (suc i) x h = got l i x h
+
 module _ {J : Type 0} (jobs : List (J × Bool)) (b : Shown J) (part : b ≡ part_of jobs b.events) where
   pub jobs_then : b.jobs ≡ take (puts b.events) jobs
   jobs_then = ap (λ c. c.jobs) part
@@ -56,11 +62,6 @@ module _ {J : Type 0} (jobs : List (J × Bool)) (b : Shown J) (part : b ≡ part
       let same : m ≡ n = omega arith in let here : n - 1 ≡ puts b.events = omega arith in
       let js : b.jobs ++ x ∷ [] ≡ take (puts (b.events ++ Put n ∷ [])) jobs = ap (λ l. l ++ x ∷ []) jobs_then ∙ (ap (λ y. take (puts b.events) jobs ++ y ∷ []) (sym (got jobs (puts b.events) x (ap (slice_get jobs) (sym here) ∙ at))) ∙ (sym (take_more jobs (puts b.events) x lt) ∙ ap (λ k. take k jobs) (sym p))) in
       λ i. record { jobs = js i; events = b.events ++ Put (same i) ∷ [] }
-    where
-      got : (l : List (J × Bool)) (i : ℕ) (x : J × Bool) → slice_get l i ≡ Some x → get_or l i x ≡ x
-      got [] i x h = refl
-      got (y ∷ l) zero x h = cc
-      got (y ∷ l) (suc i) x h = got l i x h
 
 -- the part that begins, and the part that is all
 pub part_none : {J : Type 0} (jobs : List (J × Bool)) → record { jobs = []; events = [] } ≡ part_of jobs []
@@ -73,26 +74,33 @@ puts_part : (es fs : List Event) → puts es ≤ puts (es ++ fs)
 puts_part es fs = omega (arith, sum_by-append (λ e. cond (is_put e) 1 0) es fs)
 
 -- the first events and the next one
-pub lawful_next : (marks : List Bool) (es : List Event) (i : ℕ) (d : Event) → i < length es → IsLawful marks es → IsLawful marks (take i es ++ get_or es i d ∷ [])
-lawful_next marks es i d h a = subst (IsLawful marks) (take_more es i d h) (lawful_before marks (take (i + 1) es) (drop (i + 1) es) (subst (IsLawful marks) (sym (take-append-drop (i + 1) es)) a))
+read_within : (es : List Event) (i : ℕ) (e : Event) → slice_get es i ≡ Some e → i < length es
+read_within [] i e h = cc
+read_within (x ∷ es) zero e h = omega arith
+read_within (x ∷ es) (suc i) e h = let t = read_within es i e h in omega (arith, t)
 
-pub puts_next : (es : List Event) (i : ℕ) (d : Event) → i < length es → puts (take i es ++ get_or es i d ∷ []) ≤ puts es
-puts_next es i d h = let t = puts_part (take (i + 1) es) (drop (i + 1) es) in let u = ap puts (take-append-drop (i + 1) es) in let v = ap puts (take_more es i d h) in omega (arith, t, u, v)
+take_next : (es : List Event) (i : ℕ) (e : Event) → slice_get es i ≡ Some e → take (i + 1) es ≡ take i es ++ e ∷ []
+take_next es i e at = take_more es i e (read_within es i e at) ∙ ap (λ x. take i es ++ x ∷ []) (got es i e at)
+
+lawful_next : (marks : List Bool) (es : List Event) (i : ℕ) (e : Event) → slice_get es i ≡ Some e → IsLawful marks es → IsLawful marks (take i es ++ e ∷ [])
+lawful_next marks es i e at a = subst (IsLawful marks) (take_next es i e at) (lawful_before marks (take (i + 1) es) (drop (i + 1) es) (subst (IsLawful marks) (sym (take-append-drop (i + 1) es)) a))
+
+puts_next : (es : List Event) (i : ℕ) (e : Event) → slice_get es i ≡ Some e → puts (take i es ++ e ∷ []) ≤ puts es
+puts_next es i e at = let t = puts_part (take (i + 1) es) (drop (i + 1) es) in let u = ap puts (take-append-drop (i + 1) es) in let v = ap puts (take_next es i e at) in omega (arith, t, u, v)
 
 -- the book so far, told by its own events
 pub part_own : {J : Type 0} (jobs : List (J × Bool)) (b : Shown J) (es : List Event) → b ≡ part_of jobs es → b ≡ part_of jobs b.events
 part_own jobs b es h = h ∙ ap (part_of jobs) (sym (ap (λ c. c.events) h))
 
-pub next_lawful : {J : Type 0} (jobs : List (J × Bool)) (b : Shown J) (marks : List Bool) (all es : List Event) (i : ℕ) (d : Event) → b ≡ part_of jobs (take i es) → es ≡ all → i < length es → IsLawful marks all
-    → IsLawful marks (b.events ++ get_or es i d ∷ [])
-next_lawful jobs b marks all es i d h e within a = subst (λ l. IsLawful marks (l ++ get_or es i d ∷ [])) (sym (ap (λ c. c.events) h)) (lawful_next marks es i d within (subst (IsLawful marks) (sym e) a))
+module _ {J : Type 0} (jobs : List (J × Bool)) (b : Shown J) (es : List Event) (i : ℕ) (e : Event) (part : b ≡ part_of jobs (take i es)) (at : slice_get es i ≡ Some e) where
+  pub next_lawful : (marks : List Bool) → IsLawful marks es → IsLawful marks (b.events ++ e ∷ [])
+  next_lawful marks a = subst (λ l. IsLawful marks (l ++ e ∷ [])) (sym (ap (λ c. c.events) part)) (lawful_next marks es i e at a)
 
-pub next_within : {J : Type 0} (jobs : List (J × Bool)) (b : Shown J) (all es : List Event) (i : ℕ) (d : Event) → b ≡ part_of jobs (take i es) → es ≡ all → i < length es → puts all ≡ length jobs
-    → puts (b.events ++ get_or es i d ∷ []) ≤ length jobs
-next_within jobs b all es i d h e within count = let t = puts_next es i d within in let u = ap puts e in let v = ap (λ c. puts (c.events ++ get_or es i d ∷ [])) h in omega (arith, t, u, v, count)
+  pub next_within : puts es ≡ length jobs → puts (b.events ++ e ∷ []) ≤ length jobs
+  next_within count = let t = puts_next es i e at in let v = ap (λ c. puts (c.events ++ e ∷ [])) part in omega (arith, t, v, count)
 
-pub part_step : {J : Type 0} (jobs : List (J × Bool)) (b c : Shown J) (es : List Event) (i : ℕ) (d : Event) → b ≡ part_of jobs (take i es) → i < length es → c ≡ part_of jobs (b.events ++ get_or es i d ∷ []) → c ≡ part_of jobs (take (i + 1) es)
-part_step jobs b c es i d h within e = e ∙ ap (part_of jobs) (ap (λ x. x.events ++ get_or es i d ∷ []) h ∙ sym (take_more es i d within))
+  pub part_step : (c : Shown J) → c ≡ part_of jobs (b.events ++ e ∷ []) → c ≡ part_of jobs (take (i + 1) es)
+  part_step c is = is ∙ ap (part_of jobs) (ap (λ x. x.events ++ e ∷ []) part ∙ sym (take_next es i e at))
 
-pub part_end : {J : Type 0} (all b : Shown J) (es : List Event) (i : ℕ) → b ≡ part_of all.jobs (take i es) → es ≡ all.events → i ≡ length es → puts all.events ≡ length all.jobs → b ≡ all
-part_end all b es i h e last count = h ∙ (ap (part_of all.jobs) (ap (λ n. take n es) last ∙ (take-length es ∙ e)) ∙ part_all all count)
+pub part_end : {J : Type 0} (all b : Shown J) (i : ℕ) → b ≡ part_of all.jobs (take i all.events) → i ≡ length all.events → puts all.events ≡ length all.jobs → b ≡ all
+part_end all b i h last count = h ∙ (ap (part_of all.jobs) (ap (λ n. take n all.events) last ∙ take-length all.events) ∙ part_all all count)

@@ -3,6 +3,7 @@ use Rattle.std.proofs.Common.{◌≡◌, ◌↔◌, ℕ, zero, suc, ◌+◌, ◌
 use Rattle.std.specs.Prelude.{IsTrue, nat_eq}
 use Rattle.std.proofs.lemmas.Bool.{eqb-true}
 use Rattle.dk_model.specs.declared.code.Verdict.{Verdict}
+use Rattle.board_core.specs.declared.event.End.{End}
 use Rattle.board_core.specs.declared.event.Event.{Event}
 use Rattle.board_core.specs.Machine.{IsFree}
 use Rattle.board_core.specs.Kept.{IsPowerOfTwo, IsWide, Each, Ascends, Keeps, numbers, waiters_in}
@@ -73,7 +74,7 @@ each_of P Q f [] h = tt
 each_of P Q f (x ∷ xs) h = (f x h.0, each_of P Q f xs h.1)
 
 -- no more wait than were put
-pub few_wait : {room : ℕ} {marks : List Bool} {waiting : List ℕ} {verdicts : List (Option Verdict)} {fault : Option (ℕ × Verdict)} {sealed_at : Option ℕ} {es : List Event} → Keeps room marks waiting verdicts fault sealed_at es → length waiting ≤ length marks
+pub few_wait : {room : ℕ} {marks : List Bool} {waiting : List ℕ} {verdicts : List (Option Verdict)} {fault : Option (ℕ × Verdict)} {end : Option End} {es : List Event} → Keeps room marks waiting verdicts fault end es → length waiting ≤ length marks
 few_wait {marks = marks} {waiting = waiting} {es = es} k = let all = k.all_put in
     let count = count_ascending waiting 0 (length marks) (omega arith) k.in_order (each_of (IsFree marks es) (λ n. 0 < n) (λ n f. f.0) waiting k.waits) (each_of (IsFree marks es) (λ n. n ≤ length marks) (λ n f. let le = f.1 in omega (arith, le, all)) waiting k.waits) in omega (arith, count)
 
@@ -89,7 +90,7 @@ empty_keeps room some = record {
   in_order = tt;
   verdicts_kept = λ n h. refl;
   fault_kept = refl;
-  seal_kept = refl;
+  end_kept = refl;
   few_events = omega arith;
   has_room = omega (arith, some);
   lawful = tt;

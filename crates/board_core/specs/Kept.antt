@@ -6,22 +6,17 @@ use Rattle.std.specs.VecDeque.{deque_capacity}
 use Rattle.dk_model.specs.declared.code.Verdict.{Verdict}
 use Rattle.board_core.specs.declared.event.End.{End}
 use Rattle.board_core.specs.declared.event.Event.{Event}
-use Rattle.board_core.specs.declared.event.Event.TheVariants.{Seal}
 use Rattle.board_core.specs.declared.book.Posted.{Posted}
 use Rattle.board_core.specs.declared.book.Waiting.{Waiting}
 use Rattle.board_core.specs.declared.book.Book.TheInside.{Inside}
-use Rattle.board_core.specs.Events.{is_fault, is_seal, claims, puts, answered_verdict, end_of, IsFirstFault}
+use Rattle.board_core.specs.Events.{is_fault, claims, puts, answered_verdict, end_of, IsFirstFault}
 use Rattle.board_core.specs.Machine.{IsFree, IsLawful, marks_of}
+use Rattle.board_core.specs.Steps.{events_in}
 
 -- the first fault, if there is one
 abbrev pub IsFaultOf : List Event → Option (ℕ × Verdict) → Type 0
 IsFaultOf es None = list_any is_fault es ≡ false
 IsFaultOf es (Some f) = IsFirstFault es f.0 f.1 × (list_any is_fault es ≡ true)
-
--- where the seal stands, if there is one
-abbrev pub IsSealOf : List Event → Option ℕ → Type 0
-IsSealOf es None = list_any is_seal es ≡ false
-IsSealOf es (Some at) = (e : End) × (slice_get es at ≡ Some (Seal e)) × (end_of es ≡ Some e)
 
 -- P of each element, from the first on
 abbrev pub Each : {X : Type 0} → (X → Type 0) → List X → Type 0
@@ -41,7 +36,7 @@ abbrev pub numbers : {J : Type 0} → List (ℕ × J) → List ℕ
 numbers ws = map (λ w. w.0) ws
 
 -- room is how many events the history has place for
-pub record Keeps (room : ℕ) (marks : List Bool) (waiting : List ℕ) (verdicts : List (Option Verdict)) (fault : Option (ℕ × Verdict)) (sealed_at : Option ℕ) (es : List Event) : Type 0 where
+pub record Keeps (room : ℕ) (marks : List Bool) (waiting : List ℕ) (verdicts : List (Option Verdict)) (fault : Option (ℕ × Verdict)) (end : Option End) (es : List Event) : Type 0 where
   pub few : length marks < 2 ^ 32 - 1
   pub as_many : length verdicts ≡ length marks
   pub all_put : puts es ≡ length marks
@@ -53,10 +48,10 @@ pub record Keeps (room : ℕ) (marks : List Bool) (waiting : List ℕ) (verdicts
   pub in_order : Ascends waiting
   pub verdicts_kept : (n : ℕ) → 0 < n → slice_index_or verdicts (n - 1) None ≡ answered_verdict n es
   pub fault_kept : IsFaultOf es fault
-  pub seal_kept : IsSealOf es sealed_at
+  pub end_kept : end_of es ≡ end
   -- places are left for the claims and answers to come, and for the seal
   pub few_events :
-      length es + length waiting + count_by is_none verdicts + cond (is_none sealed_at) 1 0
+      length es + length waiting + count_by is_none verdicts + cond (is_none end) 1 0
       ≤ 3 * length marks + 1
   pub has_room : 3 * length marks + 1 ≤ room
   pub lawful : IsLawful marks es
@@ -87,6 +82,6 @@ pub record IsWide (count jobs waiting verdicts history : ℕ) : Type 0 where
   pub history_fit : 3 * places + 1 ≤ history
 
 pub record Kept {J : Type 0} (b : Inside J) : Type 0 where
-  pub keeps : Keeps (vec_capacity b.history) (marks_of (jobs_in b.jobs.items)) (numbers (waiters_in b.waiting.items)) b.verdicts.items b.fault b.sealed_at b.history.items
+  pub keeps : Keeps (vec_capacity b.history) (marks_of (jobs_in b.jobs.items)) (numbers (waiters_in b.waiting.items)) b.verdicts.items b.fault b.end (events_in b.end b.history.items)
   pub own : Each (IsOwn (jobs_in b.jobs.items)) (waiters_in b.waiting.items)
   pub wide : IsWide (vec_len b.jobs) (vec_capacity b.jobs) (deque_capacity b.waiting) (vec_capacity b.verdicts) (vec_capacity b.history)

@@ -35,10 +35,10 @@ TakesBelow old f (Some t) new =
     (waiters_in old ≡ (t.number, arc_value t.job) ∷ waiters_in new) × (reaches f t.number ≡ false)
 
 -- what a worker is told where nothing can be claimed
-abbrev pub idle_reply : {J : Type 0} → Option ℕ → Option (ℕ × Verdict) → Claimed J
-idle_reply None None = Empty
-idle_reply None (Some _) = Over
-idle_reply (Some _) f = Over
+abbrev pub idle_reply : {J : Type 0} → Bool → Option (ℕ × Verdict) → Claimed J
+idle_reply false None = Empty
+idle_reply false (Some _) = Over
+idle_reply true f = Over
 
 -- the job that comes to wait, if it isn't settled
 abbrev pub newcomers : {J : Type 0} → ℕ → J → Bool → List (ℕ × J)

@@ -11,7 +11,8 @@ ghost use Rattle.board_core.specs.Shown.{added, put_on, ClaimReply, HoldsGiven, 
 
 mod replay;
 
-use crate::event::{End, Event};
+use crate::event::End;
+use crate::history::{History, Step};
 use crate::past::Past;
 use crate::room::{Leftover, Lists, Offer, make_place};
 use crate::steps::{fault_after, idle, let_wait, take_below};
@@ -47,9 +48,9 @@ pub struct Book<J> {
     verdicts: Vec<Option<Verdict>>,
     // The least number with a verdict other than `Accepted`, and that verdict.
     fault: Option<(u32, Verdict)>,
-    // Where in the history the seal stands, if there is one.
-    sealed_at: Option<usize>,
-    history: Vec<Event>,
+    // How it was sealed, if it was.
+    end: Option<End>,
+    history: Vec<Step>,
 }
 
 impl<J> Model for Book<J> {
@@ -58,22 +59,24 @@ impl<J> Model for Book<J> {
     ghost Value = { Shown J };
 
     ghost use Rattle.board_core.specs.Kept.{Kept, jobs_in};
+    ghost use Rattle.board_core.specs.Steps.{events_in};
 
-    ghost view = { λ b. record { jobs = jobs_in b.jobs.items; events = b.history.items } };
+    ghost view = { λ b.
+        record { jobs = jobs_in b.jobs.items; events = events_in b.end b.history.items } };
 
     ghost invariant = { λ b. Kept b };
 }
 
 impl<J> Book<J> {
     /// All that happened, in order, and what every history of a book is.
-    pub fn history(&self) -> &[Event]
-        ensures value { result.now ≡ self.now.events }
+    pub fn history(&self) -> History<'_>
+        ensures value { result ≡ self.now.events }
         ensures lawful { IsLawful (marks_of self.now.jobs) self.now.events }
         ensures all_put { puts self.now.events ≡ length self.now.jobs }
         ensures few_jobs { length self.now.jobs < 2 ^ 32 - 1 }
         ensures few_events { length self.now.events ≤ 3 * length self.now.jobs + 1 }
     {
-        self.history.as_slice()
+        History::new(self.history.as_slice(), self.end.as_ref())
     }
 
     /// How many jobs were put.
@@ -81,6 +84,11 @@ impl<J> Book<J> {
         ensures { result ≡ length self.now.jobs }
     {
         self.jobs.len()
+    }
+
+    /// How many jobs are neither settled nor claimed.
+    pub fn waiting(&self) -> usize {
+        self.waiting.len()
     }
 
     /// Whether the job of this number was put as settled.
@@ -115,10 +123,7 @@ impl<J> Book<J> {
     pub fn end(&self) -> Option<&End>
         ensures { option_copied result ≡ end_of self.now.events }
     {
-        match &self.history[self.sealed_at?] {
-            Event::Seal(end) => Some(end),
-            Event::Put(_) | Event::Claim(..) | Event::Answer(..) => unreachable!(),
-        }
+        self.end.as_ref()
     }
 }
 
@@ -138,7 +143,7 @@ impl<J: Drop> Book<J> {
             waiting,
             verdicts,
             fault: None,
-            sealed_at: None,
+            end: None,
             history,
         })
     }
@@ -216,7 +221,7 @@ impl<J: Drop> Book<J> {
         jobs.push_reserved(Posted { job: past, settled });
         let job = let_wait(waiting, number, job, settled);
         verdicts.push_reserved(None);
-        history.push_reserved(Event::Put(number));
+        history.push_reserved(Step::Put(number));
         (Ok(number), Leftover { lists, job })
     }
 
@@ -228,10 +233,9 @@ impl<J: Drop> Book<J> {
         ensures holds { HoldsGiven worker result self.new.events }
     {
         let Some(task) = take_below(&mut self.waiting, self.fault) else {
-            return idle(self.sealed_at, self.fault);
+            return idle(self.end.is_some(), self.fault);
         };
-        self.history
-            .push_reserved(Event::Claim(worker, task.number));
+        self.history.push_reserved(Step::Claim(worker, task.number));
         Claimed::Task(task)
     }
 
@@ -246,7 +250,7 @@ impl<J: Drop> Book<J> {
         self.verdicts[at] = Some(verdict);
         self.fault = fault_after(self.fault, number, verdict);
         self.history
-            .push_reserved(Event::Answer(worker, number, verdict));
+            .push_reserved(Step::Answer(worker, number, verdict));
     }
 
     /// No job comes after this. Takes no memory.
@@ -254,7 +258,7 @@ impl<J: Drop> Book<J> {
         requires { Allowed (marks_of self.old.jobs) self.old.events (Event.Seal end) }
         ensures { self.new ≡ added self.old (Event.Seal end) }
     {
-        self.sealed_at = Some(self.history.len());
-        self.history.push_reserved(Event::Seal(end));
+        self.end = Some(end);
+        self.history.push_reserved(Step::Seal);
     }
 }

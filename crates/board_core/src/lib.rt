@@ -10,6 +10,7 @@ mod book;
 mod checkable;
 mod checker;
 mod event;
+mod history;
 mod laws;
 mod past;
 mod room;
@@ -20,6 +21,7 @@ pub use book::Book;
 pub use checkable::Checkable;
 pub use checker::{Checker, Gate};
 pub use event::{End, Event, Place};
+pub use history::{History, Step};
 pub use laws::{
     answered_by_claimer, answered_once, claimed_by_one, claimed_once, finished_when_drained,
     lawful_prefix, one_task_each, settled_unclaimed, verdict_answered, verdict_due,

@@ -9,7 +9,7 @@ ghost use Rattle.board_core.specs.Kept.{IsWide, IsPowerOfTwo};
 ghost use Rattle.board_core.specs.Rooms.{HasPlaces, IsEmpty, IsRoomBehind};
 
 use crate::book::{Posted, Waiting};
-use crate::event::Event;
+use crate::history::Step;
 use dk_model::{NoMemory, Verdict};
 use std::alloc::Global;
 use std::collections::VecDeque;
@@ -22,7 +22,7 @@ pub struct Lists<J> {
     pub jobs: Vec<Posted<J>>,
     pub waiting: VecDeque<Waiting<J>>,
     pub verdicts: Vec<Option<Verdict>>,
-    pub history: Vec<Event>,
+    pub history: Vec<Step>,
 }
 
 impl<J: Drop> Lists<J> {
@@ -136,7 +136,7 @@ pub fn make_place<J: Drop>(
     jobs: &mut Vec<Posted<J>>,
     waiting: &mut VecDeque<Waiting<J>>,
     verdicts: &mut Vec<Option<Verdict>>,
-    history: &mut Vec<Event>,
+    history: &mut Vec<Step>,
     room: Room<J>,
 ) -> Result<Option<Lists<J>>, NoMemory>
     requires room { IsRoomBehind (vec_len jobs.old) room }

@@ -55,11 +55,11 @@ pub fn take_below<J>(
 }
 
 /// What a worker is told where nothing can be claimed.
-pub fn idle<J>(sealed_at: Option<usize>, fault: Option<(u32, Verdict)>) -> Claimed<J>
-    ensures { result ≡ idle_reply sealed_at fault }
+pub fn idle<J>(is_sealed: bool, fault: Option<(u32, Verdict)>) -> Claimed<J>
+    ensures { result ≡ idle_reply is_sealed fault }
 {
-    match (sealed_at, fault) {
-        (None, None) => Claimed::Empty,
+    match (is_sealed, fault) {
+        (false, None) => Claimed::Empty,
         _ => Claimed::Over,
     }
 }

@@ -102,7 +102,7 @@ fn answer<R: Wait + Abort>(rt: &R, board: &Board<Own>, pass: &mut WorkerPass<Own
 }
 
 // Whether the book has two jobs, a fault at the first one, and this history.
-fn is_stopped_at_the_first(book: &Book<Own>) -> bool {
+fn is_stopped_at_the_first(alloc: Global, book: &Book<Own>) -> bool {
     let fault = Verdict::Refused(Code::E21);
     let steps = [
         (b'p', 0, 1, None),
@@ -116,7 +116,7 @@ fn is_stopped_at_the_first(book: &Book<Own>) -> bool {
     book.len() == 2
         && book.fault() == Some((1, fault))
         && matches!(book.end(), Some(End::Stopped))
-        && are_steps(book.history(), &steps)
+        && are_steps(alloc, book.history(), &steps)
 }
 
 #[test]
@@ -143,7 +143,7 @@ fn keeps_two_workers_apart_and_stops_at_a_fault(rt: HostRuntime) {
     pass_back(&rt, &board, &mut passes, second);
     let book = board.close(sealed, passes);
     let told = numbers == [1, 2, 1, 2] && waits && refused == (1, fault, Verdict::Ended) && over;
-    assert!(rt; told && is_stopped_at_the_first(&book));
+    assert!(rt; told && is_stopped_at_the_first(alloc, &book));
 }
 
 // The board keeps no share of a settled job, and of an answered one only until the next put or the seal. Beside the shares

@@ -146,7 +146,7 @@ fn fault_of_sealed(book: &mut Book<u32>) -> Option<(u32, Verdict)>
 }
 
 // Whether the events say what was done, and the book says the same.
-fn ends_at_the_least(book: &Book<u32>) -> bool {
+fn ends_at_the_least(alloc: Global, book: &Book<u32>) -> bool {
     if book.len() != 3 {
         return false;
     }
@@ -165,7 +165,7 @@ fn ends_at_the_least(book: &Book<u32>) -> bool {
         (b's', 0, 0, None),
     ];
     let verdicts = [book.verdict(1), book.verdict(2)];
-    are_steps(book.history(), &steps)
+    are_steps(alloc, book.history(), &steps)
         && !book.is_settled(2)
         && verdicts == [accepted, Some(fault)]
         && book.fault() == Some((2, fault))
@@ -186,6 +186,6 @@ fn names_the_least_fault_and_not_the_first_in_time(rt: HostRuntime) {
     let first = fault_of_sealed(&mut book);
     let blank = Arc::new(alloc, 0).expect(&rt, "memory for a job");
     let replayed = book.replay(&blank).expect(&rt, "memory for a replay");
-    let is_same = ends_at_the_least(&book) && ends_at_the_least(&replayed);
+    let is_same = ends_at_the_least(alloc, &book) && ends_at_the_least(alloc, &replayed);
     assert!(rt; is_same && first == Some((2, Verdict::Refused(Code::E21))));
 }

@@ -1,6 +1,7 @@
 //! Jobs that are their own verdicts, their checker, a gate that keeps nothing, and histories that are written out.
-use board_core::{Checkable, Checker, End, Event, Gate};
+use board_core::{Checkable, Checker, End, Event, Gate, History};
 use dk_model::Verdict;
+use std::alloc::Global;
 use std::sync::Wait;
 use std::sync::atomic::{AtomicU64, Ordering};
 use std::thread;
@@ -114,13 +115,15 @@ fn step_of(event: &Event) -> Step {
 }
 
 /// Whether a history has these steps, and no others.
-pub fn are_steps(history: &[Event], due: &[Step]) -> bool {
-    let mut at = 0usize;
-    for event in history {
+pub fn are_steps(alloc: Global, history: History<'_>, due: &[Step]) -> bool {
+    for at in 0..history.len() {
+        let Ok(event) = history.event(alloc, at) else {
+            return false;
+        };
         match due.get(at) {
-            Some(step) if *step == step_of(event) => at = at.wrapping_add(1),
+            Some(step) if *step == step_of(&event) => {}
             _ => return false,
         }
     }
-    at == due.len()
+    history.len() == due.len()
 }

@@ -19,9 +19,11 @@ impl<J> Book<J> {
         ensures jobs { IfOk result (λ b. b.jobs ≡ blanks (arc_value blank.now) self.now.jobs) }
         ensures events { IfOk result (λ b. b.events ≡ self.now.events) }
     {
-        let mut book = Book::new(*self.history.allocator())?;
-        for event in self.history() {
-            self.repeat(blank, &mut book, event)?;
+        let alloc = *self.history.allocator();
+        let mut book = Book::new(alloc)?;
+        let history = self.history();
+        for at in 0..history.len() {
+            self.repeat(blank, &mut book, history.event(alloc, at)?)?;
         }
         Ok(book)
     }
@@ -31,29 +33,29 @@ impl<J> Book<J> {
         &self,
         blank: &Arc<B>,
         book: &mut Book<B>,
-        event: &Event,
+        event: Event,
     ) -> Result<(), NoMemory>
         requires lawful { IsLawful (marks_of (blanks (arc_value blank.now) self.now.jobs))
-            (book.old.events ++ event.now ∷ []) }
-        requires within { puts (book.old.events ++ event.now ∷ [])
+            (book.old.events ++ event ∷ []) }
+        requires within { puts (book.old.events ++ event ∷ [])
             ≤ length (blanks (arc_value blank.now) self.now.jobs) }
         requires part { book.old
             ≡ part_of (blanks (arc_value blank.now) self.now.jobs) book.old.events }
         ensures { OnOk result (book.new ≡ part_of (blanks (arc_value blank.now) self.now.jobs)
-            (book.old.events ++ event.now ∷ [])) }
+            (book.old.events ++ event ∷ [])) }
     {
         match event {
-            Event::Put(number) => self.repeat_put(blank, book, *number),
+            Event::Put(number) => self.repeat_put(blank, book, number),
             Event::Claim(worker, number) => {
-                self.repeat_claim(blank, book, *worker, *number);
+                self.repeat_claim(blank, book, worker, number);
                 Ok(())
             }
             Event::Answer(worker, number, verdict) => {
-                book.answer(*worker, *number, *verdict);
+                book.answer(worker, number, verdict);
                 Ok(())
             }
             Event::Seal(end) => {
-                book.seal(end.copy(*self.history.allocator())?);
+                book.seal(end);
                 Ok(())
             }
         }

@@ -1,6 +1,8 @@
 use Rattle.std.proofs.Common.{arith, ◌≡◌, ◌+◌, ◌-◌, ◌*◌, ◌^◌, ◌<◌, ◌≤◌, ◌++◌, ◌∷◌, [], false, length, sym, ap, ◌∙◌, refl, subst, vec_len, vec_capacity, None}
 use Rattle.std.specs.Arc.{arc_value}
-use Rattle.board_core.specs.declared.event.Event.TheVariants.{Put}
+use Rattle.board_core.specs.declared.history.Step.{Step}
+use Rattle.board_core.specs.Steps.{events_in}
+use Rattle.board_core.proofs.Stepping.{count_steps, events_snoc}
 use lib.ListN.{length-map}
 use Rattle.std.specs.List.{list_any}
 use Rattle.std.proofs.lemmas.List.{map-append}
@@ -14,7 +16,7 @@ use Rattle.board_core.proofs.Holding.{count_marks, put_holds}
 use Rattle.board_core.proofs.book.Book.post.Goals as goal
 
 pub returns-in-Some-clause-refused : goal.returns-in-Some-clause-refused
-returns-in-Some-clause-refused g c = let h = subst (IsFaultOf c.self.inside.history.items) c.in-Some.is c.self.invariant.keeps.fault_kept in rw (← c.self.view_is) (h.0, h.1, refl)
+returns-in-Some-clause-refused g c = let h = subst (IsFaultOf (events_in c.self.inside.end c.self.inside.history.items)) c.in-Some.is c.self.invariant.keeps.fault_kept in rw (← c.self.view_is) (h.0, h.1, refl)
 
 pub make_place-requires : goal.make_place-requires
 make_place-requires g c = let k = c.self.invariant.keeps in let count = length-map c.self.inside.jobs.items posted in let marks = count_marks (jobs_in c.self.inside.jobs.items) in
@@ -23,7 +25,7 @@ make_place-requires g c = let k = c.self.invariant.keeps in let count = length-m
       wide = c.self.invariant.wide;
       waiting = (let w = few_wait k in let m = count_waiting c.self.inside.waiting.items in omega (arith, w, m, marks, count));
       verdicts = (let v = k.as_many in omega (arith, v, marks, count));
-      history = (let f = k.few_events in omega (arith, f, marks, count));
+      history = (let f = k.few_events in let steps = count_steps c.self.inside.end c.self.inside.history.items in omega (arith, f, steps, marks, count));
     }
 
 pub invariant_of-self : goal.invariant_of-self
@@ -39,7 +41,7 @@ let_wait-job-requires g c = let k = c.self.invariant.keeps in let count = length
     (has_place (vec_len c.make_place.new.jobs) (deque_len c.make_place.new.waiting) _ _ _ _ c.in-Ok.ensures.ok (omega (arith, jobs, waiting, w, m, marks, count))).1
 
 pub invariant_of-self-2 : goal.invariant_of-self-2
-invariant_of-self-2 g c = let e = c.make_place.ensures in let k = c.self.invariant.keeps in let items = c.self.inside.jobs.items in let es = c.self.inside.history.items in let job = c.args.offer.job in let settled = c.args.offer.settled in
+invariant_of-self-2 g c = let e = c.make_place.ensures in let k = c.self.invariant.keeps in let items = c.self.inside.jobs.items in let end = c.self.inside.end in let steps = c.self.inside.history.items in let es = events_in end steps in let job = c.args.offer.job in let settled = c.args.offer.settled in
     let few = subst (λ b. length b.jobs < 2 ^ 32 - 2) (sym c.self.view_is) c.requires.few in
     let unsealed = subst (λ b. list_any is_seal b.events ≡ false) (sym c.self.view_is) c.requires.unsealed in
     let good = subst (IsFaultOf es) c.in_default.is k.fault_kept in
@@ -49,12 +51,12 @@ invariant_of-self-2 g c = let e = c.make_place.ensures in let k = c.self.invaria
     let place = has_place (vec_len c.make_place.new.jobs) 0 _ _ _ _ c.in-Ok.ensures.ok (omega arith) in
     let more : 3 * (length (jobs_in items) + 1) + 1 ≤ vec_capacity c.make_place.new.history = (let r = place.3 in omega (arith, r, same, count)) in
     let t = put_holds (jobs_in items) (waiters_in c.self.inside.waiting.items) k c.self.invariant.own (vec_capacity c.make_place.new.history) (c.len.result + 1) (arc_value job) settled number more few unsealed good
-    (jobs_in c.push_reserved.new.self.items) (waiters_in c.let_wait-job.new.waiting.items) c.push_reserved-2.new.self.items c.push_reserved-3.new.self.items
+    (jobs_in c.push_reserved.new.self.items) (waiters_in c.let_wait-job.new.waiting.items) c.push_reserved-2.new.self.items (events_in end c.push_reserved-3.new.self.items)
     (ap jobs_in (c.push_reserved.ensures.items ∙ ap (λ l. l ++ record { job = c.of-past.result; settled = settled } ∷ []) e.jobs) ∙ map-append posted items (record { job = c.of-past.result; settled = settled } ∷ [])
     ∙ ap (λ v. jobs_in items ++ (v, settled) ∷ []) (c.of-past.ensures ∙ c.deref.ensures))
     (c.let_wait-job.ensures.items ∙ (λ i. waiters_in (e.waiting i) ++ newcomers (c.len.result + 1) (arc_value job) settled))
     (c.push_reserved-2.ensures.items ∙ ap (λ l. l ++ None ∷ []) e.verdicts)
-    (c.push_reserved-3.ensures.items ∙ ap (λ l. l ++ Put (c.len.result + 1) ∷ []) e.history) in
+    (ap (events_in end) (c.push_reserved-3.ensures.items ∙ ap (λ l. l ++ Step.Put (c.len.result + 1) ∷ []) e.history) ∙ events_snoc end steps (Step.Put (c.len.result + 1))) in
     record {
       keeps = rw c.push_reserved-3.ensures.capacity t.0;
       own = t.1;

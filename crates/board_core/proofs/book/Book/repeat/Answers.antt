@@ -1,6 +1,6 @@
-use Rattle.std.proofs.Common.{◌++◌, ◌∷◌, [], subst, sym}
+use Rattle.std.proofs.Common.{◌++◌, ◌∷◌, [], subst}
 use Rattle.board_core.specs.declared.event.Event.TheVariants.{Answer, Seal}
-use Rattle.board_core.specs.Machine.{Allowed, IsLawful, marks_of}
+use Rattle.board_core.specs.Machine.{IsLawful, marks_of}
 use Rattle.std.specs.Arc.{arc_value}
 use Rattle.board_core.specs.Shown.{blanks}
 use Rattle.board_core.proofs.Replaying.{allowed_next}
@@ -12,5 +12,4 @@ answer-requires g c = let jobs = blanks (arc_value c.args.blank.now) c.args.self
 
 pub seal-requires : goal.seal-requires
 seal-requires g c = let jobs = blanks (arc_value c.args.blank.now) c.args.self.now.jobs in let b = c.args.book.now in
-    subst (λ e. Allowed (marks_of b.jobs) b.events (Seal e)) (sym c.in_ok-copy-in-Seal.ensures)
-    (allowed_next jobs b c.requires.part (Seal c.in-Seal.end) (subst (λ e. IsLawful (marks_of jobs) (b.events ++ e ∷ [])) c.in-Seal.is c.requires.lawful))
+    allowed_next jobs b c.requires.part (Seal c.in-Seal.end) (subst (λ e. IsLawful (marks_of jobs) (b.events ++ e ∷ [])) c.in-Seal.is c.requires.lawful)
