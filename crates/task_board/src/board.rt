@@ -10,6 +10,7 @@ ghost use Rattle.task_board.specs.Histories.{events_in, log_of};
 ghost use Rattle.task_board.specs.Passes.{Adds, ClaimTold, HasTask, IsIdle, IsNew, IsOver, PutRefusedTold, PutTold, TakesTurn, new_reader};
 
 use crate::judged::Judged;
+use crate::pace::Pace;
 use crate::passes::{ReaderPass, SealedPass, WorkerPass};
 use board_core::{Book, Checkable, Claimed, End, Offer, PutRefused, Task};
 use dk_model::{Listed, NoMemory, Verdict};
@@ -74,7 +75,11 @@ impl<J: Checkable + Drop> Board<J> {
                 }
                 Ok((
                     Board { slot, alloc },
-                    ReaderPass { seat, count: 0 },
+                    ReaderPass {
+                        seat,
+                        count: 0,
+                        pace: Pace::new(),
+                    },
                     Listed::from_vec(passes),
                 ))
             }
@@ -104,11 +109,12 @@ impl<J: Checkable + Drop> Board<J> {
     {
         // Longer lists are made before the turn, and what is over is let go after it: answered jobs too, two for each that
         // is put, so that they don't pile up.
-        let ReaderPass { seat, count } = pass;
+        let ReaderPass { seat, count, pace } = pass;
         let offer = Offer::new(self.alloc, job, settled, *count);
         let mut judged = self.slot.lock(rt, seat);
         let (reply, leftover) = judged.book.post(offer);
         let spent = (judged.spent.pop(), judged.spent.pop());
+        let waiting = judged.book.waiting();
         let _history = judged.book.history();
         if let Ok(_) = &reply {
             self.slot.add(seat, &judged);
@@ -117,6 +123,7 @@ impl<J: Checkable + Drop> Board<J> {
         self.slot.unlock(seat, judged);
         drop(leftover);
         drop(spent);
+        pace.rest(rt, waiting);
         reply
     }
 
@@ -130,7 +137,11 @@ impl<J: Checkable + Drop> Board<J> {
         ensures added { Adds pass.seat.me.0 (Event.Seal end) result.seat.me.0 }
         ensures known { result.seat.me.0.known ≡ pass.seat.me.0.known }
     {
-        let ReaderPass { mut seat, count: _ } = pass;
+        let ReaderPass {
+            mut seat,
+            count: _,
+            pace: _,
+        } = pass;
         let mut judged = self.slot.lock(rt, &mut seat);
         judged.book.seal(end);
         let spent = mem::replace(&mut judged.spent, Vec::new(self.alloc));

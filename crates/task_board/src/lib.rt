@@ -7,8 +7,10 @@
 
 mod board;
 mod judged;
+mod pace;
 mod passes;
 
 pub use board::Board;
 pub use judged::Judged;
+pub use pace::Pace;
 pub use passes::{ReaderPass, SealedPass, WorkerPass};

@@ -1,5 +1,5 @@
 //! The rights of the reader and of the workers to step at a board. They have no bytes but the reader's
-//! count of jobs and a worker's number; what they show stands in `seat.me.0` (`View` of ticket_slot).
+//! count of jobs and pace and a worker's number; what they show stands in `seat.me.0` (`View` of ticket_slot).
 ghost use Rattle.std.specs.Prelude.{◌≡◌, true, false, length};
 ghost use Rattle.std.specs.List.{list_any};
 ghost use Rattle.board_core.specs.Events.{is_seal};
@@ -8,6 +8,7 @@ ghost use Rattle.task_board.specs.Histories.{events_in};
 ghost use Rattle.task_board.specs.Passes.{IsIdle};
 
 use crate::judged::Judged;
+use crate::pace::Pace;
 use board_core::Checkable;
 use ticket_slot::Pass;
 
@@ -17,6 +18,7 @@ pub struct ReaderPass<J: Checkable> {
     pub seat: Pass<Judged<J>>,
     /// How many jobs it has put.
     pub count: u32,
+    pub pace: Pace,
     ghost counted: { count ≡ length seat.me.0.known },
     ghost reader: { IsReader seat.me.0 },
     ghost free: { IsFree seat.me },
