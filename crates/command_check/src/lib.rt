@@ -15,6 +15,5 @@ mod verdict;
 
 pub use entry::{entry_of, is_answered, is_untyped};
 pub use queries::{query, query_stored};
-pub use shared_term::StoredCommand;
 pub use stored_entry::{entry_of_stored, is_answered_stored, is_untyped_stored};
 pub use verdict::{check_command, check_stored, enter_command, infer_stored, infer_type};

@@ -100,7 +100,8 @@ fn find<R: Reducer>(
 ) -> Result<FoundOf<R::T>, TypeFault>
     requires { R.serves (entries_of version.now) r.old }
     ensures gives { GivesFound R.owns R.denotes
-        (asked_found (entries_of version.now) (plain_asked asked.now) left.old) r.new result left.new }
+        (asked_found (entries_of version.now) (plain_asked asked.now) left.old)
+        r.new result left.new }
     ensures follows { Follows R.owns R.denotes R.serves (entries_of version.now) r.old r.new }
     ensures spent { left.new ≤ left.old }
 {
@@ -204,10 +205,10 @@ pub fn query<R: Reducer>(
 ) -> Result<Found, Verdict>
     requires answered { IsTrue (is_answered (plain_command c.now)) }
     requires serves { R.serves (entries_of version.now) reducer.old }
-    ensures ok { IfOk result (λ f. found_of (entries_of version.now) (plain_command c.now) budget
-        ≡ Some (plain_found f)) }
-    ensures accepted { IfOk result (λ _. verdict_of (entries_of version.now) (plain_command c.now) budget
-        ≡ Verdict.Accepted) }
+    ensures ok { IfOk result (λ f. found_of (entries_of version.now) (plain_command c.now)
+        budget ≡ Some (plain_found f)) }
+    ensures accepted { IfOk result (λ _. verdict_of (entries_of version.now) (plain_command c.now)
+        budget ≡ Verdict.Accepted) }
     ensures err { IfErr result (IsVerdictOrMemory
         (verdict_of (entries_of version.now) (plain_command c.now) budget)) }
     ensures refused { IfErr result (λ v. ¬ (v ≡ Verdict.Accepted)) }
@@ -240,10 +241,10 @@ pub fn query_stored<R: Reducer>(
 ) -> Result<Found, Verdict>
     requires answered { IsTrue (is_answered (stored_command c.now)) }
     requires serves { R.serves (entries_of version.now) reducer.old }
-    ensures ok { IfOk result (λ f. found_of (entries_of version.now) (stored_command c.now) budget
-        ≡ Some (plain_found f)) }
-    ensures accepted { IfOk result (λ _. verdict_of (entries_of version.now) (stored_command c.now) budget
-        ≡ Verdict.Accepted) }
+    ensures ok { IfOk result (λ f. found_of (entries_of version.now) (stored_command c.now)
+        budget ≡ Some (plain_found f)) }
+    ensures accepted { IfOk result (λ _. verdict_of (entries_of version.now) (stored_command c.now)
+        budget ≡ Verdict.Accepted) }
     ensures err { IfErr result (IsVerdictOrMemory
         (verdict_of (entries_of version.now) (stored_command c.now) budget)) }
     ensures refused { IfErr result (λ v. ¬ (v ≡ Verdict.Accepted)) }

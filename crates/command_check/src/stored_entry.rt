@@ -83,7 +83,8 @@ pub fn entry_of_stored(
     ensures ok { IfOk result (λ e. stored_entry e
         ≡ entry_of (entries_of version.now) (stored_command command.now)
         (maybe_by stored_term inferred)) }
-    ensures err { IfErr result (IsEntryFault (entries_of version.now) (stored_command command.now)) }
+    ensures err { IfErr result
+        (IsEntryFault (entries_of version.now) (stored_command command.now)) }
 {
     match command {
         StoredCommand::Declare { sort, typ, body } => Ok(Entry::Symbol {

@@ -219,10 +219,10 @@ pub fn infer_type<R: Reducer>(
 ) -> Result<Stored, Verdict>
     requires untyped { IsTrue (is_untyped (plain_command c.now)) }
     requires serves { R.serves (entries_of version.now) reducer.old }
-    ensures ok { IfOk result (λ t. inferred_type (entries_of version.now) (plain_command c.now) budget
-        ≡ Some (stored_term t)) }
-    ensures accepted { IfOk result (λ _. verdict_of (entries_of version.now) (plain_command c.now) budget
-        ≡ Verdict.Accepted) }
+    ensures ok { IfOk result (λ t. inferred_type (entries_of version.now) (plain_command c.now)
+        budget ≡ Some (stored_term t)) }
+    ensures accepted { IfOk result (λ _. verdict_of (entries_of version.now) (plain_command c.now)
+        budget ≡ Verdict.Accepted) }
     ensures derivation { IfOk result (λ _. IsNumbered (entries_of version.now)
         → HasDerivation (entries_of version.now) (plain_command c.now)) }
     ensures err { IfErr result (IsVerdictOrMemory
@@ -255,10 +255,10 @@ pub fn infer_stored<R: Reducer>(
 ) -> Result<Stored, Verdict>
     requires untyped { IsTrue (is_untyped (stored_command c.now)) }
     requires serves { R.serves (entries_of version.now) reducer.old }
-    ensures ok { IfOk result (λ t. inferred_type (entries_of version.now) (stored_command c.now) budget
-        ≡ Some (stored_term t)) }
-    ensures accepted { IfOk result (λ _. verdict_of (entries_of version.now) (stored_command c.now) budget
-        ≡ Verdict.Accepted) }
+    ensures ok { IfOk result (λ t. inferred_type (entries_of version.now) (stored_command c.now)
+        budget ≡ Some (stored_term t)) }
+    ensures accepted { IfOk result (λ _. verdict_of (entries_of version.now) (stored_command c.now)
+        budget ≡ Verdict.Accepted) }
     ensures derivation { IfOk result (λ _. IsNumbered (entries_of version.now)
         → HasDerivation (entries_of version.now) (stored_command c.now)) }
     ensures err { IfErr result (IsVerdictOrMemory
@@ -293,8 +293,8 @@ pub fn enter_command<R: Reducer>(
     ensures ok { IfOk result (λ e. stored_entry e
         ≡ entry_of (entries_of version.now) (plain_command c.now)
         (inferred_type (entries_of version.now) (plain_command c.now) budget)) }
-    ensures accepted { IfOk result (λ _. verdict_of (entries_of version.now) (plain_command c.now) budget
-        ≡ Verdict.Accepted) }
+    ensures accepted { IfOk result (λ _. verdict_of (entries_of version.now) (plain_command c.now)
+        budget ≡ Verdict.Accepted) }
     ensures err { IfErr result (IsVerdictOrMemory
         (verdict_of (entries_of version.now) (plain_command c.now) budget)) }
     ensures refused { IfErr result (λ v. ¬ (v ≡ Verdict.Accepted)) }
@@ -320,8 +320,8 @@ fn accepted_type<R: Reducer>(
     requires { R.serves (entries_of version.now) reducer.old }
     ensures ok { IfOk result (λ t. maybe_by stored_term t
         ≡ inferred_type (entries_of version.now) (plain_command c.now) budget) }
-    ensures accepted { IfOk result (λ _. verdict_of (entries_of version.now) (plain_command c.now) budget
-        ≡ Verdict.Accepted) }
+    ensures accepted { IfOk result (λ _. verdict_of (entries_of version.now) (plain_command c.now)
+        budget ≡ Verdict.Accepted) }
     ensures err { IfErr result (IsVerdictOrMemory
         (verdict_of (entries_of version.now) (plain_command c.now) budget)) }
     ensures refused { IfErr result (λ v. ¬ (v ≡ Verdict.Accepted)) }
