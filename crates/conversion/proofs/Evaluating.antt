@@ -2,7 +2,7 @@
 use Rattle.std.proofs.Common.{List, [], ◌∷◌, ◌++◌, ◌≡◌, ◌-◌, ◌<◌, ℕ, Some, None, Ok, Err, refl, ◌∙◌, sym as flip, subst, arith, length}
 use Rattle.dk_model.specs.Trees.{Tree}
 use Rattle.dk_model.specs.Signatures.{PlainSignature}
-use Rattle.dk_model.specs.Units.{Units, bind}
+use Rattle.dk_model.specs.Units.{Units}
 use Rattle.dk_model.specs.Evaluation.{whnf_of}
 use Rattle.dk_model.specs.declared.stop.Stop.{Stop}
 use Rattle.dk_model.specs.declared.stop.Stop.TheVariants.{Ended, NoMemory}
@@ -16,11 +16,11 @@ use Rattle.conversion.specs.declared.turn.Turn.TheVariants.{Asks}
 use Rattle.conversion.specs.Machine.{behind, wound}
 use Rattle.conversion.specs.Given.{GivesTerm}
 use Rattle.conversion.specs.Reducers.{IsValue}
-use Rattle.conversion.specs.Pausing.{continued, awaited, ArePauses, Await}
-use Rattle.conversion.specs.Turning.{TurnsTo, rewritten_by}
+use Rattle.conversion.specs.Pausing.{rewritten_by, awaited, ArePauses, Await}
+use Rattle.conversion.specs.Turning.{TurnsTo}
 use Rattle.conversion.proofs.Winding.{extends_none}
 use Rattle.conversion.proofs.Serving.{value_made}
-use Rattle.conversion.proofs.Pausing.{await_grown, await_due, await_pushed, awaited_due, await_popped, await_none, pause_closed}
+use Rattle.conversion.proofs.Pausing.{await_grown, await_due, await_pushed, awaited_due, await_none, await_told}
 
 module _ (S : PlainSignature) where
   pub evaluation_ends : (old new last : List Node) (whole due : Units Tree) (ps : List Pause) (ids : List TermId) (stop : Stop) (left : ℕ)
@@ -36,7 +36,7 @@ module _ (S : PlainSignature) where
   asks_on old new whole due ps p ids left x h w t =
       await_due S new whole (awaited S new p) (whnf_of S left (wound (term new p.asked) (behind new ids))) (ps ++ (p ∷ []))
       (flip (λ i. whnf_of S (flip t.1 i) (wound (term new p.asked) (behind new (t.2 i)))))
-      (await_pushed S new whole ps p (await_on old new whole due (bind (awaited S new p) (continued S new p)) ps x h w t.0))
+      (await_pushed S new whole due ps p (await_grown S old new whole due ps x h w) t.0)
 
   module _ (ns : List Node) (whole due : Units Tree) (rest ps : List Pause) (p : Pause) (v : Tree) (n : ℕ) (is : ps ≡ rest ++ (p ∷ [])) (w : Await S ns whole ps due) (e : due ≡ Some (v, n)) where
     there : Await S ns whole (rest ++ (p ∷ [])) due
@@ -50,10 +50,7 @@ module _ (S : PlainSignature) where
 
   pub closed_on : (ns : List Node) (whole due : Units Tree) (rest ps : List Pause) (p : Pause) (v : TermId) (n : ℕ) → ps ≡ rest ++ (p ∷ []) → Await S ns whole ps due → due ≡ Some (term ns v, n)
       → Await S ns whole rest (rewritten_by S ns (record { symbol = p.symbol; matcher = p.matcher; answer = Value v }) p.stack.items n)
-  closed_on ns whole due rest ps p v n is w e =
-      let l : Await S ns whole (rest ++ (p ∷ [])) due = subst (λ (l : List Pause). Await S ns whole l due) is w in
-      await_due S ns whole (bind (awaited S ns p) (continued S ns p)) (rewritten_by S ns (record { symbol = p.symbol; matcher = p.matcher; answer = Value v }) p.stack.items n) rest
-      (pause_closed S ns p v n (flip (awaited_due S ns whole due rest p l) ∙ e)) (await_popped S ns whole due rest p l)
+  closed_on ns whole due rest ps p v n is w e = await_told S ns whole due rest p v n (subst (λ (l : List Pause). Await S ns whole l due) is w) e
 
   pub awaited_value : (ns : List Node) (p : Pause) (id : TermId) (n : ℕ) → p.asked.0 < length ns → id.0 < length ns → awaited S ns p ≡ Some (term ns id, n) → IsValue S ns p.asked.0 (record { id = id; units = p.start - n })
   awaited_value ns p id n l k e = value_made S ns ns p.asked (record { id = id; units = p.start - n }) p.start n (extends_none ns) l k e refl

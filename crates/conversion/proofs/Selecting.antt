@@ -1,5 +1,5 @@
 -- The turn of a symbol, by what its selection comes to.
-use Rattle.std.proofs.Common.{List, [], ◌∷◌, ◌≡◌, ◌-◌, ◌<◌, ◌≤◌, ℕ, zero, suc, Option, Some, None, Result, refl, ap, ◌∙◌, sym as flip, subst, arith, length, take, drop}
+use Rattle.std.proofs.Common.{List, [], ◌∷◌, ◌≡◌, ◌-◌, ◌<◌, ◌≤◌, ℕ, zero, suc, Bool, Option, Some, None, Err, refl, ap, ◌∙◌, sym as flip, subst, arith, length, take, drop}
 use Rattle.std.specs.Prelude.{slice_get}
 use Rattle.std.proofs.lemmas.List.{length-map, take-map}
 use Rattle.dk_model.specs.Trees.{Tree, symbol}
@@ -11,26 +11,25 @@ use Rattle.dk_model.specs.Captures.{filled, Captures}
 use Rattle.dk_model.specs.Evaluation.{whnf_of}
 use Rattle.dk_model.specs.Equations.{after_selection}
 use Rattle.dk_model.specs.declared.stop.Stop.{Stop}
+use Rattle.dk_model.specs.declared.stop.Stop.TheVariants.{Ended, NoMemory}
 use Rattle.shared_term.specs.declared.id.TermId.{TermId}
 use Rattle.shared_term.specs.Pools.{Node, term, Extends}
 use Rattle.shared_term.specs.Changes.{captured_terms}
 use Rattle.rule_match.specs.declared.matcher.Answer.{Answer}
 use Rattle.rule_match.specs.declared.matcher.Answer.TheVariants.{Value as Told}
-use Rattle.rule_match.specs.declared.matcher.Ask.TheVariants.{Evaluate}
 use Rattle.rule_match.specs.declared.matcher.Matcher.{Matcher}
 use Rattle.rule_match.specs.Rows.{rule_at}
-use Rattle.rule_match.specs.Matching.{Awaits, AsksFor, answered, told_value, term_in}
+use Rattle.rule_match.specs.Selecting.{left_with, GoesOnWith as MatcherGoesOn}
 use Rattle.rule_match.proofs.Opening.{arguments_wound}
-use Rattle.rule_match.proofs.Larger.{value_asked, value_answered}
-use Rattle.conversion.specs.declared.evaluate.Pause.{Pause}
 use Rattle.conversion.specs.declared.selection.Selection.{Selection}
-use Rattle.conversion.specs.declared.turn.Turn.{Turn}
 use Rattle.conversion.specs.declared.state.Value.{Value}
+use Rattle.conversion.specs.Given.{GivesTerm, GivesBool}
 use Rattle.conversion.specs.Machine.{behind, AreWithin, wound, from_top}
-use Rattle.conversion.specs.Pausing.{selected, awaited, continued}
+use Rattle.conversion.specs.Pausing.{selected, rewritten_by, GoesOnWith}
 use Rattle.conversion.specs.Reducers.{right_at, IsLoaded, IsValue}
-use Rattle.conversion.specs.Turning.{TurnsTo, rewritten_by, waiting_due}
+use Rattle.conversion.specs.Turning.{TurnsTo}
 use Rattle.shared_term.proofs.Winding.{behind_grown}
+use Rattle.conversion.proofs.Winding.{extends_none, extends_more}
 use Rattle.conversion.proofs.Opening.{put_before}
 
 -- what is left of a selection, and what it makes of the weak head form
@@ -55,49 +54,44 @@ module _ (S : PlainSignature) (s : Selection) (n : ℕ) (old new : List Node) (i
       ∙ ap (whnf_of S n) (ap (λ (l : List Tree). applied (filled cs 0 r.right) (drop (length r.pats) l))
       (arguments_wound (symbol s.symbol) (behind old ids) refl ∙ ap from_top (flip (behind_grown old new ids x w))) ∙ flip q)
 
-  -- it asks for the value of a column
-  pub selection_waits : (m : Matcher) (i : ℕ) → Awaits m.stage (Evaluate i) → AsksFor S (rules_of S s.symbol) new m m.stage (Evaluate i) (selected S old s) → waiting_due S new s.symbol m i ids n ≡ rewritten_by S old s ids n
-  selection_waits m i a e =
-      let grown = behind_grown old new ids x w in
-      let told = told_value S (rules_of S s.symbol) new m m.stage in
-      later (whnf_of S n (term_in new m i)) ∙ (λ j. bind (bind (whnf_of S n (term_in new m i)) told) (after_selection S (wound (symbol s.symbol) (grown j))))
-      ∙ ap (λ z. bind z (after_selection S redex)) (flip (value_asked S (rules_of S s.symbol) new m m.stage i (selected S old s) a e n))
-    where
-      later : (z : Units Tree) → bind z (λ v k. bind (told_value S (rules_of S s.symbol) new m m.stage v k) (after_selection S (wound (symbol s.symbol) (behind new ids))))
-          ≡ bind (bind z (told_value S (rules_of S s.symbol) new m m.stage)) (after_selection S (wound (symbol s.symbol) (behind new ids)))
-      later None = refl
-      later (Some y) = refl
-
-  -- it was answered, in a larger pool
-  pub selection_goes : (last : List Node) (m : Matcher) (a : Answer) (k : ℕ) → Extends new last → selected S old s n ≡ answered S (rules_of S s.symbol) last m m.stage a k
+  -- it goes on with an answer
+  pub selection_goes : (last : List Node) (m : Matcher) (a : Answer) (k : ℕ) → Extends new last → selected S old s n ≡ left_with S (rules_of S s.symbol) last m a k
       → rewritten_by S old s ids n ≡ rewritten_by S last (record { symbol = s.symbol; matcher = m; answer = a }) ids k
   selection_goes last m a k y e =
-      let grown : behind last ids ≡ behind old ids = behind_grown old last ids (record { longer = omega (arith, x.longer, y.longer); keeps = λ i l. y.keeps i (omega (arith, x.longer)) ∙ x.keeps i l }) w in
+      let grown : behind last ids ≡ behind old ids = behind_grown old last ids (extends_more old new last x y) w in
       ap (λ z. bind z (after_selection S redex)) e
-      ∙ flip (λ i. bind (answered S (rules_of S s.symbol) last m m.stage a k) (after_selection S (wound (symbol s.symbol) (grown i))))
+      ∙ flip (λ i. bind (left_with S (rules_of S s.symbol) last m a k) (after_selection S (wound (symbol s.symbol) (grown i))))
 
-pub turns_same : (S : PlainSignature) (due due' : Units Tree) (ns : List Node) (ids : List TermId) (left : ℕ) (result : Result Turn Stop) → due ≡ due' → TurnsTo S due ns result ids left → TurnsTo S due' ns result ids left
-turns_same S due due' ns ids left result e h = subst (λ (d : Units Tree). TurnsTo S d ns result ids left) e h
+  -- it goes on with the weak head form of a term
+  pub selection_waits : (m : Matcher) (t : TermId) → MatcherGoesOn S (rules_of S s.symbol) new m (λ v. Told v) (λ j. whnf_of S j (term new t)) (selected S old s) → GoesOnWith S new s.symbol m t ids n (rewritten_by S old s ids n)
+  selection_waits m t c = record {
+    ends = λ e. selection_ends (c.ends n e);
+    goes = λ last v j y e. selection_goes last m (Told v) j y (c.goes n j last v y e);
+  }
+
+-- what it asks for ends, and it with that
+
+pub normal_stops : (S : PlainSignature) (asked due : Units Tree) (last : List Node) (stop : Stop) (ids : List TermId) (left : ℕ) → (asked ≡ None → due ≡ None) → GivesTerm asked last (Err stop) left
+    → TurnsTo S due last (Err stop) ids left
+normal_stops S asked due last Ended ids left h g = (h g.0, g.1)
+normal_stops S asked due last NoMemory ids left h g = tt
+
+pub alike_stops : (S : PlainSignature) (asked : Units Bool) (due : Units Tree) (last : List Node) (stop : Stop) (ids : List TermId) (left : ℕ) → (asked ≡ None → due ≡ None) → GivesBool asked (Err stop) left
+    → TurnsTo S due last (Err stop) ids left
+alike_stops S asked due last Ended ids left h g = (h g.0, g.1)
+alike_stops S asked due last NoMemory ids left h g = tt
 
 -- a value that is remembered
 
-module _ (S : PlainSignature) (ns : List Node) (k : ℕ) (m : Matcher) (i : ℕ) (t : TermId) (ids : List TermId) (n : ℕ) (v : Value) (h : IsValue S ns t.0 v) where
-  abbrev goes_on : Tree → ℕ → Units Tree
-  goes_on u j = bind (told_value S (rules_of S k) ns m m.stage u j) (after_selection S (wound (symbol k) (behind ns ids)))
+module _ (S : PlainSignature) (ns : List Node) (k : ℕ) (m : Matcher) (t : TermId) (ids : List TermId) (n : ℕ) (due : Units Tree) (g : GoesOnWith S ns k m t ids n due) where
+  pub ask_ends : (v : Value) → IsValue S ns t.0 v → n < v.units → due ≡ None
+  ask_ends v h l = g.ends (h.takes.ends n l)
 
-  pub ask_ends : term ns t ≡ term_in ns m i → n < v.units → waiting_due S ns k m i ids n ≡ None
-  ask_ends e l = ap (λ (u : Tree). bind (whnf_of S n u) goes_on) (flip e) ∙ ap (λ z. bind z goes_on) (h.takes.ends n l)
+  pub ask_goes : (v : Value) → IsValue S ns t.0 v → v.units ≤ n → due ≡ rewritten_by S ns (record { symbol = k; matcher = m; answer = Told v.id }) ids (n - v.units)
+  ask_goes v h l = g.goes ns v.id (n - v.units) (extends_none ns) (h.takes.suffices n l)
 
-  pub ask_goes : term ns t ≡ term_in ns m i → v.units ≤ n → waiting_due S ns k m i ids n ≡ rewritten_by S ns (record { symbol = k; matcher = m; answer = Told v.id }) ids (n - v.units)
-  ask_goes e l =
-      ap (λ (u : Tree). bind (whnf_of S n u) goes_on) (flip e) ∙ ap (λ z. bind z goes_on) (h.takes.suffices n l)
-      ∙ ap (λ z. bind z (after_selection S (wound (symbol k) (behind ns ids)))) (value_answered S (rules_of S k) ns m m.stage v.id (n - v.units))
-
-pub ask_waits : (S : PlainSignature) (ns : List Node) (k : ℕ) (m : Matcher) (i : ℕ) (t : TermId) (ids : List TermId) (n : ℕ) (p : Pause)
-    → p.symbol ≡ k → p.matcher ≡ m → p.stack.items ≡ ids → p.asked ≡ t → p.start ≡ n → term ns t ≡ term_in ns m i → waiting_due S ns k m i ids n ≡ bind (awaited S ns p) (continued S ns p)
-ask_waits S ns k m i t ids n p a b c d e q =
-    ap (λ (u : Tree). bind (whnf_of S n u) (λ v j. bind (told_value S (rules_of S k) ns m m.stage v j) (after_selection S (wound (symbol k) (behind ns ids))))) (flip q)
-    ∙ flip (λ j. bind (whnf_of S (e j) (term ns (d j))) (λ u l. bind (told_value S (rules_of S (a j)) ns (b j) (b j).stage u l) (after_selection S (wound (symbol (a j)) (behind ns (c j))))))
+  pub ask_waits : (kept : List TermId) → kept ≡ ids → GoesOnWith S ns k m t kept n due
+  ask_waits kept e = subst (λ (l : List TermId). GoesOnWith S ns k m t l n due) (flip e) g
 
 module _ (S : PlainSignature) (ns : List Node) (t : TermId) (v : Value) (h : IsValue S ns t.0 v) where
   -- it takes a unit

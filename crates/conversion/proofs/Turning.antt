@@ -16,17 +16,12 @@ use Rattle.dk_model.proofs.Turns.{whnf_contracts, whnf_stands, whnf_selects}
 use Rattle.shared_term.specs.declared.id.TermId.{TermId}
 use Rattle.shared_term.specs.Pools.{Node, term, Extends}
 use Rattle.rule_match.specs.declared.matcher.Answer.{Answer}
-use Rattle.rule_match.specs.declared.matcher.Answer.TheVariants.{Begin}
-use Rattle.rule_match.specs.declared.matcher.Stage.{Stage}
-use Rattle.rule_match.specs.Columns.{plain, column}
-use Rattle.rule_match.specs.Remaining.{rows_left}
-use Rattle.rule_match.specs.Matching.{IsMatcher, IsAnswer, Stands, answered}
-use Rattle.rule_match.proofs.Opening.{arguments_wound, length_from_top, map_from_top, plain_arguments}
+use Rattle.rule_match.specs.Selecting.{IsMatcher, Fits, Stands, left_with}
 use Rattle.conversion.specs.declared.selection.Selection.{Selection}
 use Rattle.conversion.specs.declared.turn.Turn.{Turn}
 use Rattle.conversion.specs.Machine.{behind, AreWithin, wound, from_top, unbound, is_application, is_stuck}
-use Rattle.conversion.specs.Pausing.{IsSelection, StartsOver, selected}
-use Rattle.conversion.specs.Turning.{TurnsTo, rule_due, rewritten_by}
+use Rattle.conversion.specs.Pausing.{IsSelection, StartsOver, selected, rewritten_by}
+use Rattle.conversion.specs.Turning.{TurnsTo, rule_due}
 use Rattle.dk_model.proofs.Winding.{wound_pushed as wound_tree}
 use Rattle.shared_term.proofs.Winding.{behind_pushed, behind_grown}
 use Rattle.conversion.specs.Reducers.{unfolding_rule}
@@ -141,27 +136,11 @@ module _ (S : PlainSignature) where
 -- the selection of a symbol at its start
 
 module _ (S : PlainSignature) (ns : List Node) (ids : List TermId) (k : ℕ) (rules : List PlainRule) (s : Selection) (is : rules ≡ rules_of S k) (b : StartsOver rules k ids s) where
-  counted : length ids ≡ length (arguments (wound (symbol k) (behind ns ids)))
-  counted = flip (ap length (arguments_wound (symbol k) (behind ns ids) refl) ∙ length_from_top (behind ns ids) ∙ length-map ids (term ns))
-
-  columns_are : plain ns s.matcher.columns.items ≡ columns S k (wound (symbol k) (behind ns ids))
-  columns_are =
-      ap (map (column ns)) b.starts.columns
-      ∙ plain_arguments ns 0 (take (width (length ids) rules) (from_top ids))
-      ∙ ap (map unbound) (flip (take-map (term ns) (width (length ids) rules) (from_top ids)))
-      ∙ ap (λ (l : List Tree). map unbound (take (width (length ids) rules) l)) (map_from_top (term ns) ids ∙ flip (arguments_wound (symbol k) (behind ns ids) refl))
-      ∙ (λ i. map unbound (take (width (counted i) (is i)) (arguments (wound (symbol k) (behind ns ids)))))
-
-  rows_are : drop s.matcher.tried (rows_left rules s.matcher.left) ≡ rows S k (wound (symbol k) (behind ns ids))
-  rows_are = ap (λ (j : ℕ). drop j (rows_left rules s.matcher.left)) b.starts.tried ∙ b.starts.rows ∙ (λ i. rows_for (counted i) (width (counted i) (is i)) (is i))
-
   named : rules ≡ rules_of S s.symbol
   named = is ∙ ap (rules_of S) (flip b.named)
 
   begins : (n : ℕ) → selected S ns s n ≡ selection_of S n (columns S k (wound (symbol k) (behind ns ids))) (rows S k (wound (symbol k) (behind ns ids)))
-  begins n =
-      (λ i. answered S (flip named i) ns s.matcher (b.starts.stage i) (b.answer i) n)
-      ∙ (λ i. selection_of S n (columns_are i) (rows_are i))
+  begins n = (λ i. left_with S (flip named i) ns s.matcher (b.answer i) n) ∙ b.starts.begins S k ns is n
 
   pub symbol_selects_from : (n : ℕ) → rule_due S k (behind ns ids) n ≡ rewritten_by S ns s ids n
   symbol_selects_from n = flip (λ i. bind (begins n i) (after_selection S (wound (symbol (b.named i)) (behind ns ids))))
@@ -169,6 +148,6 @@ module _ (S : PlainSignature) (ns : List Node) (ids : List TermId) (k : ℕ) (ru
   pub selection_within : AreWithin (length ns) ids → ((n : ℕ) → AreWithin n ids → IsMatcher n s.matcher) → IsSelection S (length ns) s
   selection_within w h = record {
     matcher = h (length ns) w;
-    answer = subst (λ (a : Answer). IsAnswer (length ns) s.matcher.stage a) (flip b.answer) (subst (λ (t : Stage). IsAnswer (length ns) t Begin) (flip b.starts.stage) tt);
+    answer = subst (λ (a : Answer). Fits (length ns) s.matcher a) (flip b.answer) (b.starts.fits (length ns));
     stands = subst (λ (l : List PlainRule). Stands l s.matcher) named b.starts.stands;
   }

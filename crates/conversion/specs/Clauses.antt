@@ -19,7 +19,8 @@ use Rattle.conversion.specs.declared.turn.Turn.{Turn}
 use Rattle.conversion.specs.declared.selection.Selection.{Selection}
 use Rattle.conversion.specs.Machine.{behind, wound, from_top}
 use Rattle.conversion.specs.Given.{GivesTerm, GivesBool}
-use Rattle.conversion.specs.Turning.{next_due, rule_due, rewritten_by, TurnsTo}
+use Rattle.conversion.specs.Pausing.{rewritten_by}
+use Rattle.conversion.specs.Turning.{next_due, rule_due, TurnsTo}
 
 abbrev pub Entries : Type 0
 Entries = List (Entry Stored)

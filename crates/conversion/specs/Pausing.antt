@@ -1,5 +1,5 @@
 -- For proofs: selections over terms of a pool, and those that wait for the value of a column.
-use Rattle.std.specs.Prelude.{ℕ, ◌≡◌, ◌<◌, Option, List, [], ◌∷◌}
+use Rattle.std.specs.Prelude.{ℕ, ◌≡◌, ◌<◌, Option, Some, None, List, [], ◌∷◌}
 use Rattle.dk_model.specs.Trees.{Tree, symbol}
 use Rattle.dk_model.specs.Signatures.{PlainRule, PlainSignature}
 use Rattle.dk_model.specs.SymbolRules.{rules_of}
@@ -8,9 +8,10 @@ use Rattle.dk_model.specs.Selection.{Selected}
 use Rattle.dk_model.specs.Evaluation.{whnf_of}
 use Rattle.dk_model.specs.Equations.{after_selection}
 use Rattle.shared_term.specs.declared.id.TermId.{TermId}
-use Rattle.shared_term.specs.Pools.{Node, term}
-use Rattle.rule_match.specs.declared.matcher.Answer.TheVariants.{Begin}
-use Rattle.rule_match.specs.Matching.{IsMatcher, IsAnswer, AwaitsValue, Stands, IsStart, answered, told_value}
+use Rattle.shared_term.specs.Pools.{Node, term, Extends}
+use Rattle.rule_match.specs.declared.matcher.Answer.TheVariants.{Begin, Value}
+use Rattle.rule_match.specs.declared.matcher.Matcher.{Matcher}
+use Rattle.rule_match.specs.Selecting.{IsMatcher, Fits, TakesValue, Stands, IsStart, left_with}
 use Rattle.conversion.specs.declared.evaluate.Pause.{Pause}
 use Rattle.conversion.specs.declared.selection.Selection.{Selection}
 use Rattle.conversion.specs.Machine.{AreWithin, behind, wound}
@@ -18,7 +19,7 @@ use Rattle.conversion.specs.Machine.{AreWithin, behind, wound}
 -- a selection from the rules of its symbol, over terms of a pool of so many nodes, with an answer of the kind it asked for
 pub record IsSelection (S : PlainSignature) (n : ℕ) (s : Selection) : Type 0 where
   pub matcher : IsMatcher n s.matcher
-  pub answer : IsAnswer n s.matcher.stage s.answer
+  pub answer : Fits n s.matcher s.answer
   pub stands : Stands (rules_of S s.symbol) s.matcher
 
 -- a selection from these rules before the arguments of a stack, at its start
@@ -29,15 +30,22 @@ pub record StartsOver (rules : List PlainRule) (k : ℕ) (ids : List TermId) (s 
 
 -- what is left of it
 abbrev pub selected : PlainSignature → List Node → Selection → ℕ → Units (Option Selected)
-selected S ns s n = answered S (rules_of S s.symbol) ns s.matcher s.matcher.stage s.answer n
+selected S ns s n = left_with S (rules_of S s.symbol) ns s.matcher s.answer n
 
--- what is left of a selection that waits, once the value `v` is there
-abbrev pub reselected : PlainSignature → List Node → Pause → Tree → ℕ → Units (Option Selected)
-reselected S ns p v n = told_value S (rules_of S p.symbol) ns p.matcher p.matcher.stage v n
+-- the weak head form of the symbol of a selection before arguments, whose turn took its unit already
+abbrev pub rewritten_by : PlainSignature → List Node → Selection → List TermId → ℕ → Units Tree
+rewritten_by S ns s ids n = bind (selected S ns s n) (after_selection S (wound (symbol s.symbol) (behind ns ids)))
 
--- the weak head form of the term whose selection waited, once the value `v` is there
-abbrev pub continued : PlainSignature → List Node → Pause → Tree → ℕ → Units Tree
-continued S ns p v n = bind (reselected S ns p v n) (after_selection S (wound (symbol p.symbol) (behind ns p.stack.items)))
+-- the weak head form `due` of a symbol before arguments, whose selection goes on with that of a term, from so many units on,
+-- wherever a larger pool has it; where there is none, it ends
+pub record GoesOnWith (S : PlainSignature) (ns : List Node) (k : ℕ) (m : Matcher) (t : TermId) (ids : List TermId) (n : ℕ) (due : Units Tree) : Type 0 where
+  pub ends : whnf_of S n (term ns t) ≡ None → due ≡ None
+  pub goes : (new : List Node) (v : TermId) (j : ℕ) → Extends ns new → whnf_of S n (term ns t) ≡ Some (term new v, j)
+      → due ≡ rewritten_by S new (record { symbol = k; matcher = m; answer = Value v }) ids j
+
+-- so is that of a selection that waits
+abbrev pub Continues : PlainSignature → List Node → Pause → Units Tree → Type 0
+Continues S ns p due = GoesOnWith S ns p.symbol p.matcher p.asked p.stack.items p.start due
 
 -- what it waits for: the weak head form of a term, from the units that there were
 abbrev pub awaited : PlainSignature → List Node → Pause → Units Tree
@@ -46,7 +54,7 @@ awaited S ns p = whnf_of S p.start (term ns p.asked)
 -- the terms of a selection that waits for a value are terms of a pool of so many nodes
 pub record IsPause (S : PlainSignature) (n : ℕ) (p : Pause) : Type 0 where
   pub matcher : IsMatcher n p.matcher
-  pub awaits : AwaitsValue p.matcher.stage
+  pub awaits : TakesValue p.matcher
   pub stands : Stands (rules_of S p.symbol) p.matcher
   pub stack : AreWithin n p.stack.items
   pub asked : p.asked.0 < n
@@ -58,4 +66,4 @@ ArePauses S n (p ∷ ps) = IsPause S n p × ArePauses S n ps
 -- each of these selections waits for what the next one gives, the last one for `due`, and the first one gives `whole`
 abbrev pub Await : PlainSignature → List Node → Units Tree → List Pause → Units Tree → Type 0
 Await S ns whole [] due = due ≡ whole
-Await S ns whole (p ∷ ps) due = (bind (awaited S ns p) (continued S ns p) ≡ whole) × Await S ns (awaited S ns p) ps due
+Await S ns whole (p ∷ ps) due = Continues S ns p whole × Await S ns (awaited S ns p) ps due

@@ -13,20 +13,15 @@ use Rattle.dk_model.specs.declared.stop.Stop.TheVariants.{Ended, NoMemory}
 use Rattle.shared_term.specs.declared.id.TermId.{TermId}
 use Rattle.shared_term.specs.Pools.{Node, term}
 use Rattle.rule_match.specs.declared.matcher.Matcher.{Matcher}
-use Rattle.rule_match.specs.Matching.{term_in, told_value}
 use Rattle.conversion.specs.declared.selection.Selection.{Selection}
 use Rattle.conversion.specs.declared.evaluate.Next.{Next}
 use Rattle.conversion.specs.declared.evaluate.Next.TheVariants.{Whole, Goes as GoesOn}
 use Rattle.conversion.specs.declared.turn.Turn.{Turn}
 use Rattle.conversion.specs.declared.turn.Turn.TheVariants.{Goes, Stands, Selects, Asks}
 use Rattle.conversion.specs.Machine.{behind, wound}
-use Rattle.conversion.specs.Pausing.{selected, awaited, continued, IsSelection, IsPause}
+use Rattle.conversion.specs.Pausing.{rewritten_by, GoesOnWith, Continues, IsSelection, IsPause}
 
--- the weak head form of the symbol of a selection before arguments, whose turn took its unit already
-abbrev pub rewritten_by : PlainSignature → List Node → Selection → List TermId → ℕ → Units Tree
-rewritten_by S ns s ids n = bind (selected S ns s n) (after_selection S (wound (symbol s.symbol) (behind ns ids)))
-
--- the same where the selection begins
+-- the weak head form of a symbol before arguments, whose turn took its unit already and whose selection begins
 abbrev pub rule_due : PlainSignature → ℕ → List Tree → ℕ → Units Tree
 rule_due S k xs n = bind (selection_of S n (columns S k (wound (symbol k) xs)) (rows S k (wound (symbol k) xs))) (after_selection S (wound (symbol k) xs))
 
@@ -50,7 +45,7 @@ abbrev pub TurnsTo : PlainSignature → Units Tree → List Node → Result Turn
 TurnsTo S due ns (Ok (Goes t)) ids left = (due ≡ whnf_of S left (wound (term ns t) (behind ns ids))) × (t.0 < length ns)
 TurnsTo S due ns (Ok (Stands h)) ids left = (due ≡ Some (wound (term ns h) (behind ns ids), left)) × (h.0 < length ns)
 TurnsTo S due ns (Ok (Selects s)) ids left = (due ≡ rewritten_by S ns s ids left) × IsSelection S (length ns) s
-TurnsTo S due ns (Ok (Asks p)) ids left = (due ≡ bind (awaited S ns p) (continued S ns p)) × (p.start ≡ left) × (ids ≡ []) × IsPause S (length ns) p
+TurnsTo S due ns (Ok (Asks p)) ids left = Continues S ns p due × (p.start ≡ left) × (ids ≡ []) × IsPause S (length ns) p
 TurnsTo S due ns (Err Ended) ids left = (due ≡ None) × (left ≡ 0)
 TurnsTo S due ns (Err NoMemory) ids left = Unit {0}
 
@@ -61,10 +56,6 @@ turn_rank (Stands h) = 0
 turn_rank (Selects s) = 1
 turn_rank (Asks p) = 0
 
--- the weak head form of a symbol before arguments, where its selection asks for the value of a column
-abbrev pub waiting_due : PlainSignature → List Node → ℕ → Matcher → ℕ → List TermId → ℕ → Units Tree
-waiting_due S ns k m i ids n = bind (whnf_of S n (term_in ns m i)) (λ v j. bind (told_value S (rules_of S k) ns m m.stage v j) (after_selection S (wound (symbol k) (behind ns ids))))
-
--- how that is got
-abbrev pub Waits : PlainSignature → List Node → ℕ → Matcher → ℕ → Vec TermId Global → ℕ → Result Turn Stop → Vec TermId Global → ℕ → Type 0
-Waits S ns k m i ids n result ids' left = TurnsTo S (waiting_due S ns k m i ids.items n) ns result ids'.items left
+-- how the weak head form of a symbol before arguments is got, where its selection asks for that of a term
+abbrev pub Waits : PlainSignature → List Node → ℕ → Matcher → TermId → Vec TermId Global → ℕ → Result Turn Stop → Vec TermId Global → ℕ → Type 0
+Waits S ns k m t ids n result ids' left = (due : Units Tree) → GoesOnWith S ns k m t ids.items n due → TurnsTo S due ns result ids'.items left

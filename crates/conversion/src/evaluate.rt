@@ -19,14 +19,14 @@ use rule_match::{Answer, Matcher};
 use shared_term::{TermId, unwind};
 use signature_log::Version;
 
-/// A selection that waits for the value of a column.
+/// A selection that waits for a value.
 #[derive(Drop)]
 pub(crate) struct Pause<'v> {
     pub(crate) symbol: u32,
     pub(crate) matcher: Matcher<'v>,
     /// The arguments of its symbol, the first one on top.
     pub(crate) stack: Vec<TermId>,
-    /// The column's term.
+    /// The term whose value it is.
     pub(crate) asked: TermId,
     /// The units that there were when it was asked for.
     pub(crate) start: u64,

@@ -7,9 +7,8 @@ ghost use Rattle.shared_term.specs.Changes.{AreCaptures};
 ghost use Rattle.signature_log.specs.Rows.{row_rules};
 ghost use Rattle.signature_log.specs.Versions.{entries_of};
 ghost use Rattle.rule_match.specs.Rows.{rule_at};
-ghost use Rattle.rule_match.specs.Matching.{IsMatcher, Stands, Awaits};
+ghost use Rattle.rule_match.specs.Selecting.{IsMatcher, Stands, TakesValue};
 ghost use Rattle.rule_match.specs.Trees.{IsTree};
-ghost use Rattle.rule_match.specs.declared.matcher.Ask.TheVariants.{Evaluate};
 ghost use Rattle.conversion.specs.Machine.{AreWithin, is_application};
 ghost use Rattle.conversion.specs.Pausing.{IsSelection, StartsOver};
 ghost use Rattle.conversion.specs.Reducers.{Serves};
@@ -40,7 +39,7 @@ pub(crate) enum Turn<'v> {
     Stands(TermId),
     /// The rules of the head symbol are selected from: the selection begins, or goes on.
     Selects(Selection<'v>),
-    /// A selection that waits for the value of a column. It took the arguments with it.
+    /// A selection that waits for a value. It took the arguments with it.
     Asks(Pause<'v>),
 }
 
@@ -200,7 +199,10 @@ impl PoolReducer {
                 let head = self.pool.intern(NodeOf::Sym(symbol))?;
                 Ok(Turn::Stands(head))
             }
-            Ask::Evaluate(column) => self.ask(version, symbol, matcher, column, stack, left),
+            Ask::Evaluate(column) => {
+                let asked = matcher.at(column);
+                self.ask(version, symbol, matcher, asked, stack, left)
+            }
             Ask::Escape(part) => {
                 let normal = self.normalise_inside(version, trees, part, left)?;
                 Ok(Turn::Selects(Selection {
@@ -305,28 +307,28 @@ impl PoolReducer {
         Ok(next)
     }
 
-    /// The selection once the column that it asks for has its value, where that is remembered; else it waits.
+    /// The selection once the term that it asks for has its value, where that is remembered; else it waits.
     fn ask<'v>(
         &self,
         version: &Version,
         symbol: u32,
         matcher: Matcher<'v>,
-        column: usize,
+        asked: TermId,
         stack: &mut Vec<TermId>,
         left: &mut u64,
     ) -> Result<Turn<'v>, Stop>
         requires matcher { IsMatcher (length self.now.pool) matcher }
         requires stands { Stands (rules_of (entries_of version.now) symbol) matcher }
-        requires awaits { Awaits matcher.stage (Evaluate column) }
+        requires awaits { TakesValue matcher }
+        requires asked { asked.0 < length self.now.pool }
         requires stack { AreWithin (length self.now.pool) stack.old.items }
         requires serves { Serves (entries_of version.now) self.now }
-        ensures gives { Waits (entries_of version.now) self.now.pool symbol matcher.entry column
+        ensures gives { Waits (entries_of version.now) self.now.pool symbol matcher.entry asked
             stack.old left.old result stack.new left.new }
         ensures stack { OnOk result (AreWithin (length self.now.pool) stack.new.items) }
         ensures spent { left.new ≤ left.old }
         ensures turned { IfOk result (λ turn. left.new + turn_rank turn ≤ left.old) }
     {
-        let asked = matcher.at(column);
         match self.known(version, asked) {
             Some(found) => {
                 if *left < found.units {

@@ -1,5 +1,6 @@
 -- A matcher in a larger pool, and what it goes on with once an answer is there.
-use Rattle.std.proofs.Common.{List, Option, Some, None, Vec, Global, ◌≡◌, ◌+◌, ◌<◌, ℕ, Bool, true, false, refl, ap, ◌∙◌, sym as flip, subst, drop, length, if◌then◌else◌}
+use Rattle.std.proofs.Common.{List, [], ◌∷◌, Option, Some, None, Vec, Global, ◌≡◌, ◌+◌, ◌<◌, ℕ, zero, suc, map, Bool, true, false, refl, ap, ◌∙◌, sym as flip, subst, drop, length, if◌then◌else◌}
+use Rattle.std.specs.Prelude.{slice_get}
 use Rattle.dk_model.specs.Trees.{Tree}
 use Rattle.dk_model.specs.Signatures.{PlainRule, PlainSignature}
 use Rattle.dk_model.specs.Units.{Units, bind}
@@ -20,7 +21,9 @@ use Rattle.rule_match.specs.Columns.{plain}
 use Rattle.rule_match.specs.Remaining.{rows_left}
 use Rattle.rule_match.specs.Trying.{column_at}
 use Rattle.rule_match.specs.Standing.{with_value, after_cell, cell_normal, cell_compared, guard_compared, finished, decided}
-use Rattle.rule_match.specs.Matching.{IsMatcher, IsAnswer, Awaits, AwaitsValue, AsksFor, answered, told_value, term_in, after_compared, after_guard, after_normal}
+use Rattle.rule_match.specs.Matching.{IsMatcher, IsAnswer, Awaits, AsksFor, answered, term_in, after_value, after_compared, after_guard, after_normal}
+use Rattle.rule_match.specs.Selecting.{terms_in}
+use Rattle.rule_match.specs.declared.value.Column.{Column}
 use Rattle.rule_match.proofs.Telling.{alike_fits}
 use Rattle.rule_match.proofs.Growing.{columns_grown, columns_within, captures_grown, captures_within}
 
@@ -33,6 +36,16 @@ matcher_grown old new m x h = record {
   stage = h.stage;
 }
 
+-- the term in a column
+
+term_seen : (ns : List Node) (cols : List Column) (i : ℕ) (t : TermId) → slice_get (map (λ (c : Column). c.term) cols) i ≡ Some t → (column_at (plain ns cols) i).term ≡ term ns t
+term_seen ns [] i t e = cc
+term_seen ns (c ∷ cols) zero t e = let q : c.term ≡ t = cc in ap (term ns) q
+term_seen ns (c ∷ cols) (suc i) t e = term_seen ns cols i t e
+
+term_asked : (ns : List Node) (m : Matcher) (i j : ℕ) (t : TermId) → j ≡ i → slice_get (terms_in m) i ≡ Some t → term_in ns m j ≡ term ns t
+term_asked ns m i j t w q = ap (λ (k : ℕ). term_in ns m k) w ∙ term_seen ns m.columns.items i t q
+
 module _ (S : PlainSignature) (rules : List PlainRule) (old new : List Node) (m : Matcher) (x : Extends old new) (h : IsMatcher (length old) m) where
   cols : plain new m.columns.items ≡ plain old m.columns.items
   cols = columns_grown old new m.columns.items x h.columns
@@ -40,13 +53,9 @@ module _ (S : PlainSignature) (rules : List PlainRule) (old new : List Node) (m 
   caps : captured_terms new m.captures.items ≡ captured_terms old m.captures.items
   caps = captures_grown old new m.captures.items x h.captures
 
-  pub value_grown : (st : Stage) (v : Tree) (n : ℕ) → told_value S rules new m st v n ≡ told_value S rules old m st v n
-  value_grown Begins v n = refl
-  value_grown (Evaluates i) v n = λ j. with_value S (cols j) (drop m.tried (rows_left rules m.left)) i (column_at (cols j) i).depth v n
-  value_grown (Escapes i) v n = refl
-  value_grown (Compares i) v n = refl
-  value_grown (Guards i) v n = refl
-  value_grown Ends v n = refl
+  value_grown : (i : ℕ) (v : Tree) (n : ℕ) → with_value S (plain new m.columns.items) (drop m.tried (rows_left rules m.left)) i (column_at (plain new m.columns.items) i).depth v n
+      ≡ with_value S (plain old m.columns.items) (drop m.tried (rows_left rules m.left)) i (column_at (plain old m.columns.items) i).depth v n
+  value_grown i v n = λ j. with_value S (cols j) (drop m.tried (rows_left rules m.left)) i (column_at (cols j) i).depth v n
 
   compared_grown : (i : ℕ) (b : Bool) (n : ℕ)
       → bind (bind (cell_compared (column_at (plain new m.columns.items) i) (captured_terms new m.captures.items) b n) (after_cell (normal_of S) (comparison_of S) (row rules m.row).cells (plain new m.columns.items) i)) (finished S (row rules m.row) (drop (m.tried + 1) (rows_left rules m.left)))
@@ -61,6 +70,16 @@ module _ (S : PlainSignature) (rules : List PlainRule) (old new : List Node) (m 
       bind (guard_compared (comparison_of S) (row rules m.row).cells (cols j) (i + 1) (caps j) b n) (decided S (row rules m.row) (drop (m.tried + 1) (rows_left rules m.left)) (cols j) (caps j))
 
   -- an answer, and how a selection that asked for it goes on, in the larger pool
+
+  pub value_told : (st : Stage) (i : ℕ) (t v : TermId) (due : ℕ → Units (Option Selected)) (n k : ℕ) → Awaits st (Evaluate i) → slice_get (terms_in m) i ≡ Some t → AsksFor S rules old m st (Evaluate i) due
+      → whnf_of S n (term old t) ≡ Some (term new v, k) → due n ≡ answered S rules new m st (Value v) k
+  value_told Begins i t v due n k w q h e = absurd h
+  value_told (Evaluates j) i t v due n k w q h e =
+      h n ∙ ap (λ (y : Units Tree). bind y (after_value S rules old m j)) (ap (whnf_of S n) (term_asked old m i j t w q) ∙ e) ∙ flip (value_grown j (term new v) k)
+  value_told (Escapes j) i t v due n k w q h e = absurd h
+  value_told (Compares j) i t v due n k w q h e = absurd h
+  value_told (Guards j) i t v due n k w q h e = absurd h
+  value_told Ends i t v due n k w q h e = absurd h
 
   pub alike_told : (st : Stage) (a b : TermId) (due : ℕ → Units (Option Selected)) (n k : ℕ) (alike : Bool) (answer : Answer) → AsksFor S rules old m st (Same a b) due
       → comparison_of S n (term old a) (term old b) ≡ Some (alike, k) → answer ≡ (if alike then Yes else No) → due n ≡ answered S rules new m st answer k
@@ -79,14 +98,6 @@ module _ (S : PlainSignature) (rules : List PlainRule) (old new : List Node) (m 
       by false w e q = h n ∙ ap (λ (y : Units Bool). bind y (after_guard S rules old m i)) e ∙ flip (guard_grown i false k) ∙ ap (λ (z : Answer). answered S rules new m (Guards i) z k) (flip q)
   alike_told Ends a b due n k alike answer h e q = absurd h
 
-  pub alike_ends : (st : Stage) (a b : TermId) (due : ℕ → Units (Option Selected)) (n : ℕ) → AsksFor S rules old m st (Same a b) due → comparison_of S n (term old a) (term old b) ≡ None → due n ≡ None
-  alike_ends Begins a b due n h e = absurd h
-  alike_ends (Evaluates i) a b due n h e = absurd h
-  alike_ends (Escapes i) a b due n h e = absurd h
-  alike_ends (Compares i) a b due n h e = h n ∙ ap (λ (y : Units Bool). bind y (after_compared S rules old m i)) e
-  alike_ends (Guards i) a b due n h e = h n ∙ ap (λ (y : Units Bool). bind y (after_guard S rules old m i)) e
-  alike_ends Ends a b due n h e = absurd h
-
   pub normal_told : (st : Stage) (t u : TermId) (due : ℕ → Units (Option Selected)) (n k : ℕ) → AsksFor S rules old m st (Escape t) due
       → normal_of S n (term old t) ≡ Some (term new u, k) → due n ≡ answered S rules new m st (Normal u) k
   normal_told Begins t u due n k h e = absurd h
@@ -97,14 +108,6 @@ module _ (S : PlainSignature) (rules : List PlainRule) (old new : List Node) (m 
   normal_told (Compares i) t u due n k h e = absurd h
   normal_told (Guards i) t u due n k h e = absurd h
   normal_told Ends t u due n k h e = absurd h
-
-  pub normal_ends : (st : Stage) (t : TermId) (due : ℕ → Units (Option Selected)) (n : ℕ) → AsksFor S rules old m st (Escape t) due → normal_of S n (term old t) ≡ None → due n ≡ None
-  normal_ends Begins t due n h e = absurd h
-  normal_ends (Evaluates i) t due n h e = absurd h
-  normal_ends (Escapes i) t due n h e = h n ∙ ap (λ (y : Units Tree). bind y (after_normal S rules old m i)) e
-  normal_ends (Compares i) t due n h e = absurd h
-  normal_ends (Guards i) t due n h e = absurd h
-  normal_ends Ends t due n h e = absurd h
 
 module _ (S : PlainSignature) (rules : List PlainRule) (ns : List Node) (m : Matcher) where
   -- a rule is taken, or none
@@ -125,39 +128,32 @@ module _ (S : PlainSignature) (rules : List PlainRule) (ns : List Node) (m : Mat
   none_taken (Guards j) due h n = absurd h
   none_taken Ends due h n = h n
 
-  -- a value is asked for
-  pub value_asked : (st : Stage) (i : ℕ) (due : ℕ → Units (Option Selected)) → Awaits st (Evaluate i) → AsksFor S rules ns m st (Evaluate i) due
-      → (n : ℕ) → due n ≡ bind (whnf_of S n (term_in ns m i)) (told_value S rules ns m st)
-  value_asked Begins i due w h n = absurd h
-  value_asked (Evaluates j) i due w h n = h n ∙ ap (λ (k : ℕ). bind (whnf_of S n (term_in ns m k)) (told_value S rules ns m (Evaluates j))) w
-  value_asked (Escapes j) i due w h n = absurd h
-  value_asked (Compares j) i due w h n = absurd h
-  value_asked (Guards j) i due w h n = absurd h
-  value_asked Ends i due w h n = absurd h
+  -- what was asked for isn't there
 
-  pub value_answered : (st : Stage) (v : TermId) (n : ℕ) → told_value S rules ns m st (term ns v) n ≡ answered S rules ns m st (Value v) n
-  value_answered Begins v n = refl
-  value_answered (Evaluates i) v n = refl
-  value_answered (Escapes i) v n = refl
-  value_answered (Compares i) v n = refl
-  value_answered (Guards i) v n = refl
-  value_answered Ends v n = refl
+  pub value_ends : (st : Stage) (i : ℕ) (t : TermId) (due : ℕ → Units (Option Selected)) (n : ℕ) → Awaits st (Evaluate i) → slice_get (terms_in m) i ≡ Some t → AsksFor S rules ns m st (Evaluate i) due
+      → whnf_of S n (term ns t) ≡ None → due n ≡ None
+  value_ends Begins i t due n w q h e = absurd h
+  value_ends (Evaluates j) i t due n w q h e = h n ∙ ap (λ (y : Units Tree). bind y (after_value S rules ns m j)) (ap (whnf_of S n) (term_asked ns m i j t w q) ∙ e)
+  value_ends (Escapes j) i t due n w q h e = absurd h
+  value_ends (Compares j) i t due n w q h e = absurd h
+  value_ends (Guards j) i t due n w q h e = absurd h
+  value_ends Ends i t due n w q h e = absurd h
 
-pub awaits_value : (st : Stage) (i : ℕ) → Awaits st (Evaluate i) → AwaitsValue st
-awaits_value Begins i w = w
-awaits_value (Evaluates j) i w = tt
-awaits_value (Escapes j) i w = w
-awaits_value (Compares j) i w = w
-awaits_value (Guards j) i w = w
-awaits_value Ends i w = w
+  pub normal_ends : (st : Stage) (t : TermId) (due : ℕ → Units (Option Selected)) (n : ℕ) → AsksFor S rules ns m st (Escape t) due → normal_of S n (term ns t) ≡ None → due n ≡ None
+  normal_ends Begins t due n h e = absurd h
+  normal_ends (Evaluates i) t due n h e = absurd h
+  normal_ends (Escapes i) t due n h e = h n ∙ ap (λ (y : Units Tree). bind y (after_normal S rules ns m i)) e
+  normal_ends (Compares i) t due n h e = absurd h
+  normal_ends (Guards i) t due n h e = absurd h
+  normal_ends Ends t due n h e = absurd h
 
-pub value_is_answer : (n : ℕ) (st : Stage) (v : TermId) → AwaitsValue st → v.0 < n → IsAnswer n st (Value v)
-value_is_answer n Begins v w l = w
-value_is_answer n (Evaluates j) v w l = l
-value_is_answer n (Escapes j) v w l = w
-value_is_answer n (Compares j) v w l = w
-value_is_answer n (Guards j) v w l = w
-value_is_answer n Ends v w l = w
+  pub alike_ends : (st : Stage) (a b : TermId) (due : ℕ → Units (Option Selected)) (n : ℕ) → AsksFor S rules ns m st (Same a b) due → comparison_of S n (term ns a) (term ns b) ≡ None → due n ≡ None
+  alike_ends Begins a b due n h e = absurd h
+  alike_ends (Evaluates i) a b due n h e = absurd h
+  alike_ends (Escapes i) a b due n h e = absurd h
+  alike_ends (Compares i) a b due n h e = h n ∙ ap (λ (y : Units Bool). bind y (after_compared S rules ns m i)) e
+  alike_ends (Guards i) a b due n h e = h n ∙ ap (λ (y : Units Bool). bind y (after_guard S rules ns m i)) e
+  alike_ends Ends a b due n h e = absurd h
 
 pub alike_answers : (n : ℕ) (st : Stage) (a b : TermId) (alike : Bool) (answer : Answer) → Awaits st (Same a b) → answer ≡ (if alike then Yes else No) → IsAnswer n st answer
 alike_answers n st a b true answer w e = subst (λ (x : Answer). IsAnswer n st x) (flip e) (alike_fits n st a b w).0

@@ -16,3 +16,5 @@ mod Placing
 mod Asking
 pub mod Telling
 pub mod Larger
+mod Starting
+mod Seeing

@@ -237,6 +237,3 @@ pub term_there : (ns : List PoolNode) (cols : List HeldColumn) (i : ℕ) (c : He
 term_there ns [] i c e = cc
 term_there ns (d ∷ cols) zero c e = let q : d ≡ c = cc in ap (column ns) q
 term_there ns (d ∷ cols) (suc i) c e = term_there ns cols i c e
-
-pub term_in_column : (ns : List PoolNode) (cols : List HeldColumn) (i : ℕ) (c : HeldColumn) → slice_get cols i ≡ Some c → term ns c.term ≡ (column_at (plain ns cols) i).term
-term_in_column ns cols i c e = ap (λ (k : Column). k.term) (flip (term_there ns cols i c e))

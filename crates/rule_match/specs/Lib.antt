@@ -9,3 +9,4 @@ pub mod Standing
 pub mod Trying
 pub mod Remaining
 pub mod Matching
+pub mod Selecting

@@ -1,4 +1,4 @@
--- For callers: what a matcher stands for: what is left of a selection, and what it asks for next.
+-- For proofs: what a matcher stands for: what is left of a selection, and what it asks for next.
 use Rattle.std.specs.Prelude.{ℕ, ◌≡◌, ◌<◌, ◌+◌, ◌^◌, Option, Some, None, Bool, true, false, List, map, length, take, drop}
 use Rattle.dk_model.specs.Trees.{Tree}
 use Rattle.dk_model.specs.Signatures.{PlainRule, PlainSignature}
@@ -61,11 +61,6 @@ IsAnswer n (Compares i) No = Unit {0}
 IsAnswer n (Guards i) Yes = Unit {0}
 IsAnswer n (Guards i) No = Unit {0}
 IsAnswer n stage answer = ⊥
-
--- the value of a column was asked for
-abbrev pub AwaitsValue : Stage → Type 0
-AwaitsValue (Evaluates i) = Unit {0}
-AwaitsValue stage = ⊥
 
 -- what is asked for is of this kind
 abbrev pub Awaits : Stage → Ask → Type 0
@@ -145,11 +140,6 @@ module _ (S : PlainSignature) (rules : List PlainRule) (ns : List PoolNode) (m :
   AsksFor Ends Nothing due = (n : ℕ) → due n ≡ Some (None, n)
   AsksFor stage ask due = ⊥
 
-  -- what is left once the value that was asked for is there
-  abbrev pub told_value : Stage → Tree → ℕ → Units (Option Selected)
-  told_value (Evaluates i) v n = after_value i v n
-  told_value stage v n = None
-
   -- the selection that is left once the answer is there
   abbrev pub answered : Stage → Answer → ℕ → Units (Option Selected)
   answered Begins Begin n = selects n
@@ -167,7 +157,7 @@ pub record Asks (rules : List PlainRule) (ns : List PoolNode) (m : Matcher) (ask
   pub asks : (S : PlainSignature) → AsksFor S rules ns m m.stage ask (due S)
 
 -- a matcher at its start: the rows of the rules before the arguments of a stack
-pub record IsStart (rules : List PlainRule) (args : List TermId) (m : Matcher) : Type 0 where
+pub record IsBegun (rules : List PlainRule) (args : List TermId) (m : Matcher) : Type 0 where
   pub stands : Stands rules m
   pub columns : m.columns.items ≡ map (argument_column 0) (take (width (length args) rules) (from_top args))
   pub rows : rows_left rules m.left ≡ rows_for (length args) (width (length args) rules) rules

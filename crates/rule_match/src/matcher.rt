@@ -1,16 +1,17 @@
 //! The selection of a rule by asking for one answer after another.
-ghost use Rattle.std.specs.Prelude.{◌≡◌, ℕ, ◌<◌, [], None, IfOk, OnOk, List, length, vec_len, replicate};
+ghost use Rattle.std.specs.Prelude.{◌≡◌, ℕ, ◌<◌, [], None, Some, IfOk, OnOk, List, length, slice_get, vec_len, replicate};
 ghost use Rattle.dk_model.specs.Signatures.{PlainRule};
 ghost use Rattle.dk_model.specs.Matrix.{width};
 ghost use Rattle.shared_term.specs.Pools.{Node, term, Extends};
 ghost use Rattle.rule_match.specs.Rows.{plain_cell};
-ghost use Rattle.rule_match.specs.Columns.{AreColumns, AreWithin};
+ghost use Rattle.rule_match.specs.Columns.{AreWithin};
 ghost use Rattle.rule_match.specs.Sides.{AreLeftSides};
 ghost use Rattle.rule_match.specs.Remaining.{rule_count};
 ghost use Rattle.rule_match.specs.Standing.{others_in};
 ghost use Rattle.rule_match.specs.Trees.{IsTree, IsPlaced};
 ghost use Rattle.rule_match.specs.declared.matcher.Stage.TheVariants.{Begins};
-ghost use Rattle.rule_match.specs.Matching.{IsMatcher, IsTried, IsAnswer, IsAsk, Awaits, Stands, Asks, IsStart, selects, captures_due, guards_due, after_value, after_normal, after_compared, after_guard, answered, fails, term_in};
+ghost use Rattle.rule_match.specs.Matching.{IsMatcher, IsTried, IsAsk, Awaits, Stands, Asks, selects, captures_due, guards_due, after_value, after_normal, after_compared, after_guard, fails};
+ghost use Rattle.rule_match.specs.Selecting.{Fits, AwaitsAnswer, terms_in, left_with, Comes, IsStart};
 
 use crate::cell::{Cell, Row};
 use crate::left::{
@@ -43,7 +44,7 @@ pub enum Answer {
 /// What a matcher asks for, or what it comes to.
 #[derive(Drop)]
 pub enum Ask {
-    /// The weak head form of the term in this column.
+    /// The weak head form of the term in this column, counted from 0.
     Evaluate(usize),
     /// The normal form of this part.
     Escape(TermId),
@@ -152,7 +153,6 @@ impl<'t> Matcher<'t> {
         ensures starts { IfOk result (λ m. (rules : List PlainRule) → IsTree rules tree.now
             → IsStart rules arguments.now m) }
         ensures within { IfOk result (λ m. (n : ℕ) → AreWithin n arguments.now → IsMatcher n m) }
-        ensures begins { IfOk result (λ m. m.stage ≡ Begins) }
     {
         let width = width_before(tree, arguments.len());
         let left = left_before(alloc, tree, arguments.len(), width)?;
@@ -169,7 +169,6 @@ impl<'t> Matcher<'t> {
         ensures starts { IfOk result (λ m. (rules : List PlainRule) → AreLeftSides rules sides.entry.items
             → IsStart rules arguments.now m) }
         ensures within { IfOk result (λ m. (n : ℕ) → AreWithin n arguments.now → IsMatcher n m) }
-        ensures begins { IfOk result (λ m. m.stage ≡ Begins) }
     {
         let (width, left) = walked_before(alloc, sides.as_slice(), arguments.len())?;
         let columns = first_columns(alloc, width, arguments)?;
@@ -177,24 +176,23 @@ impl<'t> Matcher<'t> {
     }
 
     /// The term that stands in this column.
-    #[tactic(auto, using(crate::proofs::Matching::term_in_column))]
     pub fn at(&self, column: usize) -> TermId
-        requires { column < length self.now.columns.items }
-        ensures is { (ns : List Node) → term ns result ≡ term_in ns self.now column }
-        ensures within { (n : ℕ) → AreColumns n self.now.columns.items → result.0 < n }
+        requires { column < length (terms_in self.now) }
+        ensures is { slice_get (terms_in self.now) column ≡ Some result }
+        ensures within { (n : ℕ) → IsMatcher n self.now → result.0 < n }
     {
         column_of(self.columns.as_slice(), column).term
     }
 
     /// What the selection asks for next, where this is the answer to what it asked for last. The asks come one at a
     /// time, in the order of selection.
+    #[tactic(auto, using(crate::proofs::Seeing::each_fits))]
     pub fn next(&mut self, pool: &mut Pool, answer: Answer) -> Result<Ask, NoMemory>
         requires within { IsMatcher (length pool.old) self.old }
-        requires answer { IsAnswer (length pool.old) self.old.stage answer }
+        requires answer { Fits (length pool.old) self.old answer }
         ensures asks { IfOk result (λ ask. (rules : List PlainRule) → Stands rules self.old
-            → Asks rules pool.new self.new ask
-            (λ S. answered S rules pool.old self.old self.old.stage answer)) }
-        ensures awaits { IfOk result (Awaits self.new.stage) }
+            → Comes rules pool.new self.new ask (λ S. left_with S rules pool.old self.old answer)) }
+        ensures awaits { IfOk result (AwaitsAnswer self.new) }
         ensures asked { IfOk result (IsAsk (length pool.new)) }
         ensures within { OnOk result (IsMatcher (length pool.new) self.new) }
         ensures keeps { Extends pool.old pool.new }

@@ -1,7 +1,7 @@
 //! Selections by asks: which column is asked for, which rule is taken, and its captures.
 ghost use Rattle.std.specs.Prelude.{◌<◌, length, IfOk};
 ghost use Rattle.rule_match.specs.Columns.{AreWithin};
-ghost use Rattle.rule_match.specs.Matching.{IsMatcher, Awaits};
+ghost use Rattle.rule_match.specs.Selecting.{IsMatcher, AwaitsAnswer};
 ghost use Rattle.rule_match.specs.Trees.{IsPlaced};
 ghost use Rattle.shared_term.specs.Pools.{Extends};
 
@@ -43,7 +43,6 @@ fn tree_of(alloc: Global, parts: &[(&str, u32)]) -> Result<Tree, NoMemory>
 
 /// What the selection asks for once it is told whether two terms are alike, or that a term stands; where it asks for
 /// neither, want of memory.
-#[tactic(auto, using(rule_match::proofs::Telling::value_fits, rule_match::proofs::Telling::alike_fits))]
 fn tell(
     matcher: &mut Matcher,
     pool: &mut Pool,
@@ -52,7 +51,7 @@ fn tell(
     alike: bool,
 ) -> Result<Ask, NoMemory>
     requires within { IsMatcher (length pool.old) matcher.old }
-    requires awaits { Awaits matcher.old.stage ask.now }
+    requires awaits { AwaitsAnswer matcher.old ask.now }
     requires term { term.0 < length pool.old }
 {
     match ask {

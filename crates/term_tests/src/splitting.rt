@@ -2,10 +2,10 @@
 //! given away, and however many threads there are to spare.
 use crate::texts::{commands_of, version_after};
 use board_core::Gate;
-use command_check::{StoredCommand, check_stored};
+use command_check::check_stored;
 use conversion::PoolReducer;
 use dk_model::{Code, NoMemory, Scoped, Term, Verdict};
-use shared_term::Stored;
+use shared_term::{Stored, StoredCommand};
 use signature_log::Version;
 use split_check::{Crew, Spare, check_split};
 use std::alloc::Global;

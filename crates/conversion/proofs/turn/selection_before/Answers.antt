@@ -1,5 +1,5 @@
 use Rattle.std.proofs.Common.{subst, sym as flip}
-use Rattle.rule_match.specs.Matching.{IsMatcher}
+use Rattle.rule_match.specs.Selecting.{IsMatcher}
 use Rattle.conversion.proofs.turn.selection_before.Goals.{in-Some+in_ok-matcher-in-Some, in_default+in_ok-left_sides-in_default+in_ok-matcher-in_default}
 use Rattle.conversion.proofs.turn.selection_before.Goals as goal
 

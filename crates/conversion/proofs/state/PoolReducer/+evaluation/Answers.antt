@@ -1,24 +1,25 @@
-use Rattle.std.proofs.Common.{◌≡◌, ◌∙◌, ◌<◌, ◌-◌, ◌++◌, ◌∷◌, [], List, length, Some, ap, subst, refl, sym as flip, arith, rules, sym, true≢false}
+use Rattle.std.proofs.Common.{◌≡◌, ◌∙◌, ◌<◌, ◌-◌, ◌++◌, ◌∷◌, [], List, length, Some, ap, subst, refl, sym as flip, arith, rules, sym, true≢false, if◌then◌else◌}
 use Rattle.dk_model.specs.Trees.{Tree}
 use Rattle.dk_model.specs.Signatures.{PlainSignature}
 use Rattle.dk_model.specs.SymbolRules.{rules_of}
-use Rattle.dk_model.specs.Evaluation.{whnf_of, normal_of}
+use Rattle.dk_model.specs.Evaluation.{whnf_of, normal_of, comparison_of}
 use Rattle.shared_term.specs.Pools.{term}
 use Rattle.shared_term.specs.Changes.{captured_terms}
 use Rattle.signature_log.specs.Versions.{entries_of}
 use Rattle.rule_match.specs.Rows.{rule_at}
-use Rattle.rule_match.specs.declared.matcher.Answer.TheVariants.{Normal}
-use Rattle.rule_match.proofs.Larger.{rule_taken, none_taken, alike_told, alike_answers, normal_told, matcher_grown}
-use Rattle.rule_match.proofs.Telling.{normal_fits}
+use Rattle.rule_match.specs.declared.matcher.Answer.{Answer}
+use Rattle.rule_match.specs.declared.matcher.Answer.TheVariants.{Normal, Yes, No}
+use Rattle.rule_match.specs.Selecting.{Fits, left_with}
+use Rattle.rule_match.proofs.Larger.{matcher_grown}
 use Rattle.conversion.specs.declared.evaluate.Pause.{Pause}
 use Rattle.conversion.specs.Machine.{behind, wound}
-use Rattle.conversion.specs.Pausing.{ArePauses, Await, selected}
+use Rattle.conversion.specs.Pausing.{ArePauses, Await, rewritten_by}
 use Rattle.conversion.specs.Reducers.{IsValue}
 use Rattle.conversion.proofs.Winding.{extends_more, extends_none}
 use Rattle.conversion.proofs.Serving.{value_made, values_put, loaded_grown, heads_grown, values_grown, normals_grown, answers_grown, serves_grown, answers_put, answer_made, normals_put, normal_made}
 use Rattle.conversion.proofs.Pausing.{await_grown, pauses_grown, pauses_pushed, pauses_popped, popped_pause, pause_goes}
 use Rattle.conversion.proofs.Evaluating.{await_on, asks_on, awaited_is, awaited_falls, closed_on, awaited_value, await_done}
-use Rattle.conversion.proofs.Selecting.{turns_same, selection_stands, selection_takes, selection_waits, selection_goes}
+use Rattle.conversion.proofs.Selecting.{selection_stands, selection_takes, selection_waits, selection_goes, selection_ends, normal_stops, alike_stops}
 use Rattle.conversion.specs.declared.compare.Step.{Step}
 use Rattle.conversion.specs.declared.compare.Step.TheVariants.{Pair, Conclude}
 use Rattle.conversion.specs.Pending.{rest_compared, pending}
@@ -168,13 +169,13 @@ pub turn_selection-put_right-requires-clause-place : goal.turn_selection-put_rig
 turn_selection-put_right-requires-clause-place t c =
     let S : PlainSignature = entries_of c.args.version.now in
     let a = (rw c.in-Take.is at c.in_ok-ask.ensures.asks) (rules_of S c.args.selection.symbol) c.requires.selection.stands in
-    (rule_taken S (rules_of S c.args.selection.symbol) c.next.new.pool c.next.new.self c.next.new.self.stage c.in-Take.at c.in-Take.captures (selected S c.args.self.now.pool c.args.selection) (a.asks S)).0
+    (a.to S).0
 
 pub turn_selection-returns-in-Take-clause-gives : goal.turn_selection-returns-in-Take-clause-gives
 turn_selection-returns-in-Take-clause-gives t c =
     let S : PlainSignature = entries_of c.args.version.now in
     let a = (rw c.in-Take.is at c.in_ok-ask.ensures.asks) (rules_of S c.args.selection.symbol) c.requires.selection.stands in
-    let g = rule_taken S (rules_of S c.args.selection.symbol) c.next.new.pool c.next.new.self c.next.new.self.stage c.in-Take.at c.in-Take.captures (selected S c.args.self.now.pool c.args.selection) (a.asks S) in
+    let g = a.to S in
     let p = rw c.as_slice.ensures.value at c.in_ok-next-in-Take.ensures.puts in (
       selection_takes S c.args.selection c.args.left.now c.args.self.now.pool c.next.new.pool c.args.stack.now.items c.in_ok-ask.ensures.keeps c.requires.stack
           (captured_terms c.next.new.pool c.in-Take.captures.items) (rule_at (rules_of S c.args.selection.symbol) c.in-Take.at)
@@ -186,7 +187,7 @@ pub turn_selection-returns-in-Nothing-clause-gives : goal.turn_selection-returns
 turn_selection-returns-in-Nothing-clause-gives t c =
     let S : PlainSignature = entries_of c.args.version.now in
     let a = (rw c.in-Nothing.is at c.in_ok-ask.ensures.asks) (rules_of S c.args.selection.symbol) c.requires.selection.stands in
-    let g = none_taken S (rules_of S c.args.selection.symbol) c.next.new.pool c.next.new.self c.next.new.self.stage (selected S c.args.self.now.pool c.args.selection) (a.asks S) in (
+    let g = a.to S in (
       selection_stands S c.args.selection c.args.left.now c.args.self.now.pool c.next.new.pool c.args.stack.now.items c.in_ok-ask.ensures.keeps c.requires.stack c.intern.new.self
           c.in_ok-head-in-Nothing.head c.in_ok-head-in-Nothing.ensures.keeps (g c.args.left.now) c.in_ok-head-in-Nothing.ensures.denotes,
       c.in_ok-head-in-Nothing.ensures.within,
@@ -196,25 +197,45 @@ pub turn_selection-returns-in-Evaluate-clause-gives : goal.turn_selection-return
 turn_selection-returns-in-Evaluate-clause-gives t c =
     let S : PlainSignature = entries_of c.args.version.now in
     let a = (rw c.in-Evaluate.is at c.in_ok-ask.ensures.asks) (rules_of S c.args.selection.symbol) c.requires.selection.stands in
-    turns_same S _ _ c.next.new.pool c.ask.new.stack.items c.ask.new.left c.ask.result
-    (selection_waits S c.args.selection c.args.left.now c.args.self.now.pool c.next.new.pool c.args.stack.now.items c.in_ok-ask.ensures.keeps c.requires.stack c.next.new.self c.in-Evaluate.column
-    (rw c.in-Evaluate.is at c.in_ok-ask.ensures.awaits) (a.asks S))
-    c.ask.ensures.gives
+    c.ask.ensures.gives (rewritten_by S c.args.self.now.pool c.args.selection c.args.stack.now.items c.args.left.now)
+    (selection_waits S c.args.selection c.args.left.now c.args.self.now.pool c.next.new.pool c.args.stack.now.items c.in_ok-ask.ensures.keeps c.requires.stack c.next.new.self c.at-asked.result
+    (a.to S c.at-asked.result c.at-asked.ensures.is))
+
+pub turn_selection-ask-requires-clause-asked : goal.turn_selection-ask-requires-clause-asked
+turn_selection-ask-requires-clause-asked t c = c.at-asked.ensures.within (length c.next.new.pool) c.in_ok-ask.ensures.within
+
+pub turn_selection-returns-in_err-normal-in-Escape-clause-gives : goal.turn_selection-returns-in_err-normal-in-Escape-clause-gives
+turn_selection-returns-in_err-normal-in-Escape-clause-gives t c =
+    let S : PlainSignature = entries_of c.args.version.now in
+    let a = (rw c.in-Escape.is at c.in_ok-ask.ensures.asks) (rules_of S c.args.selection.symbol) c.requires.selection.stands in
+    let h = normal_stops S (normal_of S c.args.left.now (term c.next.new.pool c.in-Escape.part)) (rewritten_by S c.args.self.now.pool c.args.selection c.args.stack.now.items c.args.left.now)
+    c.normalise_inside.new.self.pool c.in_err-normal-in-Escape.field-0.0 c.args.stack.now.items c.normalise_inside.new.left
+    (λ e. selection_ends S c.args.selection c.args.left.now c.args.self.now.pool c.next.new.pool c.args.stack.now.items c.in_ok-ask.ensures.keeps c.requires.stack ((a.to S).ends c.args.left.now e))
+    c.in_err-normal-in-Escape.ensures.gives in
+    search rules
+
+pub turn_selection-returns-in_err-alike-in-Same-clause-gives : goal.turn_selection-returns-in_err-alike-in-Same-clause-gives
+turn_selection-returns-in_err-alike-in-Same-clause-gives t c =
+    let S : PlainSignature = entries_of c.args.version.now in
+    let a = (rw c.in-Same.is at c.in_ok-ask.ensures.asks) (rules_of S c.args.selection.symbol) c.requires.selection.stands in
+    let h = alike_stops S (comparison_of S c.args.left.now (term c.next.new.pool c.in-Same.first) (term c.next.new.pool c.in-Same.second)) (rewritten_by S c.args.self.now.pool c.args.selection c.args.stack.now.items c.args.left.now)
+    c.compare_inside.new.self.pool c.in_err-alike-in-Same.field-0.0 c.args.stack.now.items c.compare_inside.new.left
+    (λ e. selection_ends S c.args.selection c.args.left.now c.args.self.now.pool c.next.new.pool c.args.stack.now.items c.in_ok-ask.ensures.keeps c.requires.stack ((a.to S).ends c.args.left.now e))
+    c.in_err-alike-in-Same.ensures.gives in
+    search rules
 
 pub turn_selection-returns-in-Escape-clause-gives : goal.turn_selection-returns-in-Escape-clause-gives
 turn_selection-returns-in-Escape-clause-gives t c =
     let S : PlainSignature = entries_of c.args.version.now in
-    let k = rules_of S c.args.selection.symbol in
-    let a = (rw c.in-Escape.is at c.in_ok-ask.ensures.asks) k c.requires.selection.stands in
+    let a = (rw c.in-Escape.is at c.in_ok-ask.ensures.asks) (rules_of S c.args.selection.symbol) c.requires.selection.stands in
     let g = c.in_ok-normal-in-Escape.ensures.gives in
-    let x = c.in_ok-normal-in-Escape.ensures.keeps in
-    let e = normal_told S k c.next.new.pool c.normalise_inside.new.self.pool c.next.new.self x c.in_ok-ask.ensures.within c.next.new.self.stage c.in-Escape.part c.in_ok-normal-in-Escape.normal
-    (selected S c.args.self.now.pool c.args.selection) c.args.left.now c.normalise_inside.new.left (a.asks S) g.0 in (
+    let x = c.in_ok-normal-in-Escape.ensures.keeps in (
       selection_goes S c.args.selection c.args.left.now c.args.self.now.pool c.next.new.pool c.args.stack.now.items c.in_ok-ask.ensures.keeps c.requires.stack c.normalise_inside.new.self.pool c.next.new.self
-          (Normal c.in_ok-normal-in-Escape.normal) c.normalise_inside.new.left x e,
+          (Normal c.in_ok-normal-in-Escape.normal) c.normalise_inside.new.left x
+          ((a.to S).goes c.args.left.now c.normalise_inside.new.left c.normalise_inside.new.self.pool c.in_ok-normal-in-Escape.normal x g.0),
       record {
         matcher = matcher_grown c.next.new.pool c.normalise_inside.new.self.pool c.next.new.self x c.in_ok-ask.ensures.within;
-        answer = normal_fits (length c.normalise_inside.new.self.pool) c.next.new.self.stage c.in-Escape.part c.in_ok-normal-in-Escape.normal (rw c.in-Escape.is at c.in_ok-ask.ensures.awaits) g.1;
+        answer = (rw c.in-Escape.is at c.in_ok-ask.ensures.awaits) (length c.normalise_inside.new.self.pool) c.in_ok-normal-in-Escape.normal g.1;
         stands = a.stands;
       },
     )
@@ -222,17 +243,17 @@ turn_selection-returns-in-Escape-clause-gives t c =
 pub turn_selection-returns-clause-gives : goal.turn_selection-returns-clause-gives
 turn_selection-returns-clause-gives t c =
     let S : PlainSignature = entries_of c.args.version.now in
-    let k = rules_of S c.args.selection.symbol in
-    let a = (rw c.in-Same.is at c.in_ok-ask.ensures.asks) k c.requires.selection.stands in
+    let a = (rw c.in-Same.is at c.in_ok-ask.ensures.asks) (rules_of S c.args.selection.symbol) c.requires.selection.stands in
     let x = c.in_ok-alike-in-Same.ensures.keeps in
-    let e = alike_told S k c.next.new.pool c.compare_inside.new.self.pool c.next.new.self x c.in_ok-ask.ensures.within c.next.new.self.stage c.in-Same.first c.in-Same.second
-    (selected S c.args.self.now.pool c.args.selection) c.args.left.now c.compare_inside.new.left c.in_ok-alike-in-Same.alike c.told.result (a.asks S) c.in_ok-alike-in-Same.ensures.gives c.told.ensures in (
+    let same : c.told.result ≡ (if c.in_ok-alike-in-Same.alike then Yes else No) = c.told.ensures in (
       selection_goes S c.args.selection c.args.left.now c.args.self.now.pool c.next.new.pool c.args.stack.now.items c.in_ok-ask.ensures.keeps c.requires.stack c.compare_inside.new.self.pool c.next.new.self
-          c.told.result c.compare_inside.new.left x e,
+          c.told.result c.compare_inside.new.left x
+          ((a.to S).goes c.args.left.now c.compare_inside.new.left c.compare_inside.new.self.pool c.in_ok-alike-in-Same.alike x c.in_ok-alike-in-Same.ensures.gives
+          ∙ ap (λ (w : Answer). left_with S (rules_of S c.args.selection.symbol) c.compare_inside.new.self.pool c.next.new.self w c.compare_inside.new.left) (flip same)),
       record {
         matcher = matcher_grown c.next.new.pool c.compare_inside.new.self.pool c.next.new.self x c.in_ok-ask.ensures.within;
-        answer = alike_answers (length c.compare_inside.new.self.pool) c.next.new.self.stage c.in-Same.first c.in-Same.second c.in_ok-alike-in-Same.alike c.told.result
-            (rw c.in-Same.is at c.in_ok-ask.ensures.awaits) c.told.ensures;
+        answer = subst (λ (w : Answer). Fits (length c.compare_inside.new.self.pool) c.next.new.self w) (flip same)
+            ((rw c.in-Same.is at c.in_ok-ask.ensures.awaits) (length c.compare_inside.new.self.pool) c.in_ok-alike-in-Same.alike);
         stands = a.stands;
       },
     )

@@ -1,14 +1,18 @@
-use Rattle.std.proofs.Common.{◌∙◌, Vec, Global, List, Option, ap, length, subst, sym as flip}
+use Rattle.std.proofs.Common.{◌∙◌, Vec, Global, List, Option, ap, length, subst, sym as flip, rules}
 use Rattle.shared_term.specs.declared.id.TermId.{TermId}
 use Rattle.shared_term.specs.Changes.{AreCaptures}
 use Rattle.rule_match.specs.declared.matcher.Stage.{Stage}
 use Rattle.rule_match.specs.declared.value.Column.{Column}
 use Rattle.rule_match.specs.Columns.{AreColumns}
-use Rattle.rule_match.specs.Matching.{IsStage, Tries}
+use Rattle.rule_match.specs.Matching.{IsStage, Tries, IsBegun}
 use Rattle.rule_match.specs.Remaining.{rule_count}
 use Rattle.rule_match.proofs.Placing.{tree_rows_placed}
 use Rattle.rule_match.proofs.Opening.{first_within}
+use Rattle.rule_match.proofs.Starting.{started}
 use Rattle.rule_match.proofs.matcher.Matcher.start.Goals as goal
+
+pub returns-clause-starts : goal.returns-clause-starts
+returns-clause-starts c = λ rs it. let b : IsBegun rs c.args.arguments.now c.begun.result = search rules in started rs c.args.arguments.now c.begun.result b
 
 pub returns-clause-within : goal.returns-clause-within
 returns-clause-within c = λ n h. record {
