@@ -1,6 +1,6 @@
--- The comparison of two weak head forms part by part.
-use Rattle.std.proofs.Common.{List, [], ◌∷◌, ◌++◌, ◌≡◌, ℕ, true, false, Bool, Option, Some, None, refl, ap, ◌∙◌, if◌then◌else◌}
-use Rattle.dk_model.specs.Trees.{Tree, apply, product, bare}
+-- The comparison of two weak head forms part by part, and where the steps of two terms meet.
+use Rattle.std.proofs.Common.{List, [], ◌∷◌, ◌++◌, ◌≡◌, ℕ, true, false, Bool, Option, Some, None, refl, ap, ◌∙◌, if◌then◌else◌, subst as along, sym as flip, IfSome}
+use Rattle.dk_model.specs.Trees.{apply, product, bare}
 use Rattle.dk_model.specs.Signatures.{PlainSignature}
 use Rattle.dk_model.specs.Units.{Units, bind}
 use Rattle.dk_model.specs.Spines.{pairs_of, body_of}
@@ -8,6 +8,10 @@ use Rattle.told_steps.proofs.Folding.{bare_is}
 use Rattle.dk_model.specs.Parts.{each_same}
 use Rattle.dk_model.specs.Evaluation.{comparison_of}
 use Rattle.dk_model.specs.Equations.{heads_compared}
+use Rattle.dk_model.specs.Substitution.{equal}
+use Rattle.typing_model.proofs.Evaluation.{equal_trees}
+use Rattle.told_steps.specs.Meetings.{MeetIn, AlwaysMeetIn, MeetAround, MeetTogether}
+use Rattle.tree_evaluation.specs.Views.{Meeting, Tree}
 
 module _ (S : PlainSignature) where
   -- the pair `a`, `b` behind others whose comparison gave `x`
@@ -19,11 +23,8 @@ module _ (S : PlainSignature) where
   alone (Some (true, m)) = refl
   alone (Some (false, m)) = refl
 
-  bodies : (t u : Tree) (n : ℕ) → heads_compared S (bare t) (bare u) n ≡ comparison_of S n t u
-  bodies t u n = alone (comparison_of S n t u)
-
   pub bodies_due : (t u b c : Tree) (n : ℕ) → t ≡ bare b → u ≡ bare c → heads_compared S t u n ≡ comparison_of S n b c
-  bodies_due t u b c n e q = ap (λ (x : Tree). heads_compared S x u n) e ∙ ap (λ (y : Tree). heads_compared S (bare b) y n) q ∙ bodies b c n
+  bodies_due t u b c n e q = ap (λ (x : Tree). heads_compared S x u n) e ∙ ap (λ (y : Tree). heads_compared S (bare b) y n) q ∙ alone (comparison_of S n b c)
 
   -- an abstraction without annotation, by its body
   pub with_body : (t b : Tree) → body_of t ≡ Some b → t ≡ bare b
@@ -53,3 +54,25 @@ module _ (S : PlainSignature) where
   -- the codomain behind its domain
   pub products_compared : (a b c d : Tree) (n : ℕ) → heads_compared S (product a b) (product c d) n ≡ behind b d (comparison_of S n a c)
   products_compared a b c d n = one_behind b d ((a, c) ∷ []) n ∙ ap (behind b d) (alone (comparison_of S n a c))
+
+-- ---- where steps meet
+
+module _ (S : PlainSignature) where
+  pub equal_meet : (t u : Tree) (met : Meeting) → equal t u ≡ true → AlwaysMeetIn t t met → MeetIn S t u met
+  equal_meet t u met e h = along (λ (v : Tree). MeetIn S t v met) (equal_trees t u e) (h S)
+
+  some_met : (t u : Tree) (o : Option Meeting) (part : Meeting) → o ≡ Some part → IfSome o (MeetIn S t u) → MeetIn S t u part
+  some_met t u o part e h = along (λ (x : Option Meeting). IfSome x (MeetIn S t u)) e h
+
+  -- two terms whose one part meets
+  pub meet_around : (node : Tree → Tree) (t u b c : Tree) (o : Option Meeting) (part met : Meeting) → t ≡ node b → u ≡ node c
+      → o ≡ Some part → IfSome o (MeetIn S b c) → MeetAround node part met → MeetIn S t u met
+  meet_around node t u b c o part met e q i h m =
+      along (λ (x : Tree). MeetIn S x u met) (flip e) (along (λ (y : Tree). MeetIn S (node b) y met) (flip q) (m S b c (some_met b c o part i h)))
+
+  -- and whose two parts do
+  pub meet_together : (node : Tree → Tree → Tree) (t u f a g b : Tree) (o p : Option Meeting) (first second met : Meeting) → t ≡ node f a → u ≡ node g b
+      → o ≡ Some first → p ≡ Some second → IfSome o (MeetIn S f g) → IfSome p (MeetIn S a b) → MeetTogether node first second met → MeetIn S t u met
+  meet_together node t u f a g b o p first second met e q i j h k m =
+      along (λ (x : Tree). MeetIn S x u met) (flip e)
+      (along (λ (y : Tree). MeetIn S (node f a) y met) (flip q) (m S f g a b (some_met f g o first i h) (some_met a b p second j k)))

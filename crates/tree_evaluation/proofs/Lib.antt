@@ -1,17 +1,8 @@
 pub mod Lists
 pub mod Steps
-pub mod Choosing
-pub mod Guards
-pub mod Matched
 pub mod Comparing
-pub mod Parts
-pub mod Refining
 pub mod Reducing
-pub mod Capturing
 pub mod Taking
 pub mod Selecting
-pub mod Listed
 pub mod Rows
-pub mod Unmoved
 pub mod Rewriting
-pub mod Leading

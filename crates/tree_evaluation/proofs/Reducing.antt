@@ -1,23 +1,17 @@
 -- The reducer over trees: it keeps nothing, and a term stands for itself. And what an evaluation that tells its steps gives.
-use Rattle.std.proofs.Common.{ℕ, ◌≡◌, List, [], ◌∷◌, map, ap, Bool, Option, Result, Ok, Err, refl}
-use Rattle.std.specs.Prelude.{is_some}
-use Rattle.dk_model.specs.Trees.{Tree, tree}
+use Rattle.std.proofs.Common.{ℕ, ◌≡◌, List, [], ◌∷◌, map, ap, Bool, Option, Result, Ok, Err, refl, is_some}
 use Rattle.dk_model.specs.Signatures.{PlainSignature}
 use Rattle.dk_model.specs.Units.{Units}
-use Rattle.dk_model.specs.declared.term.Term.{Term}
+use Rattle.tree_evaluation.specs.Views.{Term, Join, Told, Meeting, owned, denoted, Tree, tree}
 use Rattle.dk_model.specs.declared.stop.Stop.{Stop}
 use Rattle.dk_model.specs.declared.stop.Stop.TheVariants.{Ended, NoMemory}
 use Rattle.signature_log.specs.Reducers.{Keeps, Gives, GivesAnswer}
 use Rattle.certificate_items.specs.Views.{plain_steps}
-use Rattle.certificate_items.specs.declared.item.Join.{Join}
 use Rattle.tree_typing.specs.Given.{Gives as Answered}
 use Rattle.told_steps.specs.Told.{Meet}
 use Rattle.told_steps.specs.Meetings.{MeetIn, MeetBy}
-use Rattle.told_steps.specs.declared.told.Told.{Told}
-use Rattle.told_steps.specs.declared.meeting.Meeting.{Meeting}
 use Rattle.tree_evaluation.specs.declared.trees.Trees.{Trees}
 use Rattle.tree_evaluation.specs.Answers.{Answers, form_told}
-use Rattle.tree_evaluation.specs.Views.{owned, denoted}
 
 pub trees_keep : (old new : Trees) → Keeps owned denoted old new
 trees_keep old new = record { own = λ t o. tt; same = λ t o. refl }

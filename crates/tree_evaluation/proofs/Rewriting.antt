@@ -1,33 +1,24 @@
 -- The rule that is taken, as a step of the term.
-use Rattle.std.proofs.Common.{List, [], ◌∷◌, ◌≡◌, ◌≤◌, ℕ, zero, suc, Bool, true, false, Some, ap, ◌∙◌, map, max, length, refl, arith, subst as along, sym as flip}
-use Rattle.std.specs.Prelude.{slice_get, nat_lt, if◌then◌else◌}
-use Rattle.std.specs.Option.{option_map}
+use Rattle.std.proofs.Common.{List, [], ◌∷◌, ◌≡◌, ◌≤◌, ℕ, zero, suc, Bool, true, false, Some, ap, ◌∙◌, map, max, length, refl, arith, subst as along, sym as flip, slice_get, nat_lt, if◌then◌else◌, option_map}
 use Rattle.std.proofs.lemmas.Option.{slice_get-map}
+use Rattle.std.proofs.lemmas.List.Elements.{All-weaker}
 use Rattle.std.proofs.lemmas.Bool.Decides.{nat_tests}
-use Rattle.dk_model.specs.PlainTerms.{Tree}
-use Rattle.dk_model.specs.Trees.{tree}
 use Rattle.dk_model.specs.Signatures.{PlainSignature, PlainRule}
 use Rattle.dk_model.specs.Units.{Units, bind}
 use Rattle.dk_model.specs.Spines.{arguments}
 use Rattle.dk_model.specs.SymbolRules.{rules_of}
-use Rattle.dk_model.specs.Matrix.{Cell, first_cells, width}
-use Rattle.dk_model.specs.Matrix.{Column as PlainColumn, Row as PlainRow}
+use Rattle.dk_model.specs.Matrix.{Cell, first_cells, width, Column as PlainColumn, Row as PlainRow}
 use Rattle.dk_model.specs.Captures.{filled}
 use Rattle.dk_model.specs.Evaluation.{whnf_of, columns, rows, rewritten}
 use Rattle.dk_model.specs.Equations.{selection_of, after_selection}
 use Rattle.certificate_items.specs.Views.{plain_joins}
-use Rattle.certificate_items.specs.declared.item.Join.{Join}
-use Rattle.tree_terms.specs.declared.rules.SymbolRule.{SymbolRule}
-use Rattle.told_steps.specs.Ends.{TakesEnds, IsTakenRule, Fires, columns_of, first_columns}
-use Rattle.told_steps.specs.declared.told.Told.{Told}
-use Rattle.told_steps.specs.declared.end.End.{End}
+use Rattle.tree_evaluation.specs.Views.{Join, SymbolRule, Told, End, Row, Selected, plain_cell, plain_selected, captures_of, rule, row, Tree, tree, columns_of}
+use Rattle.told_steps.specs.Ends.{IsTakenRule, Fires}
 use Rattle.told_steps.specs.declared.firing.TakenRule.{TakenRule}
-use Rattle.tree_evaluation.specs.declared.matrix.Row.{Row}
-use Rattle.tree_evaluation.specs.declared.select.Selected.{Selected}
-use Rattle.tree_evaluation.specs.Views.{plain_cell, plain_selected, captures_of, rule, row}
 use Rattle.tree_evaluation.specs.Answers.{by_selection, form_told}
-use Rattle.tree_evaluation.specs.Tellings.{AreFirstRows, AreUnmoved, IsFirstRow, IsRuleRow, Begins, SelectedRow, Rewrites}
-use Rattle.tree_evaluation.proofs.Unmoved.{unmoved_ends}
+use Rattle.tree_evaluation.specs.Tellings.{AreFirstRows, AreUnmoved, IsFirstRow, IsRuleRow, Begins, SelectedRow, Rewrites, TakesEnds, first_columns}
+use Rattle.tree_evaluation.proofs.Lists.{unmoved_ends}
+use Rattle.tree_evaluation.proofs.Rows.{each_at}
 
 -- ---- the first columns and rows
 
@@ -67,7 +58,7 @@ module _ (S : PlainSignature) (k : ℕ) (t : Tree) (rules : List SymbolRule) (co
   begins cs rs e n w c u f = record {
     wide = wide;
     ends = unmoved_ends S cs (first_columns wide t) u c;
-    first = λ i r q. rule_row r e n w (f i r q);
+    first = All-weaker (IsFirstRow wide count rules) (IsRuleRow S k t wide) (λ r h. rule_row r e n w h) rs f;
   }
 
 -- ---- the rule that is taken
@@ -78,7 +69,7 @@ module _ (t : Tree) (rs : List Row) (it : Selected) (told : Told) (own : Row) (t
   rewrites e n c j f fires S k cs h b sel =
       let s : SelectedRow S rs (first_columns b.wide t) it = sel (first_columns b.wide t) b.ends in
       let own_is : s.own ≡ own = (let q : Some s.own ≡ Some own = flip s.stands ∙ e in cc) in
-      let r : IsRuleRow S k t b.wide s.own = b.first it.place s.own s.stands in
+      let r : IsRuleRow S k t b.wide s.own = each_at (IsRuleRow S k t b.wide) rs it.place s.own b.first s.stands in
       let same : rule s.own.rule ≡ rule it.rule = ap rule s.same_rule in
       let number : taken.number ≡ s.own.from = n ∙ flip (ap (λ (x : Row). x.from) own_is) in
       let is_taken : IsTakenRule S t taken b.wide (rule it.rule) = record {

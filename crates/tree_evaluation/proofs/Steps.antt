@@ -1,14 +1,12 @@
 -- The steps of an evaluation: what is due at a call is what is due at the call that it goes on with.
-use Rattle.std.proofs.Common.{◌≡◌, ℕ, suc, List, Some, None, true, false, ap, ◌∙◌}
+use Rattle.std.proofs.Common.{◌≡◌, ℕ, suc, Some, None, true, false, ap, ◌∙◌}
 use Rattle.dk_model.specs.Trees.{Tree}
 use Rattle.dk_model.specs.Substitution.{equal}
 use Rattle.dk_model.specs.Signatures.{PlainSignature}
 use Rattle.dk_model.specs.Units.{Units, bind}
 use Rattle.dk_model.specs.Spines.{contraction, head_symbol}
-use Rattle.dk_model.specs.Matrix.{Column, Row}
 use Rattle.dk_model.specs.Parts.{each_normal}
-use Rattle.dk_model.specs.Selection.{Selected}
-use Rattle.dk_model.specs.Evaluation.{whnf_of, comparison_of, normal_of, columns, rows, rewritten}
+use Rattle.dk_model.specs.Evaluation.{whnf_of, comparison_of, normal_of, columns, rows}
 use Rattle.dk_model.specs.Equations.{selection_of, after_selection, heads_compared}
 use Rattle.dk_model.proofs.Turns.{whnf_contracts, whnf_stands, whnf_selects, comparison_is, normal_is}
 
@@ -41,22 +39,12 @@ module _ (S : PlainSignature) where
   pub both_equal : (n m : ℕ) (t u : Tree) → n ≡ suc m → equal t u ≡ true → comparison_of S n t u ≡ Some (true, m)
   both_equal n m t u l e = ap (λ k. comparison_of S k t u) l ∙ comparison_is S m t u ∙ simp e
 
-  pub unequal : (n m : ℕ) (t u : Tree) → n ≡ suc m → equal t u ≡ false
+  unequal : (n m : ℕ) (t u : Tree) → n ≡ suc m → equal t u ≡ false
       → comparison_of S n t u ≡ bind (whnf_of S m t) (λ t' n1. bind (whnf_of S n1 u) (heads_compared S t'))
   unequal n m t u l e = ap (λ k. comparison_of S k t u) l ∙ comparison_is S m t u ∙ simp e
 
-  pub by_weak : (n m : ℕ) (t : Tree) → n ≡ suc m → normal_of S n t ≡ bind (whnf_of S m t) (each_normal (normal_of S))
+  by_weak : (n m : ℕ) (t : Tree) → n ≡ suc m → normal_of S n t ≡ bind (whnf_of S m t) (each_normal (normal_of S))
   by_weak n m t l = ap (λ k. normal_of S k t) l ∙ normal_is S m t
-
-  pub selection_ends : (n : ℕ) (t : Tree) (cs : List Column) (rs : List Row) → selection_of S n cs rs ≡ None → bind (selection_of S n cs rs) (after_selection S t) ≡ None
-  selection_ends n t cs rs e = ap (λ x. bind x (after_selection S t)) e
-
-  pub selection_stands : (n m : ℕ) (t : Tree) (cs : List Column) (rs : List Row) → selection_of S n cs rs ≡ Some (None, m) → bind (selection_of S n cs rs) (after_selection S t) ≡ Some (t, m)
-  selection_stands n m t cs rs e = ap (λ x. bind x (after_selection S t)) e
-
-  pub selection_goes : (n m : ℕ) (t : Tree) (cs : List Column) (rs : List Row) (p : Selected) → selection_of S n cs rs ≡ Some (Some p, m)
-      → bind (selection_of S n cs rs) (after_selection S t) ≡ whnf_of S m (rewritten t p)
-  selection_goes n m t cs rs p e = ap (λ x. bind x (after_selection S t)) e
 
   pub first_ends : (n m : ℕ) (t u : Tree) → n ≡ suc m → equal t u ≡ false → whnf_of S m t ≡ None → comparison_of S n t u ≡ None
   first_ends n m t u l e q = unequal n m t u l e ∙ bind_none (whnf_of S m t) (λ t' n1. bind (whnf_of S n1 u) (heads_compared S t')) q

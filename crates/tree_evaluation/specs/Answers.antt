@@ -1,6 +1,5 @@
 -- For proofs: what a call answers where this is due, by the cases of its result. Want of memory says nothing.
 use Rattle.std.specs.Prelude.{ℕ, suc, ◌≡◌, ◌+◌, ◌++◌, Option, Some, None, Bool, true, Result, Ok, Err, List, ◌∷◌, take, drop, length, slice_get}
-use Rattle.dk_model.specs.Trees.{Tree, tree}
 use Rattle.dk_model.specs.Substitution.{shift}
 use Rattle.dk_model.specs.Signatures.{PlainSignature, guard_pattern}
 use Rattle.dk_model.specs.Units.{Units, bind}
@@ -9,7 +8,7 @@ use Rattle.dk_model.specs.Captures.{Captures, filled}
 use Rattle.dk_model.specs.Selection.{Selected}
 use Rattle.dk_model.specs.Evaluation.{whnf_of, comparison_of, columns, rows}
 use Rattle.dk_model.specs.Equations.{selection_of, after_selection}
-use Rattle.told_steps.specs.declared.told.Told.{Told}
+use Rattle.tree_evaluation.specs.Views.{Told, Tree, tree}
 use Rattle.dk_model.specs.declared.stop.Stop.{Stop}
 use Rattle.dk_model.specs.declared.stop.Stop.TheVariants.{Ended, NoMemory}
 

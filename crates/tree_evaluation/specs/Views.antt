@@ -3,27 +3,31 @@ use Rattle.std.specs.Prelude.{ℕ, ◌+◌, ◌++◌, Option, Some, None, Bool, 
 use Rattle.std.specs.Option.{option_map}
 use Rattle.std.specs.declared.vec.Vec.{Vec}
 use Rattle.std.specs.declared.alloc.Global.{Global}
-use Rattle.dk_model.specs.Trees.{Tree, tree}
+pub use Rattle.dk_model.specs.Trees.{Tree, tree}
 use Rattle.dk_model.specs.Signatures.{maybe_tree}
-use Rattle.dk_model.specs.Matrix.{blank, cell, cell_at, refined_cells}
-use Rattle.dk_model.specs.Matrix.{Cell as PlainCell, Column as PlainColumn, Row as PlainRow}
+use Rattle.dk_model.specs.Matrix.{blank, cell, cell_at, refined_cells, Cell as PlainCell, Column as PlainColumn, Row as PlainRow}
 use Rattle.dk_model.specs.Captures.{Captures}
 use Rattle.dk_model.specs.Selection.{PartTrial as PlainPartTrial, CellTrial as PlainCellTrial, RowTrial as PlainRowTrial, Selected as PlainSelected}
-use Rattle.dk_model.specs.declared.term.Term.{Term}
-use Rattle.dk_model.specs.declared.signature.Pat.{Pat}
-use Rattle.shared_term.specs.declared.stored.Stored.{Stored}
-pub use Rattle.tree_terms.specs.Rules.{stored_pattern, rule}
-use Rattle.tree_evaluation.specs.declared.matrix.Cell.{Cell}
 use Rattle.tree_evaluation.specs.declared.matrix.Cell.TheVariants.{Blank, Pattern as Asks}
-use Rattle.tree_evaluation.specs.declared.matrix.Row.{Row}
-use Rattle.told_steps.specs.Ends.{column_of, columns_of}
-use Rattle.tree_evaluation.specs.declared.select.Captured.{Captured}
-use Rattle.tree_evaluation.specs.declared.select.Selected.{Selected}
-use Rattle.tree_evaluation.specs.declared.select.PartTrial.{PartTrial}
-use Rattle.tree_evaluation.specs.declared.select.CellTrial.{CellTrial}
-use Rattle.tree_evaluation.specs.declared.select.RowTrial.{RowTrial}
+pub use Rattle.told_steps.specs.Ends.{column_of, columns_of}
 use Rattle.tree_evaluation.specs.declared.telling.Telling.{Telling}
 use Rattle.tree_evaluation.specs.declared.trees.Trees.{Trees}
+pub use Rattle.dk_model.specs.declared.term.Term.{Term}
+pub use Rattle.dk_model.specs.declared.signature.Pat.{Pat}
+pub use Rattle.shared_term.specs.declared.stored.Stored.{Stored}
+pub use Rattle.tree_terms.specs.Rules.{stored_pattern, rule}
+pub use Rattle.tree_terms.specs.declared.rules.SymbolRule.{SymbolRule}
+pub use Rattle.certificate_items.specs.declared.item.Join.{Join}
+pub use Rattle.told_steps.specs.declared.told.Told.{Told}
+pub use Rattle.told_steps.specs.declared.end.End.{End}
+pub use Rattle.told_steps.specs.declared.meeting.Meeting.{Meeting}
+pub use Rattle.tree_evaluation.specs.declared.matrix.Cell.{Cell}
+pub use Rattle.tree_evaluation.specs.declared.matrix.Row.{Row}
+pub use Rattle.tree_evaluation.specs.declared.select.Captured.{Captured}
+pub use Rattle.tree_evaluation.specs.declared.select.Selected.{Selected}
+pub use Rattle.tree_evaluation.specs.declared.select.PartTrial.{PartTrial}
+pub use Rattle.tree_evaluation.specs.declared.select.CellTrial.{CellTrial}
+pub use Rattle.tree_evaluation.specs.declared.select.RowTrial.{RowTrial}
 
 -- every term is one of the reducer's
 abbrev pub owned : Trees → Term → Type 0

@@ -1,17 +1,15 @@
 //! The weak head form turn by turn, the comparison of two terms and the normal form (docs/evaluation.md).
 ghost use Rattle.std.specs.Prelude.{◌≡◌, ◌≤◌, ◌<◌, IfOk, IfSome, OnOk, Some, is_some, map};
-ghost use Rattle.dk_model.specs.Trees.{tree, bare};
 ghost use Rattle.dk_model.specs.Parts.{each_normal};
 ghost use Rattle.dk_model.specs.Spines.{head_symbol};
 ghost use Rattle.dk_model.specs.Evaluation.{whnf_of, comparison_of, normal_of, columns, rows};
 ghost use Rattle.dk_model.specs.Equations.{heads_compared};
 ghost use Rattle.signature_log.specs.Versions.{entries_of};
-ghost use Rattle.told_steps.specs.Ends.{columns_of};
 ghost use Rattle.told_steps.specs.Meetings.{AlwaysMeetIn, MeetIn};
-ghost use Rattle.told_steps.specs.Parts.{LeadsTo};
 ghost use Rattle.tree_evaluation.specs.Answers.{Answers, Leads, Spends, by_selection, form_told};
-ghost use Rattle.tree_evaluation.specs.Tellings.{Begins, Rewrites};
-ghost use Rattle.tree_evaluation.specs.Views.{row};
+ghost use Rattle.tree_evaluation.specs.Tellings.{Begins, Rewrites, LeadsTo};
+ghost use Rattle.dk_model.specs.Trees.{bare};
+ghost use Rattle.tree_evaluation.specs.Views.{row, tree, columns_of};
 
 use crate::matrix::{Row, columns_of, rows_for, width};
 use crate::select::Selected;
@@ -91,7 +89,7 @@ impl<'v> Evaluation<'v> {
 
     /// What the first rule of the head symbol that takes the arguments makes of a term, or nothing where none does.
     #[cycle(evaluation)]
-    #[tactic(auto, using(crate::proofs::Steps::selection_ends, crate::proofs::Steps::selection_stands, crate::proofs::Steps::selection_goes))]
+    #[tactic(auto, using(crate::proofs::Steps::bind_none, crate::proofs::Steps::bind_some))]
     fn rewrite(self, symbol: u32, term: &Term, left: &mut u64) -> Result<Option<Told>, Stop>
         requires { head_symbol (tree term.now) ≡ Some symbol }
         ensures gives { Leads (entries_of self.entry.version.now) (tree term.now)
@@ -206,7 +204,7 @@ impl<'v> Evaluation<'v> {
 
     /// A weak head form with each of its parts normalised, from left to right.
     #[cycle(evaluation)]
-    #[tactic(auto, using(crate::proofs::Parts::apply_ends, crate::proofs::Parts::apply_stops, crate::proofs::Parts::apply_goes, crate::proofs::Parts::bare_ends, crate::proofs::Parts::bare_goes, crate::proofs::Parts::annotated_ends, crate::proofs::Parts::annotated_stops, crate::proofs::Parts::annotated_goes, crate::proofs::Parts::product_ends, crate::proofs::Parts::product_stops, crate::proofs::Parts::product_goes))]
+    #[tactic(auto, using(crate::proofs::Steps::bind_none, crate::proofs::Steps::bind_some))]
     fn each_normal(self, value: &Term, left: &mut u64) -> Result<Told, Stop>
         ensures gives { Answers form_told
             (each_normal (normal_of (entries_of self.entry.version.now)) (tree value.now) left.old)

@@ -1,13 +1,9 @@
 //! The matrix of a selection: a row for each rule, a column for each part of the arguments (docs/evaluation.md).
-ghost use Rattle.std.specs.Prelude.{◌≡◌, ◌&&◌, eqb, ◌+◌, ◌<◌, ◌≤◌, ◌++◌, ◌∷◌, IfOk, IfSome, OnOk, length, map, take, drop, replicate};
-ghost use Rattle.std.specs.Option.{option_map};
-ghost use Rattle.dk_model.specs.Trees.{tree, symbol as symbol_tree, variable as variable_tree};
-ghost use Rattle.dk_model.specs.Spines.{head, arguments};
-ghost use Rattle.dk_model.specs.Matrix.{blank, is_rigid, rigid_at, cell_at, first_cells, opened_columns, refined_cells, refined_rows, heads_same, width, rows_for};
-ghost use Rattle.told_steps.specs.Ends.{column_of, columns_of};
-ghost use Rattle.told_steps.specs.Parts.{AlwaysLeadsTo};
-ghost use Rattle.tree_evaluation.specs.Views.{pattern_cell, plain_cell, plain_cells, at_depth, row as row_of, rule as rule_of, refined_row, cells_if};
-ghost use Rattle.tree_evaluation.specs.Tellings.{AreFirstRows, AreRefined, AreUnmoved};
+ghost use Rattle.std.specs.Prelude.{◌≡◌, ◌+◌, ◌<◌, ◌≤◌, ◌++◌, ◌∷◌, IfOk, IfSome, None, OnOk, length, map, take, drop, replicate};
+ghost use Rattle.std.specs.Option.{option_map, option_to_list};
+ghost use Rattle.dk_model.specs.Matrix.{blank, is_rigid, rigid_at, cell_at, opened_columns, refined_cells, refined_rows, width, rows_for};
+ghost use Rattle.tree_evaluation.specs.Views.{pattern_cell, plain_cell, plain_cells, at_depth, row as row_of, rule as rule_of, refined_row, cells_if, tree, column_of, columns_of};
+ghost use Rattle.tree_evaluation.specs.Tellings.{AreFirstRows, AreRefined, AreUnmoved, IsRowOf, AlwaysLeadsTo};
 
 use dk_model::{NoMemory, Pat, Term};
 use shared_term::Stored;
@@ -49,6 +45,16 @@ pub fn width(count: usize, rules: &[SymbolRule]) -> usize
     width
 }
 
+/// Puts a row behind others, where there is one.
+fn push_if<'v>(rows: &mut Vec<Row<'v>>, row: Option<Row<'v>>) -> Result<(), NoMemory>
+    ensures { OnOk result (rows.new.items ≡ rows.old.items ++ option_to_list row.entry) }
+{
+    if let Some(row) = row {
+        rows.push(row)?;
+    }
+    Ok(())
+}
+
 /// A row for each rule of at most `count` patterns.
 pub fn rows_for<'v>(
     alloc: Global,
@@ -62,28 +68,30 @@ pub fn rows_for<'v>(
 {
     let mut rows = Vec::new(alloc);
     for (from, rule) in rules.iter().enumerate() {
-        if rule.pattern_count() <= count {
-            rows.push(row_for(alloc, width, *rule, from)?)?;
-        }
+        let row = row_for(alloc, count, width, *rule, from)?;
+        push_if(&mut rows, row)?;
     }
     Ok(rows)
 }
 
-/// A rule's patterns, and nothing for the columns that are left of the `width`.
+/// A rule's patterns, and nothing for the columns that are left of the `width`; no row where it has more than `count`.
 fn row_for<'v>(
     alloc: Global,
+    count: usize,
     width: usize,
     rule: SymbolRule<'v>,
     from: usize,
-) -> Result<Row<'v>, NoMemory>
-    ensures cells { IfOk result (λ r. (row_of r).cells ≡ first_cells width (rule_of rule.entry)) }
-    ensures rule { IfOk result (λ r. r.rule ≡ rule.entry) }
-    ensures from { IfOk result (λ r. r.from ≡ from) }
+) -> Result<Option<Row<'v>>, NoMemory>
+    ensures none { IfOk result (λ row. row ≡ None → count < length (rule_of rule.entry).pats) }
+    ensures some { IfOk result (λ row. IfSome row (IsRowOf width count from rule.entry)) }
 {
+    if count < rule.pattern_count() {
+        return Ok(None);
+    }
     let mut cells = cells_of(alloc, rule.patterns())?;
     let mut behind = blanks(alloc, width.saturating_sub(rule.pattern_count()))?;
     cells.append(&mut behind)?;
-    Ok(Row { cells, rule, from })
+    Ok(Some(Row { cells, rule, from }))
 }
 
 /// A cell for each pattern.
@@ -98,14 +106,11 @@ fn cells_of<'v>(alloc: Global, patterns: &'v [Pat<Stored>]) -> Result<Vec<Cell<'
 }
 
 /// Cells that ask for nothing.
+#[tactic(auto, using(crate::proofs::Rows::blank_cells))]
 fn blanks<'v>(alloc: Global, count: usize) -> Result<Vec<Cell<'v>>, NoMemory>
     ensures { IfOk result (λ cells. plain_cells cells.items ≡ replicate count blank) }
 {
-    let mut cells = Vec::new(alloc);
-    for _i in 0..count {
-        cells.push(Cell::Blank)?;
-    }
-    Ok(cells)
+    Ok(vec![in alloc; Cell::Blank; count]?)
 }
 
 /// Cells behind one.
@@ -127,12 +132,8 @@ pub fn is_rigid(cell: Cell) -> bool
     match cell {
         Cell::Blank => false,
         Cell::Pattern(pattern) => match pattern {
-            Pat::Rvar(..) => false,
-            Pat::Any => false,
-            Pat::Guard(_) => false,
-            Pat::Sym(..) => true,
-            Pat::Var(..) => true,
-            Pat::Abs(_) => true,
+            Pat::Rvar(..) | Pat::Any | Pat::Guard(_) => false,
+            Pat::Sym(..) | Pat::Var(..) | Pat::Abs(_) => true,
         },
     }
 }
@@ -251,22 +252,6 @@ fn opened_if<'v>(
     Ok(Some(behind_cell(alloc, Cell::Blank, parts)?))
 }
 
-/// Whether a value has this symbol at its head, and as many arguments as there are patterns.
-fn takes_symbol(value: &Term, symbol: u32, patterns: &[Pat<Stored>]) -> bool
-    ensures { result ≡ (heads_same (head (tree value.now)) (symbol_tree symbol)
-        && eqb (length (arguments (tree value.now))) (length patterns.now)) }
-{
-    is_applied(value, &Term::Sym(symbol), patterns.len())
-}
-
-/// The same of a variable.
-fn takes_variable(value: &Term, variable: u32, patterns: &[Pat<Stored>]) -> bool
-    ensures { result ≡ (heads_same (head (tree value.now)) (variable_tree variable)
-        && eqb (length (arguments (tree value.now))) (length patterns.now)) }
-{
-    is_applied(value, &Term::Var(u64::from(variable)), patterns.len())
-}
-
 /// This cell, and nothing for each of `count` parts.
 fn kept_cells<'v>(alloc: Global, cell: Cell<'v>, count: usize) -> Result<Vec<Cell<'v>>, NoMemory>
     ensures { IfOk result (λ cells. plain_cells cells.items
@@ -290,12 +275,12 @@ fn pattern_refined<'v>(
     match pattern {
         Pat::Sym(k, patterns) => {
             let patterns = patterns.as_slice();
-            let taken = takes_symbol(value, *k, patterns);
+            let taken = is_applied(value, &Term::Sym(*k), patterns.len());
             Ok(opened_if(alloc, taken, patterns)?)
         }
         Pat::Var(k, patterns) => {
             let patterns = patterns.as_slice();
-            let taken = takes_variable(value, *k, patterns);
+            let taken = is_applied(value, &Term::Var(u64::from(*k)), patterns.len());
             Ok(opened_if(alloc, taken, patterns)?)
         }
         Pat::Abs(body) => match body_of(value) {
@@ -305,9 +290,9 @@ fn pattern_refined<'v>(
             }
             None => Ok(None),
         },
-        Pat::Rvar(..) => Ok(Some(kept_cells(alloc, Cell::Pattern(pattern), count)?)),
-        Pat::Any => Ok(Some(kept_cells(alloc, Cell::Pattern(pattern), count)?)),
-        Pat::Guard(_) => Ok(Some(kept_cells(alloc, Cell::Pattern(pattern), count)?)),
+        Pat::Rvar(..) | Pat::Any | Pat::Guard(_) => {
+            Ok(Some(kept_cells(alloc, Cell::Pattern(pattern), count)?))
+        }
     }
 }
 
@@ -389,9 +374,8 @@ pub fn refined_rows<'v>(
 {
     let mut kept = Vec::new(alloc);
     for (from, row) in rows.iter().enumerate() {
-        if let Some(row) = refined_row(alloc, value, count, at, row, from)? {
-            kept.push(row)?;
-        }
+        let row = refined_row(alloc, value, count, at, row, from)?;
+        push_if(&mut kept, row)?;
     }
     Ok(kept)
 }

@@ -1,16 +1,14 @@
 //! Selection: which rule of a symbol takes the arguments, and with what captures (docs/evaluation.md).
-ghost use Rattle.std.specs.Prelude.{suc, ◌≡◌, ◌≤◌, ◌∷◌, ◌++◌, [], IfOk, IfSome, OnOk, None, is_some, map, replicate};
+ghost use Rattle.std.specs.Prelude.{◌≡◌, ◌≤◌, ◌∷◌, ◌++◌, [], IfOk, IfSome, OnOk, None, is_some, map, replicate};
+ghost use Rattle.std.specs.Option.{option_map};
 ghost use Rattle.signature_log.specs.Versions.{entries_of};
-ghost use Rattle.dk_model.specs.Trees.{tree};
 ghost use Rattle.dk_model.specs.Signatures.{maybe_tree};
 ghost use Rattle.dk_model.specs.Evaluation.{normal_of, comparison_of};
 ghost use Rattle.dk_model.specs.Equations.{selection_of};
 ghost use Rattle.dk_model.specs.Selection.{row_taken, captures_of_row, cell_captures, part_at, recorded, guards_hold};
-ghost use Rattle.told_steps.specs.Ends.{column_of, columns_of};
 ghost use Rattle.tree_evaluation.specs.Answers.{Answers, by_value, guard_of};
-ghost use Rattle.tree_evaluation.specs.Selecting.{CapturesNew, CellTold, Folded, GuardTold, GuardsTold, PartTold, RecordTold, RowTold, RowTaken};
-ghost use Rattle.tree_evaluation.specs.Tellings.{Selects};
-ghost use Rattle.tree_evaluation.specs.Views.{captures_of, capturing, plain_cell, plain_cells, row as row_of, selected, part_trial, cell_trial, row_trial};
+ghost use Rattle.tree_evaluation.specs.Tellings.{Selects, CapturesNew, CellTold, Folded, GuardTold, GuardsTold, PartTold, RecordTold, RowTold, RowTaken, next_place};
+ghost use Rattle.tree_evaluation.specs.Views.{captures_of, capturing, plain_cell, plain_cells, row as row_of, selected, part_trial, cell_trial, row_trial, tree, column_of, columns_of};
 
 use crate::evaluation::{Evaluation, deeper};
 use crate::matrix::{
@@ -67,7 +65,7 @@ pub struct RowTrial {
 impl<'v> Evaluation<'v> {
     /// The first row that takes the columns.
     #[cycle(evaluation)]
-    #[tactic(auto, using(crate::proofs::Choosing::no_rows, crate::proofs::Choosing::loose, crate::proofs::Choosing::row_asks, crate::proofs::Choosing::fails, crate::proofs::Steps::bind_none, crate::proofs::Steps::bind_some))]
+    #[tactic(auto, using(crate::proofs::Selecting::no_rows, crate::proofs::Selecting::loose, crate::proofs::Selecting::row_asks, crate::proofs::Selecting::fails, crate::proofs::Steps::bind_none, crate::proofs::Steps::bind_some))]
     pub fn select(
         self,
         rows: &[Row<'v>],
@@ -78,8 +76,8 @@ impl<'v> Evaluation<'v> {
             (selection_of (entries_of self.entry.version.now) left.old (columns_of columns)
             (map row_of rows.now)) result left.new }
         ensures spent { left.new ≤ left.old }
-        ensures told { IfOk result (λ it. IfSome it
-            (Selects (entries_of self.entry.version.now) rows.now columns)) }
+        ensures told { IfOk result
+            (Selects (entries_of self.entry.version.now) rows.now columns) }
     {
         let inner = Evaluation {
             depth: deeper(self.depth)?,
@@ -93,11 +91,17 @@ impl<'v> Evaluation<'v> {
             None => {
                 let RowTrial { captured, columns } = inner.row_taken(row, columns, left)?;
                 match captured {
-                    Some(captured) => Ok(Some(first_taken(row, captured, columns))),
-                    None => match inner.select(rest, columns, left)? {
-                        Some(selected) => Ok(Some(behind_first(selected)?)),
-                        None => Ok(None),
-                    },
+                    Some(captured) => Ok(Some(Selected {
+                        captures: captured.captures,
+                        rule: row.rule,
+                        place: 0,
+                        ends: columns,
+                        joins: captured.joins,
+                    })),
+                    None => {
+                        let selected = inner.select(rest, columns, left)?;
+                        Ok(behind_first(selected)?)
+                    }
                 }
             }
         }
@@ -105,7 +109,7 @@ impl<'v> Evaluation<'v> {
 
     /// The same where the first row asks for the head of the column at `at`.
     #[cycle(evaluation)]
-    #[tactic(auto, using(crate::proofs::Choosing::past_columns, crate::proofs::Choosing::no_column, crate::proofs::Choosing::value_ends))]
+    #[tactic(auto, using(crate::proofs::Selecting::past_columns, crate::proofs::Selecting::no_column, crate::proofs::Selecting::value_ends))]
     fn select_by_value(
         self,
         at: usize,
@@ -117,8 +121,8 @@ impl<'v> Evaluation<'v> {
             (by_value (entries_of self.entry.version.now) at (map row_of rows.now)
             (columns_of columns) left.old) result left.new }
         ensures spent { left.new ≤ left.old }
-        ensures told { IfOk result (λ it. IfSome it
-            (Selects (entries_of self.entry.version.now) rows.now columns)) }
+        ensures told { IfOk result
+            (Selects (entries_of self.entry.version.now) rows.now columns) }
     {
         let mut columns = columns;
         if at > columns.len() {
@@ -137,14 +141,10 @@ impl<'v> Evaluation<'v> {
             told: unmoved(self.alloc, value.form.copy(self.alloc)?),
         };
         let columns = joined(columns, own, parts, behind)?;
-        match self.select(kept.as_slice(), columns, left)? {
-            Some(deeper) => {
-                let told = followed(told, value)?;
-                let kept = kept.as_slice();
-                Ok(Some(folded(self.alloc, at, depth, told, rows, kept, deeper)?))
-            }
-            None => Ok(None),
-        }
+        let kept = kept.as_slice();
+        let deeper = self.select(kept, columns, left)?;
+        let told = followed(told, value)?;
+        Ok(folded(self.alloc, at, depth, told, rows, kept, deeper)?)
     }
 
     /// Whether a row that asks for no head is taken: its captures, and then its guards.
@@ -316,7 +316,7 @@ impl<'v> Evaluation<'v> {
     /// captured before. No rule of a signature has a variable that it doesn't count; of one that has,
     /// nothing is said, as of want of memory.
     #[cycle(evaluation)]
-    #[tactic(auto, using(crate::proofs::Matched::recorded_new, crate::proofs::Matched::recorded_ends, crate::proofs::Matched::recorded_again))]
+    #[tactic(auto, using(crate::proofs::Selecting::recorded_new, crate::proofs::Selecting::recorded_ends, crate::proofs::Selecting::recorded_again))]
     fn recorded(
         self,
         captured: Captured,
@@ -342,7 +342,7 @@ impl<'v> Evaluation<'v> {
 
     /// Whether the guards of a row hold, in order: if so, what joins them.
     #[cycle(evaluation)]
-    #[tactic(auto, using(crate::proofs::Guards::guard_ends, crate::proofs::Guards::guard_fails, crate::proofs::Guards::guard_met))]
+    #[tactic(auto, using(crate::proofs::Selecting::guard_first, crate::proofs::Steps::bind_none, crate::proofs::Steps::bind_some))]
     fn guards_hold(
         self,
         cells: &[Cell],
@@ -413,40 +413,17 @@ impl<'v> Evaluation<'v> {
     }
 }
 
-/// The first row, which is taken.
-fn first_taken<'v>(row: &Row<'v>, captured: Captured, ends: LinkedList<End>) -> Selected<'v>
-    ensures { result ≡ record {
-      captures = captured.captures;
-      rule = row.now.rule;
-      place = 0;
-      ends = ends;
-      joins = captured.joins;
-    } }
+/// A selection behind a first row that isn't taken.
+fn behind_first<'v>(selected: Option<Selected<'v>>) -> Result<Option<Selected<'v>>, NoMemory>
+    ensures { IfOk result (λ it. it ≡ option_map next_place selected.entry) }
 {
-    let Captured { captures, joins } = captured;
-    Selected {
-        captures,
-        rule: row.rule,
-        place: 0,
-        ends,
-        joins,
-    }
-}
-
-/// A row that is taken behind another one.
-fn behind_first<'v>(selected: Selected<'v>) -> Result<Selected<'v>, NoMemory>
-    ensures { IfOk result (λ it. it ≡ record {
-      captures = selected.entry.captures;
-      rule = selected.entry.rule;
-      place = suc selected.entry.place;
-      ends = selected.entry.ends;
-      joins = selected.entry.joins;
-    }) }
-{
+    let Some(selected) = selected else {
+        return Ok(None);
+    };
     let Some(place) = selected.place.checked_add(1) else {
         return Err(NoMemory);
     };
-    Ok(Selected { place, ..selected })
+    Ok(Some(Selected { place, ..selected }))
 }
 
 /// A selection among the rows that are kept for a value, as one among those that these come from.
@@ -457,12 +434,14 @@ fn folded<'v>(
     told: Told,
     rows: &[Row<'v>],
     kept: &[Row<'v>],
-    deeper: Selected<'v>,
-) -> Result<Selected<'v>, NoMemory>
-    ensures captures { IfOk result (λ it. it.captures ≡ deeper.entry.captures) }
-    ensures rule { IfOk result (λ it. it.rule ≡ deeper.entry.rule) }
+    deeper: Option<Selected<'v>>,
+) -> Result<Option<Selected<'v>>, NoMemory>
+    ensures selected { IfOk result (λ it. selected it ≡ selected deeper.entry) }
     ensures told { IfOk result (Folded at depth told rows.now kept.now deeper.entry) }
 {
+    let Some(deeper) = deeper else {
+        return Ok(None);
+    };
     let Some(own) = kept.get(deeper.place) else {
         return Err(NoMemory);
     };
@@ -478,13 +457,13 @@ fn folded<'v>(
         rigid,
     };
     let ends = fold_value(alloc, opened, deeper.ends)?;
-    Ok(Selected {
+    Ok(Some(Selected {
         captures: deeper.captures,
         rule: deeper.rule,
         place,
         ends,
         joins: deeper.joins,
-    })
+    }))
 }
 
 /// The captures with one for this variable.

@@ -1,14 +1,9 @@
 use Rattle.std.proofs.Common.{List, ◌≡◌, ◌∙◌, ap, map, take, length, subst as along, sym as flip}
-use Rattle.dk_model.specs.PlainTerms.{Tree}
-use Rattle.dk_model.specs.Trees.{tree}
 use Rattle.dk_model.specs.Spines.{arguments}
 use Rattle.dk_model.specs.Matrix.{width}
-use Rattle.dk_model.specs.declared.term.Term.{Term}
+use Rattle.tree_evaluation.specs.Views.{Term, SymbolRule, at_depth, rule, Tree, tree, columns_of}
 use Rattle.signature_log.specs.Versions.{entries_of}
-use Rattle.tree_terms.specs.declared.rules.SymbolRule.{SymbolRule}
-use Rattle.told_steps.specs.Ends.{columns_of, first_columns}
-use Rattle.tree_evaluation.specs.Views.{at_depth, rule}
-use Rattle.tree_evaluation.specs.Tellings.{AreFirstRows}
+use Rattle.tree_evaluation.specs.Tellings.{AreFirstRows, first_columns}
 use Rattle.tree_evaluation.proofs.Lists.{counted, first_mapped}
 use Rattle.tree_evaluation.proofs.Rewriting.{begins}
 use Rattle.tree_evaluation.proofs.evaluation.matrix_of.Goals as goal

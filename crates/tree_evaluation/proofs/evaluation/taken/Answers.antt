@@ -1,10 +1,8 @@
 use Rattle.std.proofs.Common.{List, Option, ◌≡◌, ◌∙◌, ap, map, refl, length}
 use Rattle.std.proofs.lemmas.Option.{slice_get_read}
-use Rattle.dk_model.specs.Trees.{tree}
 use Rattle.dk_model.specs.Signatures.{maybe_tree}
 use Rattle.dk_model.specs.Captures.{filled}
-use Rattle.dk_model.specs.declared.term.Term.{Term}
-use Rattle.tree_evaluation.specs.Views.{rule, captures_of}
+use Rattle.tree_evaluation.specs.Views.{Term, rule, captures_of, tree}
 use Rattle.tree_evaluation.proofs.Rewriting.{rewrites}
 use Rattle.tree_evaluation.proofs.evaluation.taken.Goals as goal
 

@@ -1,6 +1,6 @@
 use Rattle.std.proofs.Common.{arith}
 use Rattle.std.proofs.lemmas.Grind.{common_steps}
-use Rattle.tree_evaluation.proofs.Unmoved.{more_unmoved}
+use Rattle.tree_evaluation.proofs.Lists.{more_unmoved}
 use Rattle.tree_evaluation.proofs.matrix.columns_of.Goals as goal
 
 pub loop-term-preserved : goal.loop-term-preserved

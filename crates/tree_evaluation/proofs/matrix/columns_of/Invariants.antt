@@ -1,7 +1,5 @@
 use Rattle.std.proofs.Common.{◌≡◌, map, take}
-use Rattle.dk_model.specs.Trees.{tree}
-use Rattle.told_steps.specs.Ends.{columns_of}
-use Rattle.tree_evaluation.specs.Views.{at_depth}
+use Rattle.tree_evaluation.specs.Views.{at_depth, tree, columns_of}
 use Rattle.tree_evaluation.specs.Tellings.{AreUnmoved}
 use Rattle.tree_evaluation.proofs.matrix.columns_of.Given as goal
 

@@ -1,5 +1,4 @@
-use Rattle.std.proofs.Common.{◌≡◌, None}
-use Rattle.std.specs.Prelude.{replicate}
+use Rattle.std.proofs.Common.{◌≡◌, None, replicate}
 use Rattle.tree_evaluation.specs.Views.{captures_of}
 use Rattle.tree_evaluation.proofs.select.nothing_captured.Given as goal
 

@@ -1,42 +1,22 @@
-use Rattle.std.proofs.Common.{◌≡◌, ◌∙◌, ◌∷◌, ◌≤◌, ◌-◌, List, [], ℕ, Option, Some, None, get_or, ap, subst as along, map, take, drop, length, refl, sym as flip, arith}
-use Rattle.std.specs.Prelude.{IfSome}
+use Rattle.std.proofs.Common.{◌≡◌, ◌∙◌, ◌∷◌, ◌≤◌, ◌-◌, List, [], ℕ, Option, Some, None, get_or, ap, subst as along, map, take, drop, length, refl, sym as flip, arith, IfSome, take_all}
 use Rattle.std.proofs.lemmas.Grind.{common_steps}
-use Rattle.std.proofs.lemmas.List.{take_all}
-use Rattle.dk_model.specs.Trees.{Tree, tree, apply, bare, product}
+use Rattle.dk_model.specs.Trees.{apply, bare, product}
 use Rattle.dk_model.specs.Spines.{head_symbol}
 use Rattle.dk_model.specs.Evaluation.{rewritten}
 use Rattle.dk_model.specs.Substitution.{shift}
 use Rattle.dk_model.specs.Signatures.{PlainSignature, maybe_tree, rule_variable_pattern, guard_pattern}
-use Rattle.dk_model.specs.Matrix.{rigid_at, refined_rows, blank, cell as asks}
-use Rattle.dk_model.specs.Matrix.{Cell as PlainCell}
+use Rattle.dk_model.specs.Matrix.{rigid_at, blank, cell as asks, Cell as PlainCell}
 use Rattle.dk_model.specs.Captures.{Captures, capture_at}
 use Rattle.dk_model.specs.Selection.{Selected as PlainSelected}
-use Rattle.dk_model.specs.Evaluation.{comparison_of, normal_of}
 use Rattle.dk_model.specs.Equations.{selection_of}
-use Rattle.dk_model.specs.declared.term.Term.{Term}
-use Rattle.std.specs.declared.vec.Vec.{Vec}
-use Rattle.std.specs.declared.alloc.Global.{Global}
-use Rattle.tree_terms.specs.declared.rules.SymbolRule.{SymbolRule}
+use Rattle.tree_evaluation.specs.Views.{Term, Join, Told, End, Meeting, Cell, Row, Captured, RowTrial, Selected, at_depth, pattern_cell, plain_cell, plain_cells, captures_of, row, selected, plain_selected, Tree, tree, columns_of}
 use Rattle.signature_log.specs.Versions.{entries_of}
-use Rattle.certificate_items.specs.declared.item.Join.{Join}
-use Rattle.told_steps.specs.Parts.{LeadsTo, AlwaysLeadsTo}
 use Rattle.told_steps.specs.Meetings.{MeetIn}
-use Rattle.told_steps.specs.Ends.{column_of, columns_of}
-use Rattle.told_steps.specs.declared.told.Told.{Told}
-use Rattle.told_steps.specs.declared.end.End.{End}
-use Rattle.told_steps.specs.declared.meeting.Meeting.{Meeting}
-use Rattle.tree_evaluation.specs.declared.matrix.Cell.{Cell}
-use Rattle.tree_evaluation.specs.declared.matrix.Row.{Row}
-use Rattle.tree_evaluation.specs.declared.select.Captured.{Captured}
-use Rattle.tree_evaluation.specs.declared.select.RowTrial.{RowTrial}
-use Rattle.tree_evaluation.specs.declared.select.Selected.{Selected}
-use Rattle.tree_evaluation.specs.Tellings.{Begins, Rewrites, Selects}
-use Rattle.tree_evaluation.specs.Selecting.{CellTold, RowTold, GuardTold, GuardsTold, RowTaken, Folded}
-use Rattle.tree_evaluation.specs.Views.{pattern_cell, plain_cell, plain_cells, captures_of, row, rule, selected, plain_selected}
-use Rattle.tree_evaluation.proofs.Taking.{still_one, recorded_first, recorded_met, IsNoVariable, no_variable, cell_due, other_cell, IsNoGuard, no_guard, guard_due, other_guard, part_recorded, cell_fails, cell_goes, guard_joined, guards_joined, row_takes}
+use Rattle.tree_evaluation.specs.Tellings.{Begins, Rewrites, Selects, CellTold, RowTold, GuardTold, GuardsTold, RowTaken, Folded, LeadsTo, AlwaysLeadsTo}
+use Rattle.tree_evaluation.proofs.Taking.{still_one, recorded_first, recorded_met, IsNoVariable, no_variable, other_cell, IsNoGuard, no_guard, other_guard, part_recorded, cell_fails, cell_goes, guard_joined, guards_joined, row_takes}
 use Rattle.tree_evaluation.proofs.Rewriting.{rewrite_goes}
-use Rattle.tree_evaluation.proofs.Leading.{equal_meet, meet_around, meet_together}
-use Rattle.tree_evaluation.proofs.Selecting.{first_selects, next_selects, value_selects, row_skipped, value_due}
+use Rattle.tree_evaluation.proofs.Comparing.{equal_meet, meet_around, meet_together}
+use Rattle.tree_evaluation.proofs.Selecting.{first_selects, next_selects, next_shown, value_selects, row_skipped, value_goes}
 use Rattle.tree_evaluation.proofs.evaluation.Evaluation.+evaluation.Goals as goal
 
 -- ---- cells
@@ -72,18 +52,14 @@ captures_of_row-returns-in_ok-behind_column-in-None-clause-told t c =
 
 pub cell_captures-returns-in_default-clause-told : goal.cell_captures-returns-in_default-clause-told
 cell_captures-returns-in_default-clause-told t c = along (λ (cell : Cell). CellTold (entries_of c.args.self.version.now) (plain_cell cell) c.args.column c.args.captured (record { captured = Some c.args.captured; column = c.args.column }))
-    (flip c.in_default.is) (other_cell (entries_of c.args.self.version.now) blank c.args.column c.args.captured tt)
+    (flip c.in_default.is) (other_cell (entries_of c.args.self.version.now) blank c.args.column c.args.captured c.args.left.now tt).1
 
 pub cell_captures-returns-in_default-pattern : goal.cell_captures-returns-in_default-pattern
 cell_captures-returns-in_default-pattern t c =
     let S : PlainSignature = entries_of c.args.self.version.now in
     let is : plain_cell c.args.cell ≡ pattern_cell c.in-Pattern.pattern.now = ap plain_cell c.in-Pattern.is in
-    let other : IsNoVariable (entries_of c.args.self.version.now) (plain_cell c.args.cell) = along (IsNoVariable S) (flip is) (no_variable S c.in-Pattern.pattern.now c.in_default-pattern.not-Rvar) in
-    record {
-      gives = cell_due S (normal_of S) (comparison_of S) (plain_cell c.args.cell) (column_of c.args.column) c.args.left.now (captures_of c.args.captured.captures) other;
-      spent = omega arith;
-      told = other_cell S (plain_cell c.args.cell) c.args.column c.args.captured other;
-    }
+    let passes = other_cell S (plain_cell c.args.cell) c.args.column c.args.captured c.args.left.now (along (IsNoVariable S) (flip is) (no_variable S c.in-Pattern.pattern.now c.in_default-pattern.not-Rvar)) in
+    record { gives = passes.0; spent = omega arith; told = passes.1 }
 
 pub cell_captures-returns-then-not-fits-clause-told : goal.cell_captures-returns-then-not-fits-clause-told
 cell_captures-returns-then-not-fits-clause-told t c = λ r.
@@ -105,12 +81,11 @@ guard_holds-returns-in_default-pattern t c =
     let S : PlainSignature = entries_of c.args.self.version.now in
     let cs : Captures = map maybe_tree c.args.captures.now in
     let is : plain_cell c.args.cell ≡ pattern_cell c.in-Pattern.pattern.now = ap plain_cell c.in-Pattern.is in
-    let other : IsNoGuard (entries_of c.args.self.version.now) (plain_cell c.args.cell) = along (IsNoGuard S) (flip is) (no_guard S c.in-Pattern.pattern.now c.in_default-pattern.not-Guard) in
+    let passes = other_guard S (plain_cell c.args.cell) c.args.column.now c.args.left.now cs (along (IsNoGuard S) (flip is) (no_guard S c.in-Pattern.pattern.now c.in_default-pattern.not-Guard)) in
     record {
-      gives = guard_due S (plain_cell c.args.cell) (column_of c.args.column.now) c.args.left.now cs other;
+      gives = passes.0;
       spent = omega arith;
-      told = along (λ (joins : List Join). GuardTold S (plain_cell c.args.cell) c.args.column.now cs joins) (flip c.new-in_default-pattern.ensures)
-          (other_guard S (plain_cell c.args.cell) c.args.column.now cs other);
+      told = along (λ (joins : List Join). GuardTold S (plain_cell c.args.cell) c.args.column.now cs joins) (flip c.new-in_default-pattern.ensures) passes.1;
     }
 
 pub guard_holds-returns-in-Some-clause-told : goal.guard_holds-returns-in-Some-clause-told
@@ -192,112 +167,67 @@ pub select-returns-in-Some-captured-clause-told : goal.select-returns-in-Some-ca
 select-returns-in-Some-captured-clause-told t c =
     let S : PlainSignature = entries_of c.args.self.version.now in
     let loose : rigid_at (row c.row-item.result).cells ≡ None = loose_row c.row-item.result c.as_slice.result.now c.rigid_at.result c.as_slice.ensures.value c.rigid_at.ensures.value c.in-None.is in
-    along (λ (rows : List Row). Selects S rows c.args.columns c.first_taken.result) (flip (headed c.args.rows.now c.row-item.result c.in-len1-up.len_at_least c.row-item.is))
-    (first_selects S c.row-item.result (behind c.args.rows.now) c.args.columns c.in_ok-captured-in-None.field-0 c.in_ok-captured-in-None.ensures.told loose
-    c.in-Some-captured.captured c.first_taken.result c.in-Some-captured.is c.first_taken.ensures)
+    let captured : Captured = c.in-Some-captured.captured in
+    let it : Selected = record { captures = captured.captures; rule = c.row-item.result.rule; place = 0; ends = c.in_ok-captured-in-None.field-0.columns; joins = captured.joins } in
+    along (λ (rows : List Row). Selects S rows c.args.columns (Some it)) (flip (headed c.args.rows.now c.row-item.result c.in-len1-up.len_at_least c.row-item.is))
+    (first_selects S c.row-item.result (behind c.args.rows.now) c.args.columns c.in_ok-captured-in-None.field-0 c.in_ok-captured-in-None.ensures.told loose captured it c.in-Some-captured.is refl)
 
-pub select-returns-in_ok-behind_first-in-Some-2-clause-gives : goal.select-returns-in_ok-behind_first-in-Some-2-clause-gives
-select-returns-in_ok-behind_first-in-Some-2-clause-gives t c =
+pub select-returns-in_ok-behind_first-in-None-captured : goal.select-returns-in_ok-behind_first-in-None-captured
+select-returns-in_ok-behind_first-in-None-captured t c =
     let S : PlainSignature = entries_of c.args.self.version.now in
     let loose : rigid_at (row c.row-item.result).cells ≡ None = loose_row c.row-item.result c.as_slice.result.now c.rigid_at.result c.as_slice.ensures.value c.rigid_at.ensures.value c.in-None.is in
-    row_skipped S c.args.left.now c.row_taken.new.left c.args.columns c.args.rows.now (behind c.args.rows.now) c.row-item.result c.in_ok-captured-in-None.field-0
-    (headed c.args.rows.now c.row-item.result c.in-len1-up.len_at_least c.row-item.is) loose c.in_ok-captured-in-None.ensures.gives c.in-None-captured.is
-    ∙ c.in_ok-selected-in-None-captured.ensures.gives ∙ ap (λ (o : Option Selected). Some (selected o, c.select.new.left)) c.in-Some-2.is
-    ∙ ap (λ (p : PlainSelected). Some (Some p, c.select.new.left)) (flip (ap plain_selected c.in_ok-behind_first-in-Some-2.ensures))
-
-pub select-returns-in_ok-behind_first-in-Some-2-clause-told : goal.select-returns-in_ok-behind_first-in-Some-2-clause-told
-select-returns-in_ok-behind_first-in-Some-2-clause-told t c =
-    let S : PlainSignature = entries_of c.args.self.version.now in
-    let loose : rigid_at (row c.row-item.result).cells ≡ None = loose_row c.row-item.result c.as_slice.result.now c.rigid_at.result c.as_slice.ensures.value c.rigid_at.ensures.value c.in-None.is in
-    let after : Selected = c.in_ok-behind_first-in-Some-2.field-0 in
-    along (λ (rows : List Row). Selects S rows c.args.columns after) (flip (headed c.args.rows.now c.row-item.result c.in-len1-up.len_at_least c.row-item.is))
-    (next_selects S c.row-item.result (behind c.args.rows.now) c.args.columns c.in_ok-captured-in-None.field-0 c.in_ok-captured-in-None.ensures.told loose
-    c.in-Some-2.selected after
-    (along (λ (o : Option Selected). IfSome o (Selects S (behind c.args.rows.now) c.in_ok-captured-in-None.field-0.columns)) c.in-Some-2.is c.in_ok-selected-in-None-captured.ensures.told)
-    c.in_ok-behind_first-in-Some-2.ensures)
-
-pub select-returns-in-None-2-clause-gives : goal.select-returns-in-None-2-clause-gives
-select-returns-in-None-2-clause-gives t c =
-    let S : PlainSignature = entries_of c.args.self.version.now in
-    let loose : rigid_at (row c.row-item.result).cells ≡ None = loose_row c.row-item.result c.as_slice.result.now c.rigid_at.result c.as_slice.ensures.value c.rigid_at.ensures.value c.in-None.is in
-    row_skipped S c.args.left.now c.row_taken.new.left c.args.columns c.args.rows.now (behind c.args.rows.now) c.row-item.result c.in_ok-captured-in-None.field-0
-    (headed c.args.rows.now c.row-item.result c.in-len1-up.len_at_least c.row-item.is) loose c.in_ok-captured-in-None.ensures.gives c.in-None-captured.is
-    ∙ c.in_ok-selected-in-None-captured.ensures.gives ∙ ap (λ (o : Option Selected). Some (selected o, c.select.new.left)) c.in-None-2.is
+    let rest : List Row = behind c.args.rows.now in
+    let rows : c.args.rows.now ≡ c.row-item.result ∷ behind c.args.rows.now = headed c.args.rows.now c.row-item.result c.in-len1-up.len_at_least c.row-item.is in
+    let o : Option Selected = c.in_ok-selected-in-None-captured.selected in
+    let after : Option Selected = c.in_ok-behind_first-in-None-captured.field-0 in
+    record {
+      gives = row_skipped S c.args.left.now c.row_taken.new.left c.args.columns c.args.rows.now rest c.row-item.result c.in_ok-captured-in-None.field-0 rows loose c.in_ok-captured-in-None.ensures.gives c.in-None-captured.is
+          ∙ c.in_ok-selected-in-None-captured.ensures.gives ∙ ap (λ (p : Option PlainSelected). Some (p, c.select.new.left)) (flip (next_shown o after c.in_ok-behind_first-in-None-captured.ensures));
+      spent = omega arith;
+      told = along (λ (rs : List Row). Selects S rs c.args.columns after) (flip rows)
+          (next_selects S c.row-item.result rest c.args.columns c.in_ok-captured-in-None.field-0 c.in_ok-captured-in-None.ensures.told loose o after
+          c.in_ok-selected-in-None-captured.ensures.told c.in_ok-behind_first-in-None-captured.ensures);
+    }
 
 -- ---- the value of a column
 
-same_selected : (deeper it : Selected) → it.captures ≡ deeper.captures → it.rule ≡ deeper.rule → plain_selected it ≡ plain_selected deeper
-same_selected deeper it c r = ap (λ (captures : Vec (Option Term) Global). record { captures = captures_of captures; rule = rule it.rule }) c
-    ∙ ap (λ (own : SymbolRule). record { captures = captures_of deeper.captures; rule = rule own }) r
-
-pub select_by_value-returns-clause-gives : goal.select_by_value-returns-clause-gives
-select_by_value-returns-clause-gives t c =
-    let S : PlainSignature = entries_of c.args.self.version.now in
-    let column : End = c.in-Some.column in
-    let v : Tree = tree c.in_ok-value.value.form in
-    let own : column_of (record { depth = c.in-Some.column.depth; told = c.unmoved.result }) ≡ record { depth = c.in-Some.column.depth; term = tree c.in_ok-value.value.form } =
-    ap (λ (x : Tree). record { depth = c.in-Some.column.depth; term = x }) (c.unmoved.ensures.form ∙ c.in_ok-copy.ensures) in
-    let kept : map row c.as_slice.result.now ≡ refined_rows (tree c.in_ok-value.value.form) c.len-2.result c.args.at (map row c.args.rows.now) = ap (map row) c.as_slice.ensures.value ∙ c.in_ok-kept.ensures.rows in
-    let f = value_due S c.args.left.now c.whnf.new.left c.args.at c.len-2.result v c.args.columns c.cut.new.columns c.pop_front.new.self c.in_ok-parts.parts c.in_ok-columns.columns
-    column (record { depth = column.depth; told = c.unmoved.result }) c.args.rows.now c.as_slice.result.now c.in_ok-behind.ensures.before
-    (flip c.in_ok-behind.ensures.behind ∙ c.in-Some.ensures.items) c.in_ok-value.ensures.gives own c.in_ok-parts.ensures.columns c.in_ok-columns.ensures c.len-2.ensures.value kept in
-    f ∙ c.in_ok-deeper.ensures.gives ∙ ap (λ (o : Option Selected). Some (selected o, c.select.new.left)) c.in-None.is
-
 pub select_by_value-returns-in_err-deeper-clause-gives : goal.select_by_value-returns-in_err-deeper-clause-gives
 select_by_value-returns-in_err-deeper-clause-gives t c =
-    let S : PlainSignature = entries_of c.args.self.version.now in
-    let column : End = c.in-Some.column in
-    let v : Tree = tree c.in_ok-value.value.form in
-    let own : column_of (record { depth = c.in-Some.column.depth; told = c.unmoved.result }) ≡ record { depth = c.in-Some.column.depth; term = tree c.in_ok-value.value.form } =
-    ap (λ (x : Tree). record { depth = c.in-Some.column.depth; term = x }) (c.unmoved.ensures.form ∙ c.in_ok-copy.ensures) in
-    let kept : map row c.as_slice.result.now ≡ refined_rows (tree c.in_ok-value.value.form) c.len-2.result c.args.at (map row c.args.rows.now) = ap (map row) c.as_slice.ensures.value ∙ c.in_ok-kept.ensures.rows in
-    let f = value_due S c.args.left.now c.whnf.new.left c.args.at c.len-2.result v c.args.columns c.cut.new.columns c.pop_front.new.self c.in_ok-parts.parts c.in_ok-columns.columns
-    column (record { depth = column.depth; told = c.unmoved.result }) c.args.rows.now c.as_slice.result.now c.in_ok-behind.ensures.before
-    (flip c.in_ok-behind.ensures.behind ∙ c.in-Some.ensures.items) c.in_ok-value.ensures.gives own c.in_ok-parts.ensures.columns c.in_ok-columns.ensures c.len-2.ensures.value kept in
+    let f = value_goes (entries_of c.args.self.version.now) c.args.columns (map row c.args.rows.now) c.args.at c.args.left.now c.in-Some.column (record { depth = c.in-Some.column.depth; told = c.unmoved.result }) (tree c.in_ok-value.value.form)
+    c.whnf.new.left c.len-2.result c.cut.new.columns c.pop_front.new.self c.in_ok-parts.parts c.in_ok-columns.columns (map row c.as_slice-kept.result.now) c.in_ok-behind.ensures.before
+    (flip c.in_ok-behind.ensures.behind ∙ c.in-Some.ensures.items) c.in_ok-value.ensures.gives (ap (at_depth c.in-Some.column.depth) (c.unmoved.ensures.form ∙ c.in_ok-copy.ensures)) c.in_ok-parts.ensures.columns c.in_ok-columns.ensures
+    c.len-2.ensures.value (ap (map row) c.as_slice-kept.ensures.value ∙ c.in_ok-kept.ensures.rows) in
     grind (arith, common_steps)
 
-pub select_by_value-returns-in-Some-2-clause-gives : goal.select_by_value-returns-in-Some-2-clause-gives
-select_by_value-returns-in-Some-2-clause-gives t c =
-    let S : PlainSignature = entries_of c.args.self.version.now in
-    let column : End = c.in-Some.column in
-    let v : Tree = tree c.in_ok-value.value.form in
-    let own : column_of (record { depth = c.in-Some.column.depth; told = c.unmoved.result }) ≡ record { depth = c.in-Some.column.depth; term = tree c.in_ok-value.value.form } =
-    ap (λ (x : Tree). record { depth = c.in-Some.column.depth; term = x }) (c.unmoved.ensures.form ∙ c.in_ok-copy.ensures) in
-    let kept : map row c.as_slice.result.now ≡ refined_rows (tree c.in_ok-value.value.form) c.len-2.result c.args.at (map row c.args.rows.now) = ap (map row) c.as_slice.ensures.value ∙ c.in_ok-kept.ensures.rows in
-    let f = value_due S c.args.left.now c.whnf.new.left c.args.at c.len-2.result v c.args.columns c.cut.new.columns c.pop_front.new.self c.in_ok-parts.parts c.in_ok-columns.columns
-    column (record { depth = column.depth; told = c.unmoved.result }) c.args.rows.now c.as_slice.result.now c.in_ok-behind.ensures.before
-    (flip c.in_ok-behind.ensures.behind ∙ c.in-Some.ensures.items) c.in_ok-value.ensures.gives own c.in_ok-parts.ensures.columns c.in_ok-columns.ensures c.len-2.ensures.value kept in
-    f ∙ c.in_ok-deeper.ensures.gives ∙ ap (λ (o : Option Selected). Some (selected o, c.select.new.left)) c.in-Some-2.is
-    ∙ ap (λ (p : PlainSelected). Some (Some p, c.select.new.left)) (flip (same_selected c.in-Some-2.deeper c.in_ok-folded-in-Some-2.field-0 c.in_ok-folded-in-Some-2.ensures.captures c.in_ok-folded-in-Some-2.ensures.rule))
-
-pub select_by_value-returns-in-Some-2-clause-told : goal.select_by_value-returns-in-Some-2-clause-told
-select_by_value-returns-in-Some-2-clause-told t c =
+pub select_by_value-returns : goal.select_by_value-returns
+select_by_value-returns t c =
     let S : PlainSignature = entries_of c.args.self.version.now in
     let column : End = c.in-Some.column in
     let value : Told = c.in_ok-value.value in
-    let told : Told = c.in_ok-told-in-Some-2.told in
-    let kept : List Row = c.in_ok-kept.kept.items in
-    let deeper : Selected = c.in-Some-2.deeper in
-    let it : Selected = c.in_ok-folded-in-Some-2.field-0 in
-    let stands : AlwaysLeadsTo (tree c.in_ok-value.value.form) c.unmoved.result = along (λ (x : Tree). AlwaysLeadsTo x c.unmoved.result) c.in_ok-copy.ensures c.unmoved.ensures.leads in
-    let selects : Selects S c.in_ok-kept.kept.items c.in_ok-columns.columns c.in-Some-2.deeper =
-    along (λ (rows : List Row). Selects S rows c.in_ok-columns.columns deeper) c.as_slice.ensures.value
-    (along (λ (o : Option Selected). IfSome o (Selects S c.as_slice.result.now c.in_ok-columns.columns)) c.in-Some-2.is c.in_ok-deeper.ensures.told) in
-    let folded : Folded c.args.at c.in-Some.column.depth c.in_ok-told-in-Some-2.told c.args.rows.now c.in_ok-kept.kept.items c.in-Some-2.deeper c.in_ok-folded-in-Some-2.field-0 =
-    along (λ (rows : List Row). Folded c.args.at column.depth told c.args.rows.now rows deeper it) c.as_slice-kept.ensures.value c.in_ok-folded-in-Some-2.ensures.told in
-    value_selects S c.args.at column.depth c.len-2.result value told c.args.columns c.cut.new.columns c.pop_front.new.self c.in_ok-parts.parts c.in_ok-columns.columns
-    column (record { depth = column.depth; told = c.unmoved.result }) c.args.rows.now kept deeper it c.in_ok-behind.ensures.before
-    (flip c.in_ok-behind.ensures.behind ∙ c.in-Some.ensures.items) refl c.in_ok-value.ensures.told c.in_ok-told-in-Some-2.ensures.leads c.in_ok-told-in-Some-2.ensures.form
-    refl stands c.in_ok-parts.ensures.columns c.in_ok-parts.ensures.leads c.in_ok-columns.ensures c.len-2.ensures.value c.in_ok-kept.ensures.from selects folded
+    let own : End = record { depth = column.depth; told = c.unmoved.result } in
+    let items : c.as_slice-kept.result.now ≡ c.in_ok-kept.kept.items = c.as_slice-kept.ensures.value in
+    let cut : drop c.args.at c.args.columns ≡ c.in-Some.column ∷ c.pop_front.new.self = flip c.in_ok-behind.ensures.behind ∙ c.in-Some.ensures.items in
+    record {
+      gives = value_goes S c.args.columns (map row c.args.rows.now) c.args.at c.args.left.now column own (tree value.form) c.whnf.new.left c.len-2.result c.cut.new.columns c.pop_front.new.self c.in_ok-parts.parts c.in_ok-columns.columns
+          (map row c.as_slice-kept.result.now) c.in_ok-behind.ensures.before cut c.in_ok-value.ensures.gives (ap (at_depth column.depth) (c.unmoved.ensures.form ∙ c.in_ok-copy.ensures))
+          c.in_ok-parts.ensures.columns c.in_ok-columns.ensures c.len-2.ensures.value (ap (map row) items ∙ c.in_ok-kept.ensures.rows)
+          ∙ c.in_ok-deeper.ensures.gives ∙ ap (λ (o : Option PlainSelected). Some (o, c.select.new.left)) (flip c.in_ok-folded.ensures.selected);
+      spent = omega arith;
+      told = value_selects S c.args.at column.depth c.len-2.result value c.in_ok-told.told c.args.columns c.cut.new.columns c.pop_front.new.self c.in_ok-parts.parts c.in_ok-columns.columns
+          column own c.args.rows.now c.in_ok-kept.kept.items c.in_ok-deeper.deeper c.in_ok-folded.field-0 c.in_ok-behind.ensures.before cut refl c.in_ok-value.ensures.told c.in_ok-told.ensures.leads c.in_ok-told.ensures.form
+          refl (along (λ (x : Tree). AlwaysLeadsTo x c.unmoved.result) c.in_ok-copy.ensures c.unmoved.ensures.leads) c.in_ok-parts.ensures.columns c.in_ok-parts.ensures.leads c.in_ok-columns.ensures
+          c.len-2.ensures.value c.in_ok-kept.ensures.from (along (λ (rows : List Row). Selects S rows c.in_ok-columns.columns c.in_ok-deeper.deeper) items c.in_ok-deeper.ensures.told)
+          (along (λ (rows : List Row). Folded c.args.at column.depth c.in_ok-told.told c.args.rows.now rows c.in_ok-deeper.deeper c.in_ok-folded.field-0) items c.in_ok-folded.ensures.told);
+    }
 
 -- ---- the rule that is taken
 
 rewritten_by : (t : Tree) (S : PlainSignature) (k : ℕ) (columns : List End) (items first second : List Row) (o : Option Selected) (it : Selected) (told : Told) → first ≡ items → second ≡ items → o ≡ Some it
-    → head_symbol t ≡ Some k → Begins S k t columns items → IfSome o (Selects S first columns) → Rewrites t second it told
+    → head_symbol t ≡ Some k → Begins S k t columns items → Selects S first columns o → Rewrites t second it told
     → LeadsTo S t told × (tree told.form ≡ rewritten t (plain_selected it))
 rewritten_by t S k columns items first second o it told e q i h b s r =
     along (λ (rs : List Row). Rewrites t rs it told) q r S k columns h b
-    (along (λ (rs : List Row). Selects S rs columns it) e (along (λ (x : Option Selected). IfSome x (Selects S first columns)) i s))
+    (along (λ (rs : List Row). Selects S rs columns (Some it)) e (along (Selects S first columns) i s))
 
 pub rewrite-returns-in-Some-clause-told : goal.rewrite-returns-in-Some-clause-told
 rewrite-returns-in-Some-clause-told t c =
