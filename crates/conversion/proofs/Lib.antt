@@ -13,6 +13,3 @@ mod Waiting
 mod Pooling
 mod Treeing
 pub mod Raising
-mod Telling
-mod Told
-mod Asking

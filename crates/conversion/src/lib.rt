@@ -13,7 +13,6 @@ mod loading;
 mod machine;
 mod mentions;
 mod normal;
-mod pauses;
 mod putting;
 mod reducer;
 mod rules;

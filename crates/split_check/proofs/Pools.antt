@@ -117,7 +117,10 @@ reducer_send =
                     trees_row_send,
                     (
                       walks_send,
-                      tt,
+                      (
+                        search (sendable, crosses) depth 20,
+                        tt,
+                      ),
                     ),
                   ),
                 ),
