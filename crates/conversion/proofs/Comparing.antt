@@ -1,5 +1,5 @@
 -- The comparison by a stack of steps.
-use Rattle.std.proofs.Common.{List, [], ◌∷◌, ◌++◌, ◌≡◌, ◌-◌, ◌<◌, ◌≤◌, ℕ, zero, suc, Bool, true, false, Option, Some, None, Err, refl, ap, subst, ◌∙◌, sym as flip, arith, length, if◌then◌else◌, append_assoc}
+use Rattle.std.proofs.Common.{List, [], ◌∷◌, ◌++◌, ◌≡◌, ◌+◌, ◌-◌, ◌<◌, ◌≤◌, ℕ, zero, suc, Bool, true, false, Option, Some, None, refl, ap, subst, ◌∙◌, sym as flip, arith, length, if◌then◌else◌, append_assoc}
 use Rattle.std.proofs.lemmas.Bool.Decides.{nat_tests}
 use Rattle.std.specs.Prelude.{eqb, ◌&&◌}
 use Rattle.dk_model.specs.Trees.{Tree, star, kind, symbol, variable, rule_variable, apply, bare, annotated, product}
@@ -10,16 +10,16 @@ use Rattle.dk_model.specs.Taking.{Takes}
 use Rattle.dk_model.specs.Spines.{pairs_of}
 use Rattle.dk_model.specs.Evaluation.{whnf_of, comparison_of}
 use Rattle.dk_model.proofs.Turns.{comparison_is}
-use Rattle.dk_model.specs.declared.stop.Stop.{Stop}
-use Rattle.dk_model.specs.declared.stop.Stop.TheVariants.{Ended, NoMemory}
 use Rattle.shared_term.specs.declared.id.TermId.{TermId}
 use Rattle.dk_model.specs.declared.NodeOf.TheVariants.{Star, Kind, Sym, Var, Rvar, App, Abs, Prod}
 use Rattle.shared_term.specs.Pools.{Node, term, denoted, Extends}
 use Rattle.conversion.proofs.Winding.{extends_more}
 use Rattle.conversion.specs.declared.compare.Step.{Step}
 use Rattle.conversion.specs.declared.compare.Step.TheVariants.{Pair, Conclude}
-use Rattle.conversion.specs.Given.{GivesTerm, GivesBool}
-use Rattle.conversion.specs.Pending.{pending, AreSteps, comparisons, pair_compared, rest_compared, parts_compared, AreOpen, IsUnderWay, GivesPair}
+use Rattle.conversion.specs.declared.compare.Look.{Look}
+use Rattle.conversion.specs.declared.compare.Look.TheVariants.{At, Behind}
+use Rattle.conversion.specs.declared.compare.OpenPair.{OpenPair}
+use Rattle.conversion.specs.Pending.{pending, AreSteps, comparisons, pair_compared, rest_compared, parts_compared, AreOpen, IsUnderWay, IsOpenPair, look_made, look_due}
 
 -- a stack of steps
 
@@ -135,23 +135,23 @@ module _ (S : PlainSignature) where
 
   -- pairs behind one
 
-  abbrev behind : List (Tree × Tree) → Units Bool → Units Bool
-  behind ps x = bind x (λ alike n. if alike then comparisons S ps n else Some (false, n))
+  abbrev rest_of : List (Tree × Tree) → Units Bool → Units Bool
+  rest_of ps x = bind x (λ alike n. if alike then comparisons S ps n else Some (false, n))
 
   abbrev of_heads : Tree → Tree → ℕ → Units Bool
   of_heads t u n = elim (pairs_of t u) [ None ↦ Some (false, n) | Some ps ↦ comparisons S ps n ]
 
-  behind_more : (ps rest : List (Tree × Tree)) (x : Units Bool) → ((n : ℕ) → comparisons S (ps ++ rest) n ≡ behind rest (comparisons S ps n))
-      → behind (ps ++ rest) x ≡ behind rest (behind ps x)
+  behind_more : (ps rest : List (Tree × Tree)) (x : Units Bool) → ((n : ℕ) → comparisons S (ps ++ rest) n ≡ rest_of rest (comparisons S ps n))
+      → rest_of (ps ++ rest) x ≡ rest_of rest (rest_of ps x)
   behind_more ps rest None h = refl
   behind_more ps rest (Some (true, n)) h = h n
   behind_more ps rest (Some (false, n)) h = refl
 
-  comparisons_append : (ps rest : List (Tree × Tree)) (n : ℕ) → comparisons S (ps ++ rest) n ≡ behind rest (comparisons S ps n)
+  comparisons_append : (ps rest : List (Tree × Tree)) (n : ℕ) → comparisons S (ps ++ rest) n ≡ rest_of rest (comparisons S ps n)
   comparisons_append [] rest n = refl
   comparisons_append (p ∷ ps) rest n = behind_more ps rest (comparison_of S n p.0 p.1) (comparisons_append ps rest)
 
-  alone : (x : Units Bool) → behind [] x ≡ x
+  alone : (x : Units Bool) → rest_of [] x ≡ x
   alone None = refl
   alone (Some (true, m)) = refl
   alone (Some (false, m)) = refl
@@ -209,18 +209,18 @@ module _ (S : PlainSignature) where
   equal_pair : (n : ℕ) (t u : Tree) (rest : List (Tree × Tree)) → 0 < n → equal t u ≡ true → pair_compared S t u n rest ≡ rest_compared S true (n - 1) rest
   equal_pair zero t u rest h e = absurd (omega arith)
   equal_pair (suc n) t u rest h e =
-      (let q : comparison_of S (suc n) t u ≡ Some (true, n) = comparison_is S n t u ∙ simp e refl in ap (behind rest) q) ∙ ap (comparisons S rest) (omega arith)
+      (let q : comparison_of S (suc n) t u ≡ Some (true, n) = comparison_is S n t u ∙ simp e refl in ap (rest_of rest) q) ∙ ap (comparisons S rest) (omega arith)
 
-  one_term : (n : ℕ) (t u : Tree) (rest : List (Tree × Tree)) → 0 < n → t ≡ u → pair_compared S t u n rest ≡ rest_compared S true (n - 1) rest
+  pub one_term : (n : ℕ) (t u : Tree) (rest : List (Tree × Tree)) → 0 < n → t ≡ u → pair_compared S t u n rest ≡ rest_compared S true (n - 1) rest
   one_term n t u rest l e = equal_pair n t u rest l (subst (λ x. equal t x ≡ true) e (equal_self t))
 
   -- a pair whose comparison is remembered
 
-  known : (n k : ℕ) (b : Bool) (t u : Tree) (rest : List (Tree × Tree)) → Takes (λ m. comparison_of S m t u) b k → k ≤ n → pair_compared S t u n rest ≡ rest_compared S b (n - k) rest
-  known n k b t u rest h l = ap (behind rest) (h.suffices n l)
+  pub known : (n k : ℕ) (b : Bool) (t u : Tree) (rest : List (Tree × Tree)) → Takes (λ m. comparison_of S m t u) b k → k ≤ n → pair_compared S t u n rest ≡ rest_compared S b (n - k) rest
+  known n k b t u rest h l = ap (rest_of rest) (h.suffices n l)
 
   pub known_too_few : (n k : ℕ) (b : Bool) (t u : Tree) (rest : List (Tree × Tree)) → Takes (λ m. comparison_of S m t u) b k → n < k → pair_compared S t u n rest ≡ None
-  known_too_few n k b t u rest h l = ap (behind rest) (h.ends n l)
+  known_too_few n k b t u rest h l = ap (rest_of rest) (h.ends n l)
 
   pub comparison_costs : (k : ℕ) (b : Bool) (t u : Tree) → Takes (λ m. comparison_of S m t u) b k → 0 < k
   comparison_costs zero b t u h = absurd (none_some (h.suffices 0 (omega arith)))
@@ -238,7 +238,7 @@ module _ (S : PlainSignature) where
 
   first_ends : (n : ℕ) (t u : Tree) (rest : List (Tree × Tree)) → 0 < n → (t ≡ u → ⊥) → whnf_of S (n - 1) t ≡ None → pair_compared S t u n rest ≡ None
   first_ends n t u rest l d q =
-      ap (behind rest) (unequal n t u l (not_equal t u d) ∙ ap (λ x. bind x (λ t' n1. bind (whnf_of S n1 u) (λ u' n2. of_heads t' u' n2))) q)
+      ap (rest_of rest) (unequal n t u l (not_equal t u d) ∙ ap (λ x. bind x (λ t' n1. bind (whnf_of S n1 u) (λ u' n2. of_heads t' u' n2))) q)
 
   both_compared : (n n1 n2 : ℕ) (t u t' u' : Tree) → 0 < n → (t ≡ u → ⊥) → whnf_of S (n - 1) t ≡ Some (t', n1) → whnf_of S n1 u ≡ Some (u', n2)
       → comparison_of S n t u ≡ of_heads t' u' n2
@@ -247,22 +247,22 @@ module _ (S : PlainSignature) where
 
   second_ends : (n n1 : ℕ) (t u t' : Tree) (rest : List (Tree × Tree)) → 0 < n → (t ≡ u → ⊥) → whnf_of S (n - 1) t ≡ Some (t', n1) → whnf_of S n1 u ≡ None
       → pair_compared S t u n rest ≡ None
-  second_ends n n1 t u t' rest l d q r = ap (behind rest) (unequal n t u l (not_equal t u d) ∙ ap (λ x. bind x (λ t' n1. bind (whnf_of S n1 u) (λ u' n2. of_heads t' u' n2))) q
+  second_ends n n1 t u t' rest l d q r = ap (rest_of rest) (unequal n t u l (not_equal t u d) ∙ ap (λ x. bind x (λ t' n1. bind (whnf_of S n1 u) (λ u' n2. of_heads t' u' n2))) q
       ∙ ap (λ x. bind x (λ u' n2. of_heads t' u' n2)) r)
 
   parts_behind : (o : Option (List (Tree × Tree))) (rest : List (Tree × Tree)) (n : ℕ)
-      → behind rest (elim o as (λ _. Units Bool) [ None ↦ Some (false, n) | Some ps ↦ comparisons S ps n ])
+      → rest_of rest (elim o as (λ _. Units Bool) [ None ↦ Some (false, n) | Some ps ↦ comparisons S ps n ])
       ≡ elim o as (λ _. Units Bool) [ None ↦ Some (false, n) | Some ps ↦ comparisons S (ps ++ rest) n ]
   parts_behind None rest n = refl
   parts_behind (Some ps) rest n = flip (comparisons_append ps rest n)
 
   by_parts : (n n1 n2 : ℕ) (t u t' u' : Tree) (rest : List (Tree × Tree)) → 0 < n → (t ≡ u → ⊥) → whnf_of S (n - 1) t ≡ Some (t', n1) → whnf_of S n1 u ≡ Some (u', n2)
       → pair_compared S t u n rest ≡ parts_compared S t' u' n2 rest
-  by_parts n n1 n2 t u t' u' rest l d q r = ap (behind rest) (both_compared n n1 n2 t u t' u' l d q r) ∙ parts_behind (pairs_of t' u') rest n2
+  by_parts n n1 n2 t u t' u' rest l d q r = ap (rest_of rest) (both_compared n n1 n2 t u t' u' l d q r) ∙ parts_behind (pairs_of t' u') rest n2
 
   -- what is under way
 
-  way_made : (ns : List Node) (due : Units Bool) (made made' : List (Tree × Tree) → Units Bool) (left left' : ℕ) (steps : List Step)
+  pub way_made : (ns : List Node) (due : Units Bool) (made made' : List (Tree × Tree) → Units Bool) (left left' : ℕ) (steps : List Step)
       → ((rest : List (Tree × Tree)) → made rest ≡ made' rest) → left' ≤ left → IsUnderWay S ns due made left steps → IsUnderWay S ns due made' left' steps
   way_made ns due made made' left left' steps e l h =
       record { within = h.within; comes = h.comes ∙ e (pending ns steps); opened = open_made ns made made' left left' steps e l h.opened }
@@ -326,24 +326,6 @@ module _ (S : PlainSignature) where
     opened = open_grown old new made left steps e h.within h.opened;
   }
 
-  -- a pair that is looked at
-
-  looked_at : (ns : List Node) (n : ℕ) (t u : TermId) (steps : List Step) → AreSteps (length ns) steps → AreOpen S ns (pair_compared S (term ns t) (term ns u) n) n steps
-      → IsUnderWay S ns (pair_compared S (term ns t) (term ns u) n (pending ns steps)) (pair_compared S (term ns t) (term ns u) n) n steps
-  looked_at ns n t u steps s h = record { within = s; comes = refl; opened = h }
-
-  pub pair_alike : (ns : List Node) (n : ℕ) (t u : TermId) (steps : List Step) → 0 < n → term ns t ≡ term ns u → AreSteps (length ns) steps
-      → AreOpen S ns (pair_compared S (term ns t) (term ns u) n) n steps
-      → IsUnderWay S ns (pair_compared S (term ns t) (term ns u) n (pending ns steps)) (rest_compared S true (n - 1)) (n - 1) steps
-  pair_alike ns n t u steps l e s h = way_made ns _ (pair_compared S (term ns t) (term ns u) n) (rest_compared S true (n - 1)) n (n - 1) steps
-      (λ rest. one_term n (term ns t) (term ns u) rest l e) (omega arith) (looked_at ns n t u steps s h)
-
-  pub pair_known : (ns : List Node) (n k : ℕ) (b : Bool) (t u : TermId) (steps : List Step) → Takes (λ m. comparison_of S m (term ns t) (term ns u)) b k → k ≤ n → AreSteps (length ns) steps
-      → AreOpen S ns (pair_compared S (term ns t) (term ns u) n) n steps
-      → IsUnderWay S ns (pair_compared S (term ns t) (term ns u) n (pending ns steps)) (rest_compared S b (n - k)) (n - k) steps
-  pair_known ns n k b t u steps q l s h = way_made ns _ (pair_compared S (term ns t) (term ns u) n) (rest_compared S b (n - k)) n (n - k) steps
-      (λ rest. known n k b (term ns t) (term ns u) rest q l) (omega arith) (looked_at ns n t u steps s h)
-
   pub pair_first_ends : (ns : List Node) (n : ℕ) (t u : TermId) (rest : List (Tree × Tree)) → 0 < n → (term ns t ≡ term ns u → ⊥) → whnf_of S (n - 1) (term ns t) ≡ None
       → pair_compared S (term ns t) (term ns u) n rest ≡ None
   pair_first_ends ns n t u rest l d q = first_ends n (term ns t) (term ns u) rest l d q
@@ -352,16 +334,16 @@ module _ (S : PlainSignature) where
       → whnf_of S (n - 1) (term p0 t) ≡ Some (term p1 x, n1) → whnf_of S n1 (term p1 u) ≡ None → pair_compared S (term p0 t) (term p0 u) n rest ≡ None
   pair_second_ends p0 p1 n n1 t u x rest l d w e q r = second_ends n n1 (term p0 t) (term p0 u) (term p1 x) rest l d q (ap (whnf_of S n1) (flip (e.keeps u.0 w)) ∙ r)
 
-  pub pair_parts : (p0 p1 p2 : List Node) (n n1 n2 : ℕ) (t u x y : TermId) (steps : List Step) → 0 < n → n2 ≤ n → (term p0 t ≡ term p0 u → ⊥) → t.0 < length p0 → u.0 < length p0
+  -- the weak head forms of a pair are there
+  pub pair_opens : (p0 p1 p2 : List Node) (due : Units Bool) (n1 n2 : ℕ) (p : OpenPair) (x y : TermId) (steps : List Step) → IsOpenPair S p0 due steps p → n2 ≤ p.before
       → Extends p0 p1 → Extends p1 p2 → x.0 < length p1
-      → whnf_of S (n - 1) (term p0 t) ≡ Some (term p1 x, n1) → whnf_of S n1 (term p1 u) ≡ Some (term p2 y, n2)
-      → AreSteps (length p0) steps → AreOpen S p0 (pair_compared S (term p0 t) (term p0 u) n) n steps
-      → IsUnderWay S p2 (pair_compared S (term p0 t) (term p0 u) n (pending p0 steps)) (parts_compared S (term p2 x) (term p2 y) n2) n2 (steps ++ (Conclude t u n ∷ []))
-  pair_parts p0 p1 p2 n n1 n2 t u x y steps l le d w w' e e' wx q r s h = record {
-    within = steps_conclude (length p2) steps t u n way.within (omega (arith, e''.longer, w)) (omega (arith, e''.longer, w'));
-    comes = way.comes ∙ flip (ap (parts_compared S (term p2 x) (term p2 y) n2) (pending_conclude p2 steps t u n));
-    opened = open_concluding p2 (parts_compared S (term p2 x) (term p2 y) n2) n2 steps t u n
-        ((let a = e''.keeps t.0 w in let b = e''.keeps u.0 w' in λ i. comparison_of S n (a i) (b i)) ∙ flip (pair_alone n (term p0 t) (term p0 u)) ∙ goes []) le way.opened;
+      → whnf_of S (p.before - 1) (term p0 p.first) ≡ Some (term p1 x, n1) → whnf_of S n1 (term p1 p.second) ≡ Some (term p2 y, n2)
+      → IsUnderWay S p2 due (parts_compared S (term p2 x) (term p2 y) n2) n2 (steps ++ (Conclude p.first p.second p.before ∷ []))
+  pair_opens p0 p1 p2 due n1 n2 p x y steps h le e e' wx q r = record {
+    within = steps_conclude (length p2) steps p.first p.second p.before way.within (omega (arith, e''.longer, h.first)) (omega (arith, e''.longer, h.second));
+    comes = way.comes ∙ flip (ap (parts_compared S (term p2 x) (term p2 y) n2) (pending_conclude p2 steps p.first p.second p.before));
+    opened = open_concluding p2 (parts_compared S (term p2 x) (term p2 y) n2) n2 steps p.first p.second p.before
+        ((let a = e''.keeps p.first.0 h.first in let b = e''.keeps p.second.0 h.second in λ i. comparison_of S p.before (a i) (b i)) ∙ flip (pair_alone p.before (term p0 p.first) (term p0 p.second)) ∙ goes []) le way.opened;
   }
     where
       e'' : Extends p0 p2
@@ -370,46 +352,50 @@ module _ (S : PlainSignature) where
       x' : term p1 x ≡ term p2 x
       x' = flip (e'.keeps x.0 wx)
 
-      goes : (rest : List (Tree × Tree)) → pair_compared S (term p0 t) (term p0 u) n rest ≡ parts_compared S (term p2 x) (term p2 y) n2 rest
-      goes rest = by_parts n n1 n2 (term p0 t) (term p0 u) (term p2 x) (term p2 y) rest l d (q ∙ ap (λ (v : Tree). Some (v, n1)) x') (ap (whnf_of S n1) (flip (e.keeps u.0 w')) ∙ r)
+      goes : (rest : List (Tree × Tree)) → pair_compared S (term p0 p.first) (term p0 p.second) p.before rest ≡ parts_compared S (term p2 x) (term p2 y) n2 rest
+      goes rest = by_parts p.before n1 n2 (term p0 p.first) (term p0 p.second) (term p2 x) (term p2 y) rest h.some h.differ (q ∙ ap (λ (v : Tree). Some (v, n1)) x') (ap (whnf_of S n1) (flip (e.keeps p.second.0 h.second)) ∙ r)
 
-      way : IsUnderWay S p2 (pair_compared S (term p0 t) (term p0 u) n (pending p0 steps)) (parts_compared S (term p2 x) (term p2 y) n2) n2 steps
-      way = way_made p2 _ (pair_compared S (term p0 t) (term p0 u) n) (parts_compared S (term p2 x) (term p2 y) n2) n n2 steps goes le
-          (way_grown p0 p2 _ (pair_compared S (term p0 t) (term p0 u) n) n steps e'' (looked_at p0 n t u steps s h))
+      way : IsUnderWay S p2 due (parts_compared S (term p2 x) (term p2 y) n2) n2 steps
+      way = way_made p2 due (pair_compared S (term p0 p.first) (term p0 p.second) p.before) (parts_compared S (term p2 x) (term p2 y) n2) p.before n2 steps goes le
+          (way_grown p0 p2 due (pair_compared S (term p0 p.first) (term p0 p.second) p.before) p.before steps e'' h.way)
 
-  -- an evaluation that pair_stopped
-  pub pair_stopped : (stop : Stop) (w : Units Tree) (due : Units Bool) (ns : List Node) (steps : List Step) (left : ℕ) → (w ≡ None → due ≡ None)
-      → GivesTerm w ns (Err stop) left → GivesPair S due ns (Err stop) steps left
-  pair_stopped Ended w due ns steps left h g = (h g.0, g.1)
-  pair_stopped NoMemory w due ns steps left h g = tt
-
-  -- the loop
-
-  pub way_begins : (old new : List Node) (n : ℕ) (t u : TermId) (made : List (Tree × Tree) → Units Bool) (left : ℕ) (steps : List Step)
-      → IsUnderWay S new (pair_compared S (term old t) (term old u) n []) made left steps → IsUnderWay S new (comparison_of S n (term old t) (term old u)) made left steps
-  way_begins old new n t u made left steps h = record { within = h.within; comes = flip (pair_alone n (term old t) (term old u)) ∙ h.comes; opened = h.opened }
-
-  -- the next pair
-  pub way_open : (ns : List Node) (due : Units Bool) (left : ℕ) (alike : Bool) (steps : List Step) (t u : TermId) → alike ≡ true
-      → IsUnderWay S ns due (rest_compared S alike left) left (steps ++ (Pair t u ∷ [])) → AreOpen S ns (pair_compared S (term ns t) (term ns u) left) left steps
-  way_open ns due left alike steps t u e h = open_popped ns (rest_compared S true left) left steps t u
-      (subst (λ (b : Bool). AreOpen S ns (rest_compared S b left) left (steps ++ (Pair t u ∷ []))) e h.opened)
-
-  pub way_goes : (old new : List Node) (due : Units Bool) (left left' : ℕ) (alike : Bool) (made : List (Tree × Tree) → Units Bool) (steps steps' : List Step) (t u : TermId) → alike ≡ true
-      → IsUnderWay S old due (rest_compared S alike left) left (steps ++ (Pair t u ∷ []))
-      → IsUnderWay S new (pair_compared S (term old t) (term old u) left (pending old steps)) made left' steps' → IsUnderWay S new due made left' steps'
-  way_goes old new due left left' alike made steps steps' t u e h k = record {
-    within = k.within;
-    comes = h.comes ∙ ap (λ b. rest_compared S b left (pending old (steps ++ (Pair t u ∷ [])))) e ∙ ap (rest_compared S true left) (pending_pair old steps t u) ∙ k.comes;
-    opened = k.opened;
+  pub open_pair_due : (ns : List Node) (due due' : Units Bool) (steps : List Step) (p : OpenPair) → due ≡ due' → IsOpenPair S ns due' steps p → IsOpenPair S ns due steps p
+  open_pair_due ns due due' steps p e h = record {
+    way = record { within = h.way.within; comes = e ∙ h.way.comes; opened = h.way.opened };
+    first = h.first;
+    second = h.second;
+    differ = h.differ;
+    some = h.some;
   }
 
-  pub way_stops : (old new : List Node) (due : Units Bool) (left left' : ℕ) (alike : Bool) (stop : Stop) (steps steps' : List Step) (t u : TermId) → alike ≡ true
-      → IsUnderWay S old due (rest_compared S alike left) left (steps ++ (Pair t u ∷ []))
-      → GivesPair S (pair_compared S (term old t) (term old u) left (pending old steps)) new (Err stop) steps' left' → GivesBool due (Err stop) left'
-  way_stops old new due left left' alike Ended steps steps' t u e h g =
-      (h.comes ∙ ap (λ b. rest_compared S b left (pending old (steps ++ (Pair t u ∷ [])))) e ∙ ap (rest_compared S true left) (pending_pair old steps t u) ∙ g.0, g.1)
-  way_stops old new due left left' alike NoMemory steps steps' t u e h g = tt
+  -- what is done next
+
+  -- it comes to what is made of the pairs behind it
+  pub look_open : (ns : List Node) (due : Units Bool) (look : Look) (left : ℕ) (steps : List Step) → IsUnderWay S ns due (look_made S ns look left) left steps
+      → IsUnderWay S ns (look_due S ns look left steps) (look_made S ns look left) left steps
+  look_open ns due look left steps h = record { within = h.within; comes = refl; opened = h.opened }
+
+  pub look_begins : (ns : List Node) (n : ℕ) (t u : TermId) → IsUnderWay S ns (comparison_of S n (term ns t) (term ns u)) (look_made S ns (At t u) n) n []
+  look_begins ns n t u = record { within = tt; comes = flip (pair_alone n (term ns t) (term ns u)); opened = tt }
+
+  -- a pair that is told at once
+  pub look_told : (ns : List Node) (due : Units Bool) (t u : TermId) (n left : ℕ) (alike : Bool) (steps : List Step)
+      → ((rest : List (Tree × Tree)) → pair_compared S (term ns t) (term ns u) n rest ≡ rest_compared S alike left rest) → left ≤ n
+      → IsUnderWay S ns due (look_made S ns (At t u) n) n steps → IsUnderWay S ns due (look_made S ns (Behind alike) left) left steps
+  look_told ns due t u n left alike steps e l h = way_made ns due (pair_compared S (term ns t) (term ns u) n) (rest_compared S alike left) n left steps e l h
+
+  pub look_opens : (ns : List Node) (due : Units Bool) (t u : TermId) (n left : ℕ) (steps : List Step) → t.0 < length ns → u.0 < length ns → left + 1 ≡ n → (term ns t ≡ term ns u → ⊥)
+      → IsUnderWay S ns due (look_made S ns (At t u) n) n steps → IsOpenPair S ns due steps (record { first = t; second = u; before = n })
+  look_opens ns due t u n left steps l m e d h = record { way = h; first = l; second = m; differ = d; some = omega (arith, e) }
+
+  -- the next pair
+  pub look_at : (ns : List Node) (due : Units Bool) (left : ℕ) (alike : Bool) (steps : List Step) (t u : TermId) → alike ≡ true
+      → IsUnderWay S ns due (look_made S ns (Behind alike) left) left (steps ++ (Pair t u ∷ [])) → IsUnderWay S ns due (look_made S ns (At t u) left) left steps
+  look_at ns due left alike steps t u e h = record {
+    within = steps_popped (length ns) steps (Pair t u) h.within;
+    comes = h.comes ∙ ap (λ b. rest_compared S b left (pending ns (steps ++ (Pair t u ∷ [])))) e ∙ ap (rest_compared S true left) (pending_pair ns steps t u);
+    opened = open_popped ns (rest_compared S true left) left steps t u (subst (λ (b : Bool). AreOpen S ns (rest_compared S b left) left (steps ++ (Pair t u ∷ []))) e h.opened);
+  }
 
   -- a pair behind one that wasn't alike
   pub way_skips : (ns : List Node) (due : Units Bool) (left : ℕ) (alike : Bool) (steps : List Step) (t u : TermId) → alike ≡ false

@@ -13,3 +13,6 @@ mod Waiting
 mod Pooling
 mod Treeing
 pub mod Raising
+mod Telling
+mod Told
+mod Asking

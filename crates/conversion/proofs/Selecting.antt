@@ -1,5 +1,5 @@
 -- The turn of a symbol, by what its selection comes to.
-use Rattle.std.proofs.Common.{List, [], ◌∷◌, ◌≡◌, ◌-◌, ◌<◌, ◌≤◌, ℕ, zero, suc, Bool, Option, Some, None, Err, refl, ap, ◌∙◌, sym as flip, subst, arith, length, take, drop}
+use Rattle.std.proofs.Common.{List, [], ◌∷◌, ◌≡◌, ◌-◌, ◌<◌, ℕ, zero, suc, Bool, Option, Some, None, refl, ap, ◌∙◌, sym as flip, arith, length, take, drop, if◌then◌else◌}
 use Rattle.std.specs.Prelude.{slice_get}
 use Rattle.std.proofs.lemmas.List.{length-map, take-map}
 use Rattle.dk_model.specs.Trees.{Tree, symbol}
@@ -10,26 +10,23 @@ use Rattle.dk_model.specs.Spines.{applied}
 use Rattle.dk_model.specs.Captures.{filled, Captures}
 use Rattle.dk_model.specs.Evaluation.{whnf_of}
 use Rattle.dk_model.specs.Equations.{after_selection}
-use Rattle.dk_model.specs.declared.stop.Stop.{Stop}
-use Rattle.dk_model.specs.declared.stop.Stop.TheVariants.{Ended, NoMemory}
 use Rattle.shared_term.specs.declared.id.TermId.{TermId}
 use Rattle.shared_term.specs.Pools.{Node, term, Extends}
 use Rattle.shared_term.specs.Changes.{captured_terms}
 use Rattle.rule_match.specs.declared.matcher.Answer.{Answer}
-use Rattle.rule_match.specs.declared.matcher.Answer.TheVariants.{Value as Told}
+use Rattle.rule_match.specs.declared.matcher.Answer.TheVariants.{Yes, No}
 use Rattle.rule_match.specs.declared.matcher.Matcher.{Matcher}
 use Rattle.rule_match.specs.Rows.{rule_at}
-use Rattle.rule_match.specs.Selecting.{left_with, GoesOnWith as MatcherGoesOn}
+use Rattle.rule_match.specs.Selecting.{left_with, GoesOnWith as MatcherGoesOn, GoesOnWhether as MatcherGoesOnWhether}
 use Rattle.rule_match.proofs.Opening.{arguments_wound}
 use Rattle.conversion.specs.declared.selection.Selection.{Selection}
+use Rattle.conversion.specs.declared.pauses.Waiter.{Waiter}
 use Rattle.conversion.specs.declared.state.Value.{Value}
-use Rattle.conversion.specs.Given.{GivesTerm, GivesBool}
 use Rattle.conversion.specs.Machine.{behind, AreWithin, wound, from_top}
-use Rattle.conversion.specs.Pausing.{selected, rewritten_by, GoesOnWith}
+use Rattle.conversion.specs.Pausing.{selected, rewritten_by, GoesOnWith, GoesOnWhether}
 use Rattle.conversion.specs.Reducers.{right_at, IsLoaded, IsValue}
-use Rattle.conversion.specs.Turning.{TurnsTo}
 use Rattle.shared_term.proofs.Winding.{behind_grown}
-use Rattle.conversion.proofs.Winding.{extends_none, extends_more}
+use Rattle.conversion.proofs.Winding.{extends_more}
 use Rattle.conversion.proofs.Opening.{put_before}
 
 -- what is left of a selection, and what it makes of the weak head form
@@ -62,36 +59,27 @@ module _ (S : PlainSignature) (s : Selection) (n : ℕ) (old new : List Node) (i
       ap (λ z. bind z (after_selection S redex)) e
       ∙ flip (λ i. bind (left_with S (rules_of S s.symbol) last m a k) (after_selection S (wound (symbol s.symbol) (grown i))))
 
-  -- it goes on with the weak head form of a term
-  pub selection_waits : (m : Matcher) (t : TermId) → MatcherGoesOn S (rules_of S s.symbol) new m (λ v. Told v) (λ j. whnf_of S j (term new t)) (selected S old s) → GoesOnWith S new s.symbol m t ids n (rewritten_by S old s ids n)
-  selection_waits m t c = record {
-    ends = λ e. selection_ends (c.ends n e);
-    goes = λ last v j y e. selection_goes last m (Told v) j y (c.goes n j last v y e);
+  -- it goes on with what it asks for, once that is there
+
+  pub selection_waits : (m : Matcher) (w : Waiter) (told : TermId → Answer) (asked : ℕ → Units Tree) → w.symbol ≡ s.symbol → w.matcher ≡ m → w.stack.items ≡ ids
+      → MatcherGoesOn S (rules_of S s.symbol) new m told asked (selected S old s) → GoesOnWith S new w told (asked n) (rewritten_by S old s ids n)
+  selection_waits m w' told asked k e q c = record {
+    ends = λ f. selection_ends (c.ends n f);
+    goes = λ last v j y f.
+        selection_goes last m (told v) j y (c.goes n j last v y f)
+        ∙ flip (λ i. rewritten_by S last (record { symbol = k i; matcher = e i; answer = told v }) (q i) j);
   }
 
--- what it asks for ends, and it with that
-
-pub normal_stops : (S : PlainSignature) (asked due : Units Tree) (last : List Node) (stop : Stop) (ids : List TermId) (left : ℕ) → (asked ≡ None → due ≡ None) → GivesTerm asked last (Err stop) left
-    → TurnsTo S due last (Err stop) ids left
-normal_stops S asked due last Ended ids left h g = (h g.0, g.1)
-normal_stops S asked due last NoMemory ids left h g = tt
-
-pub alike_stops : (S : PlainSignature) (asked : Units Bool) (due : Units Tree) (last : List Node) (stop : Stop) (ids : List TermId) (left : ℕ) → (asked ≡ None → due ≡ None) → GivesBool asked (Err stop) left
-    → TurnsTo S due last (Err stop) ids left
-alike_stops S asked due last Ended ids left h g = (h g.0, g.1)
-alike_stops S asked due last NoMemory ids left h g = tt
+  pub selection_compares : (m : Matcher) (w : Waiter) (asked : ℕ → Units Bool) → w.symbol ≡ s.symbol → w.matcher ≡ m → w.stack.items ≡ ids
+      → MatcherGoesOnWhether S (rules_of S s.symbol) new m asked (selected S old s) → GoesOnWhether S new w (asked n) (rewritten_by S old s ids n)
+  selection_compares m w' asked k e q c = record {
+    ends = λ f. selection_ends (c.ends n f);
+    goes = λ last alike j y f.
+        selection_goes last m (if alike then Yes else No) j y (c.goes n j last alike y f)
+        ∙ flip (λ i. rewritten_by S last (record { symbol = k i; matcher = e i; answer = if alike then Yes else No }) (q i) j);
+  }
 
 -- a value that is remembered
-
-module _ (S : PlainSignature) (ns : List Node) (k : ℕ) (m : Matcher) (t : TermId) (ids : List TermId) (n : ℕ) (due : Units Tree) (g : GoesOnWith S ns k m t ids n due) where
-  pub ask_ends : (v : Value) → IsValue S ns t.0 v → n < v.units → due ≡ None
-  ask_ends v h l = g.ends (h.takes.ends n l)
-
-  pub ask_goes : (v : Value) → IsValue S ns t.0 v → v.units ≤ n → due ≡ rewritten_by S ns (record { symbol = k; matcher = m; answer = Told v.id }) ids (n - v.units)
-  ask_goes v h l = g.goes ns v.id (n - v.units) (extends_none ns) (h.takes.suffices n l)
-
-  pub ask_waits : (kept : List TermId) → kept ≡ ids → GoesOnWith S ns k m t kept n due
-  ask_waits kept e = subst (λ (l : List TermId). GoesOnWith S ns k m t l n due) (flip e) g
 
 module _ (S : PlainSignature) (ns : List Node) (t : TermId) (v : Value) (h : IsValue S ns t.0 v) where
   -- it takes a unit

@@ -78,8 +78,8 @@ answers_grown S old new t e h = record { each = λ i j a r. answer_grown S old n
 
 -- all of it, in a larger pool, and in one that is as it was
 
-pub serves_grown : (S : PlainSignature) (r : PoolReducer) (ns : List Node) (n : ℕ) → Extends r.pool ns → Serves S r → Serves S (record r { pool = ns; nested = n })
-serves_grown S r ns n e h = record {
+pub serves_grown : (S : PlainSignature) (r : PoolReducer) (ns : List Node) → Extends r.pool ns → Serves S r → Serves S (record r { pool = ns })
+serves_grown S r ns e h = record {
   loaded = loaded_grown S r.pool ns r.loaded e h.loaded;
   heads = heads_grown S r.pool ns r.heads e h.heads;
   values = values_grown S r.pool ns r.values e h.values;
@@ -87,9 +87,6 @@ serves_grown S r ns n e h = record {
   answers = answers_grown S r.pool ns r.answers e h.answers;
   trees = h.trees;
 }
-
-pub serves_again : (S : PlainSignature) (r : PoolReducer) (n : ℕ) → Serves S r → Serves S (record r { nested = n })
-serves_again S r n h = record { loaded = h.loaded; heads = h.heads; values = h.values; normals = h.normals; answers = h.answers; trees = h.trees }
 
 -- one more entry
 

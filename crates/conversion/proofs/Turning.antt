@@ -1,14 +1,12 @@
 -- The turns of the weak head form.
-use Rattle.std.proofs.Common.{List, [], ◌∷◌, ◌++◌, ◌≡◌, ◌-◌, ◌<◌, ℕ, zero, suc, true, false, Some, None, Result, refl, ap, ◌∙◌, sym as flip, subst, arith, length, take, drop, map}
+use Rattle.std.proofs.Common.{List, [], ◌∷◌, ◌++◌, ◌≡◌, ◌-◌, ◌<◌, ℕ, zero, suc, true, false, Some, None, Result, refl, ap, ◌∙◌, sym as flip, subst, arith, length}
 use Rattle.std.specs.Prelude.{slice_get}
-use Rattle.std.proofs.lemmas.List.{length-map, take-map}
 use Rattle.dk_model.specs.Trees.{Tree, symbol, apply, bare}
 use Rattle.dk_model.specs.Substitution.{substitute}
 use Rattle.dk_model.specs.Signatures.{PlainRule, PlainSignature}
 use Rattle.dk_model.specs.SymbolRules.{rules_of}
 use Rattle.dk_model.specs.Units.{Units, bind}
-use Rattle.dk_model.specs.Spines.{arguments, contraction, head_symbol, body_of}
-use Rattle.dk_model.specs.Matrix.{rows_for, width}
+use Rattle.dk_model.specs.Spines.{contraction, head_symbol, body_of}
 use Rattle.dk_model.specs.Evaluation.{whnf_of, columns, rows}
 use Rattle.dk_model.specs.Equations.{selection_of, after_selection}
 use Rattle.dk_model.specs.declared.stop.Stop.{Stop}
@@ -19,7 +17,7 @@ use Rattle.rule_match.specs.declared.matcher.Answer.{Answer}
 use Rattle.rule_match.specs.Selecting.{IsMatcher, Fits, Stands, left_with}
 use Rattle.conversion.specs.declared.selection.Selection.{Selection}
 use Rattle.conversion.specs.declared.turn.Turn.{Turn}
-use Rattle.conversion.specs.Machine.{behind, AreWithin, wound, from_top, unbound, is_application, is_stuck}
+use Rattle.conversion.specs.Machine.{behind, AreWithin, wound, is_application, is_stuck}
 use Rattle.conversion.specs.Pausing.{IsSelection, StartsOver, selected, rewritten_by}
 use Rattle.conversion.specs.Turning.{TurnsTo, rule_due}
 use Rattle.dk_model.proofs.Winding.{wound_pushed as wound_tree}

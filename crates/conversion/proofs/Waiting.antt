@@ -1,5 +1,5 @@
 -- The normal form by a stack of frames.
-use Rattle.std.proofs.Common.{List, [], ◌∷◌, ◌++◌, ◌≡◌, ◌-◌, ◌<◌, ◌≤◌, ℕ, zero, suc, Bool, true, false, Some, None, Result, Ok, Err, refl, ap, subst, ◌∙◌, sym as flip, arith, length}
+use Rattle.std.proofs.Common.{List, [], ◌∷◌, ◌++◌, ◌≡◌, ◌+◌, ◌-◌, ◌<◌, ◌≤◌, ℕ, zero, suc, Bool, true, false, Some, None, refl, ap, subst, ◌∙◌, sym as flip, arith, length}
 use Rattle.dk_model.specs.Trees.{Tree, apply, bare, annotated, product}
 use Rattle.dk_model.specs.Signatures.{PlainSignature}
 use Rattle.dk_model.specs.Units.{Units, bind}
@@ -7,14 +7,12 @@ use Rattle.dk_model.specs.Taking.{Takes}
 use Rattle.dk_model.specs.Parts.{each_normal}
 use Rattle.dk_model.specs.Evaluation.{whnf_of, normal_of}
 use Rattle.dk_model.proofs.Turns.{normal_is}
-use Rattle.dk_model.specs.declared.stop.Stop.{Stop}
-use Rattle.dk_model.specs.declared.stop.Stop.TheVariants.{Ended, NoMemory}
 use Rattle.shared_term.specs.declared.id.TermId.{TermId}
 use Rattle.shared_term.specs.Pools.{Node, term, Extends}
 use Rattle.conversion.specs.declared.normal.Frame.{Frame}
 use Rattle.conversion.specs.declared.normal.Frame.TheVariants.{Argument, Function, Body, Annotation, Annotated, Domain, Codomain, Conclude}
-use Rattle.conversion.specs.Given.{GivesTerm}
-use Rattle.conversion.specs.Waiting.{IsFrame, AreFrames, continued, resumed, IsWaiting, AreWaiting, IsResumed, value_due, GivesPart}
+use Rattle.conversion.specs.Waiting.{IsFrame, AreFrames, continued, resumed, IsWaiting, AreWaiting, IsResumed, value_due, IsOpenPart}
+use Rattle.conversion.specs.declared.normal.OpenPart.{OpenPart}
 
 -- frames of a pool
 
@@ -248,44 +246,56 @@ module _ (S : PlainSignature) where
   way_built old new fs due t v n e q w = way_same new fs due (Some (t, n)) (value_due new v n) n n (ap (λ (u : Tree). Some (u, n)) (flip q)) (omega arith)
       (way_grown old new fs due (Some (t, n)) n e w)
 
-  -- a frame that asks for a second part, once its first part has the normal form `v`
+  -- what is made of what waits, whatever it is due to
 
-  pub argument_next : (ns : List Node) (fs : List Frame) (frame : Frame) (v a : TermId) (left : ℕ) → frame ≡ Argument a → v.0 < length ns → AreFrames (length ns) fs
-      → AreWaiting S ns (continued S ns frame (term ns v) left) left fs
-      → IsResumed S ns (resumed S ns fs (continued S ns frame (term ns v) left)) (normal_of S left (term ns a)) left (fs ++ (Function v ∷ []))
-  argument_next ns fs frame v a left e l h w = way_pushed ns fs (Function v) _ (normal_of S left (term ns a)) (continued S ns frame (term ns v) left) left l tt
-      (ap (λ (f : Frame). continued S ns f (term ns v) left) e) (way_begins ns fs (continued S ns frame (term ns v) left) left h w)
+  pub normal_open : (ns : List Node) (fs : List Frame) (due x : Units Tree) (left : ℕ) → IsResumed S ns due x left fs → IsResumed S ns (resumed S ns fs x) x left fs
+  normal_open ns fs due x left w = record { frames = w.frames; comes = refl; waiting = w.waiting }
 
-  pub annotation_next : (ns : List Node) (fs : List Frame) (frame : Frame) (v b : TermId) (left : ℕ) → frame ≡ Annotation b → v.0 < length ns → AreFrames (length ns) fs
-      → AreWaiting S ns (continued S ns frame (term ns v) left) left fs
-      → IsResumed S ns (resumed S ns fs (continued S ns frame (term ns v) left)) (normal_of S left (term ns b)) left (fs ++ (Annotated v ∷ []))
-  annotation_next ns fs frame v b left e l h w = way_pushed ns fs (Annotated v) _ (normal_of S left (term ns b)) (continued S ns frame (term ns v) left) left l tt
-      (ap (λ (f : Frame). continued S ns f (term ns v) left) e) (way_begins ns fs (continued S ns frame (term ns v) left) left h w)
+  pub normal_begins : (ns : List Node) (x : Units Tree) (left : ℕ) → IsResumed S ns x x left []
+  normal_begins ns x left = record { frames = tt; comes = refl; waiting = tt }
 
-  pub domain_next : (ns : List Node) (fs : List Frame) (frame : Frame) (v b : TermId) (left : ℕ) → frame ≡ Domain b → v.0 < length ns → AreFrames (length ns) fs
-      → AreWaiting S ns (continued S ns frame (term ns v) left) left fs
-      → IsResumed S ns (resumed S ns fs (continued S ns frame (term ns v) left)) (normal_of S left (term ns b)) left (fs ++ (Codomain v ∷ []))
-  domain_next ns fs frame v b left e l h w = way_pushed ns fs (Codomain v) _ (normal_of S left (term ns b)) (continued S ns frame (term ns v) left) left l tt
-      (ap (λ (f : Frame). continued S ns f (term ns v) left) e) (way_begins ns fs (continued S ns frame (term ns v) left) left h w)
+  pub open_part_due : (ns : List Node) (fs : List Frame) (due due' : Units Tree) (p : OpenPart) → due ≡ due' → IsOpenPart S ns due' fs p → IsOpenPart S ns due fs p
+  open_part_due ns fs due due' p e h = record { way = way_due ns fs due due' (normal_of S p.before (term ns p.part)) p.before e h.way; part = h.part; some = h.some }
+
+  -- a part that is met
+
+  pub met_part : (ns : List Node) (fs : List Frame) (due : Units Tree) (t v : TermId) (n left : ℕ) → normal_of S n (term ns t) ≡ value_due ns v left → left ≤ n
+      → IsResumed S ns due (normal_of S n (term ns t)) n fs → IsResumed S ns due (value_due ns v left) left fs
+  met_part ns fs due t v n left e l w = way_same ns fs due (normal_of S n (term ns t)) (value_due ns v left) n left e l w
+
+  pub part_opens : (ns : List Node) (fs : List Frame) (due : Units Tree) (t : TermId) (n left : ℕ) → t.0 < length ns → left + 1 ≡ n → IsResumed S ns due (normal_of S n (term ns t)) n fs
+      → IsOpenPart S ns due fs (record { part = t; before = n })
+  part_opens ns fs due t n left l e w = record { way = w; part = l; some = omega (arith, e) }
+
+  -- the weak head form of the part is there
+  pub part_weak : (old new : List Node) (fs : List Frame) (due : Units Tree) (p : OpenPart) (v : TermId) (m : ℕ) → m ≤ p.before → Extends old new
+      → whnf_of S (p.before - 1) (term old p.part) ≡ Some (term new v, m) → IsOpenPart S old due fs p
+      → IsResumed S new due (each_normal (normal_of S) (term new v) m) m (fs ++ (Conclude p.part p.before ∷ []))
+  part_weak old new fs due p v m l e h o = way_concluding old new fs due p.part v p.before m o.some l o.part e h o.way
+
+  -- a frame goes on, once its part has the normal form `v`
+
+  pub argument_next : (ns : List Node) (fs : List Frame) (due : Units Tree) (v a : TermId) (left : ℕ) → v.0 < length ns
+      → IsResumed S ns due (value_due ns v left) left (fs ++ (Argument a ∷ [])) → IsResumed S ns due (normal_of S left (term ns a)) left (fs ++ (Function v ∷ []))
+  argument_next ns fs due v a left l w = way_pushed ns fs (Function v) due (normal_of S left (term ns a)) (continued S ns (Argument a) (term ns v) left) left l tt refl
+      (way_popped ns fs (Argument a) due (value_due ns v left) left w)
+
+  pub annotation_next : (ns : List Node) (fs : List Frame) (due : Units Tree) (v b : TermId) (left : ℕ) → v.0 < length ns
+      → IsResumed S ns due (value_due ns v left) left (fs ++ (Annotation b ∷ [])) → IsResumed S ns due (normal_of S left (term ns b)) left (fs ++ (Annotated v ∷ []))
+  annotation_next ns fs due v b left l w = way_pushed ns fs (Annotated v) due (normal_of S left (term ns b)) (continued S ns (Annotation b) (term ns v) left) left l tt refl
+      (way_popped ns fs (Annotation b) due (value_due ns v left) left w)
+
+  pub domain_next : (ns : List Node) (fs : List Frame) (due : Units Tree) (v b : TermId) (left : ℕ) → v.0 < length ns
+      → IsResumed S ns due (value_due ns v left) left (fs ++ (Domain b ∷ [])) → IsResumed S ns due (normal_of S left (term ns b)) left (fs ++ (Codomain v ∷ []))
+  domain_next ns fs due v b left l w = way_pushed ns fs (Codomain v) due (normal_of S left (term ns b)) (continued S ns (Domain b) (term ns v) left) left l tt refl
+      (way_popped ns fs (Domain b) due (value_due ns v left) left w)
 
   -- a frame of which a node is made
-  pub built_next : (old new : List Node) (fs : List Frame) (frame : Frame) (v w : TermId) (t : Tree) (left : ℕ) → continued S old frame (term old v) left ≡ Some (t, left)
-      → Extends old new → term new w ≡ t → AreFrames (length old) fs → AreWaiting S old (continued S old frame (term old v) left) left fs
-      → IsResumed S new (resumed S old fs (continued S old frame (term old v) left)) (value_due new w left) left fs
-  built_next old new fs frame v w t left c e q h g = way_built old new fs _ t w left e q
-      (way_same old fs _ (continued S old frame (term old v) left) (Some (t, left)) left left c (omega arith) (way_begins old fs (continued S old frame (term old v) left) left h g))
+  pub built_next : (old new : List Node) (fs : List Frame) (frame : Frame) (due : Units Tree) (v w : TermId) (t : Tree) (left : ℕ) → continued S old frame (term old v) left ≡ Some (t, left)
+      → Extends old new → term new w ≡ t → IsResumed S old due (value_due old v left) left (fs ++ (frame ∷ [])) → IsResumed S new due (value_due new w left) left fs
+  built_next old new fs frame due v w t left c e q g = way_built old new fs due t w left e q
+      (way_same old fs due (continued S old frame (term old v) left) (Some (t, left)) left left c (omega arith) (way_popped old fs frame due (value_due old v left) left g))
 
-  pub part_due : (ns : List Node) (fs : List Frame) (due due' : Units Tree) (result : Result TermId Stop) (left : ℕ) → due ≡ due' → GivesPart S due' ns result fs left → GivesPart S due ns result fs left
-  part_due ns fs due due' (Ok v) left e g = (way_due ns fs due due' (value_due ns v left) left e g.0, g.1)
-  part_due ns fs due due' (Err Ended) left e g = (e ∙ g.0, g.1)
-  part_due ns fs due due' (Err NoMemory) left e g = tt
-
-  pub part_stops : (ns : List Node) (fs : List Frame) (due due' : Units Tree) (stop : Stop) (left : ℕ) → due ≡ due' → GivesPart S due' ns (Err stop) fs left → GivesTerm due ns (Err stop) left
-  part_stops ns fs due due' Ended left e g = (e ∙ g.0, g.1)
-  part_stops ns fs due due' NoMemory left e g = tt
-
-  -- an evaluation that part_stopped
-  pub part_stopped : (stop : Stop) (w : Units Tree) (due : Units Tree) (ns : List Node) (fs : List Frame) (left : ℕ) → (w ≡ None → due ≡ None)
-      → GivesTerm w ns (Err stop) left → GivesPart S due ns (Err stop) fs left
-  part_stopped Ended w due ns fs left h g = (h g.0, g.1)
-  part_stopped NoMemory w due ns fs left h g = tt
+  pub concluded_next : (ns : List Node) (fs : List Frame) (due : Units Tree) (v t : TermId) (b left : ℕ)
+      → IsResumed S ns due (value_due ns v left) left (fs ++ (Conclude t b ∷ [])) → IsResumed S ns due (value_due ns v left) left fs
+  concluded_next ns fs due v t b left w = way_popped ns fs (Conclude t b) due (value_due ns v left) left w

@@ -2,6 +2,8 @@
 use Rattle.std.specs.Prelude.{ℕ, ◌≡◌, ◌<◌, Option, Bool, Result, Ok, List, drop, length}
 use Rattle.std.specs.declared.vec.Vec.{Vec}
 use Rattle.std.specs.declared.alloc.Global.{Global}
+use Rattle.dk_model.specs.Trees.{Tree}
+use Rattle.dk_model.specs.Units.{Units}
 use Rattle.dk_model.specs.Signatures.{PlainRule}
 use Rattle.dk_model.specs.Captures.{filled}
 use Rattle.dk_model.specs.Spines.{applied}
@@ -17,10 +19,19 @@ use Rattle.conversion.specs.declared.state.PoolReducer.{PoolReducer}
 use Rattle.conversion.specs.declared.evaluate.Next.{Next}
 use Rattle.conversion.specs.declared.turn.Turn.{Turn}
 use Rattle.conversion.specs.declared.selection.Selection.{Selection}
+use Rattle.conversion.specs.declared.compare.Look.{Look}
+use Rattle.conversion.specs.declared.compare.Step.{Step}
+use Rattle.conversion.specs.declared.normal.Frame.{Frame}
+use Rattle.conversion.specs.declared.normal.Next.{Next as Part}
+use Rattle.conversion.specs.declared.pauses.Waiter.{Waiter}
+use Rattle.conversion.specs.declared.pauses.Pause.{Pause}
+use Rattle.rule_match.specs.declared.matcher.Answer.TheVariants.{Normal}
 use Rattle.conversion.specs.Machine.{behind, wound, from_top}
 use Rattle.conversion.specs.Given.{GivesTerm, GivesBool}
-use Rattle.conversion.specs.Pausing.{rewritten_by}
-use Rattle.conversion.specs.Turning.{next_due, rule_due, TurnsTo}
+use Rattle.conversion.specs.Pausing.{rewritten_by, GoesOnWith, GoesOnWhether, Continues, Await}
+use Rattle.conversion.specs.Pending.{look_due}
+use Rattle.conversion.specs.Waiting.{resumed, next_due as part_due}
+use Rattle.conversion.specs.Turning.{IsDue, GoesNext, rule_due, TurnsTo}
 
 abbrev pub Entries : Type 0
 Entries = List (Entry Stored)
@@ -41,7 +52,7 @@ Compares v old t u n result left = GivesBool (comparison_of (entries_of v) n (te
 
 -- a turn, with the stack and the units after it
 abbrev pub Turns : Entries → PoolReducer → Next → Vec TermId Global → ℕ → Result Turn Stop → PoolReducer → Vec TermId Global → ℕ → Type 0
-Turns v old next ids n turn new ids' left = TurnsTo (entries_of v) (next_due (entries_of v) old.pool next ids.items n) new.pool turn ids'.items left
+Turns v old next ids n turn new ids' left = (due : Units Tree) → IsDue (entries_of v) old.pool next ids.items n due → TurnsTo (entries_of v) due new.pool turn ids'.items left
 
 -- the turn of a head
 abbrev pub TurnsHead : Entries → PoolReducer → TermId → Vec TermId Global → ℕ → Result Turn Stop → PoolReducer → Vec TermId Global → ℕ → Type 0
@@ -59,3 +70,22 @@ TurnsSelection v old s ids n turn new ids' left = TurnsTo (entries_of v) (rewrit
 abbrev pub PutsRight : PoolReducer → List (Option TermId) → PlainRule → Vec TermId Global → PoolReducer → TermId → Vec TermId Global → Type 0
 PutsRight old taken r ids new t ids' =
     (wound (term new.pool t) (behind new.pool ids'.items) ≡ applied (filled (captured_terms old.pool taken) 0 r.right) (drop (length r.pats) (from_top (behind old.pool ids.items)))) × (t.0 < length new.pool)
+
+-- the same by a selection that waited and is told a weak head form
+abbrev pub TurnsTold : Entries → PoolReducer → Pause → Result Turn Stop → PoolReducer → Vec TermId Global → ℕ → Type 0
+TurnsTold v old p turn new ids left = (due : Units Tree) → Continues (entries_of v) old.pool p due → TurnsTo (entries_of v) due new.pool turn ids.items left
+
+-- the same by one that waits for a comparison, or for a normal form
+abbrev pub TurnsCompared : Entries → PoolReducer → Waiter → Look → Vec Step Global → ℕ → Result Turn Stop → PoolReducer → Vec TermId Global → ℕ → Type 0
+TurnsCompared v old w look steps n turn new ids left = (due : Units Tree) → GoesOnWhether (entries_of v) old.pool w (look_due (entries_of v) old.pool look n steps.items) due
+    → TurnsTo (entries_of v) due new.pool turn ids.items left
+
+abbrev pub TurnsNormal : Entries → PoolReducer → Waiter → Part → Vec Frame Global → ℕ → Result Turn Stop → PoolReducer → Vec TermId Global → ℕ → Type 0
+TurnsNormal v old w next frames n turn new ids left = (due : Units Tree)
+    → GoesOnWith (entries_of v) old.pool w (λ u. Normal u) (resumed (entries_of v) old.pool frames.items (part_due (entries_of v) old.pool next n)) due
+    → TurnsTo (entries_of v) due new.pool turn ids.items left
+
+-- a selection waits, or goes on at once, where the first one of those before gives `whole`
+abbrev pub LetsWait : Entries → PoolReducer → Pause → Vec Pause Global → Result Next Stop → Vec Pause Global → ℕ → Type 0
+LetsWait v r p old next new left = (whole due : Units Tree) → Await (entries_of v) r.pool whole old.items due → Continues (entries_of v) r.pool p due
+    → GoesNext (entries_of v) r.pool whole next new.items left

@@ -1,5 +1,5 @@
 -- For proofs: what waits for the normal form of a part: a stack of frames, the innermost one on top.
-use Rattle.std.specs.Prelude.{ℕ, ◌≡◌, ◌<◌, ◌≤◌, Some, None, Result, Ok, Err, List, [], ◌∷◌, length}
+use Rattle.std.specs.Prelude.{ℕ, ◌≡◌, ◌<◌, ◌≤◌, ◌+◌, Option, Some, None, Result, Ok, Err, List, [], ◌∷◌, length}
 use Rattle.dk_model.specs.Trees.{Tree, apply, bare, annotated, product}
 use Rattle.dk_model.specs.Signatures.{PlainSignature}
 use Rattle.dk_model.specs.Units.{Units, bind}
@@ -13,6 +13,9 @@ use Rattle.conversion.specs.declared.normal.Frame.{Frame}
 use Rattle.conversion.specs.declared.normal.Frame.TheVariants.{Argument, Function, Body, Annotation, Annotated, Domain, Codomain, Conclude}
 use Rattle.conversion.specs.declared.normal.Next.{Next}
 use Rattle.conversion.specs.declared.normal.Next.TheVariants.{Part, Head}
+use Rattle.conversion.specs.declared.normal.OpenPart.{OpenPart}
+use Rattle.conversion.specs.declared.normal.Normalised.{Normalised}
+use Rattle.conversion.specs.declared.normal.Normalised.TheVariants.{Told, Asks}
 
 -- a frame is about terms of a pool of so many nodes
 abbrev pub IsFrame : ℕ → Frame → Type 0
@@ -64,12 +67,6 @@ pub record IsResumed (S : PlainSignature) (ns : List Node) (due x : Units Tree) 
 abbrev pub value_due : List Node → TermId → ℕ → Units Tree
 value_due ns v left = Some (term ns v, left)
 
--- the normal form `due` goes on with a part that has its own
-abbrev pub GivesPart : PlainSignature → Units Tree → List Node → Result TermId Stop → List Frame → ℕ → Type 0
-GivesPart S due ns (Ok v) fs left = IsResumed S ns due (value_due ns v left) left fs × (v.0 < length ns)
-GivesPart S due ns (Err Ended) fs left = (due ≡ None) × (left ≡ 0)
-GivesPart S due ns (Err NoMemory) fs left = Unit {0}
-
 -- what the innermost frame gets
 abbrev pub next_due : PlainSignature → List Node → Next → ℕ → Units Tree
 next_due S ns (Part t) left = normal_of S left (term ns t)
@@ -83,3 +80,33 @@ IsNext n (Head h) = h.0 < n
 abbrev pub TakesValueApart : List Node → Tree → List Frame → Next → List Frame → Type 0
 TakesValueApart ns value old next new = IsNext (length ns) next × ((S : PlainSignature) (due : Units Tree) (left : ℕ)
     → IsResumed S ns due (each_normal (normal_of S) value left) left old → IsResumed S ns due (next_due S ns next left) left new)
+
+-- whether it may take no unit
+abbrev pub next_rank : Next → ℕ
+next_rank (Part t) = 0
+next_rank (Head h) = 1
+
+-- the normal form of a part is there at once; or its weak head form is to be taken apart, with a unit less
+abbrev pub MeetsPart : PlainSignature → List Node → TermId → ℕ → Result (Option TermId) Stop → ℕ → Type 0
+MeetsPart S ns t n (Ok (Some v)) left = (normal_of S n (term ns t) ≡ value_due ns v left) × (v.0 < length ns)
+MeetsPart S ns t n (Ok None) left = left + 1 ≡ n
+MeetsPart S ns t n (Err Ended) left = (normal_of S n (term ns t) ≡ None) × (left ≡ 0)
+MeetsPart S ns t n (Err NoMemory) left = Unit {0}
+
+-- the normal form `due` is under way, and the weak head form of this part is to be taken apart next
+pub record IsOpenPart (S : PlainSignature) (ns : List Node) (due : Units Tree) (fs : List Frame) (p : OpenPart) : Type 0 where
+  pub way : IsResumed S ns due (normal_of S p.before (term ns p.part)) p.before fs
+  pub part : p.part.0 < length ns
+  pub some : 0 < p.before
+
+-- the normal form `due` is told, or waits
+abbrev pub GivesNormal : PlainSignature → Units Tree → List Node → Result Normalised Stop → List Frame → ℕ → Type 0
+GivesNormal S due ns (Ok (Told v)) fs left = (due ≡ value_due ns v left) × (v.0 < length ns)
+GivesNormal S due ns (Ok (Asks p)) fs left = IsOpenPart S ns due fs p × (left + 1 ≡ p.before)
+GivesNormal S due ns (Err Ended) fs left = (due ≡ None) × (left ≡ 0)
+GivesNormal S due ns (Err NoMemory) fs left = Unit {0}
+
+-- a unit was taken where it waits
+abbrev pub asks_rank : Normalised → ℕ
+asks_rank (Told v) = 0
+asks_rank (Asks p) = 1

@@ -1,11 +1,12 @@
 //! The comparison of two terms, by a stack of steps.
-ghost use Rattle.std.specs.Prelude.{◌≡◌, ◌≤◌, ◌<◌, [], ◌∷◌, ◌++◌, false, length, OnOk, IfOk, if◌then◌else◌};
+ghost use Rattle.std.specs.Prelude.{◌≡◌, ◌≤◌, ◌<◌, ◌+◌, [], ◌∷◌, ◌++◌, false, length, OnOk, IfOk, if◌then◌else◌};
 ghost use Rattle.dk_model.specs.Spines.{pairs_of};
 ghost use Rattle.shared_term.specs.Pools.{term, terms, denoted, IsWithin, Extends};
 ghost use Rattle.signature_log.specs.Versions.{entries_of};
 ghost use Rattle.conversion.specs.Machine.{is_application};
 ghost use Rattle.conversion.specs.declared.compare.HeadPairs.TheVariants.{Alike, Differ};
-ghost use Rattle.conversion.specs.Pending.{pending, pair_compared, AreSteps, AreOpen, AreHeads, head_pairs, TakesApart, GivesPair};
+ghost use Rattle.conversion.specs.Pending.{AreHeads, head_pairs, TakesApart, IsLook, look_made, look_due, look_rank, IsUnderWay, Meets, GivesCompared, asks_rank};
+ghost use Rattle.conversion.specs.declared.compare.Step.TheVariants.{Conclude};
 ghost use Rattle.conversion.specs.Reducers.{Serves};
 ghost use Rattle.conversion.specs.Trees.{AreTrees};
 ghost use Rattle.conversion.specs.Clauses.{Compares};
@@ -40,12 +41,46 @@ pub(crate) enum HeadPairs {
     Products(TermId, TermId, TermId, TermId),
 }
 
+/// Two terms that are compared by their weak head forms.
+#[derive(Clone, Copy)]
+pub(crate) struct OpenPair {
+    pub(crate) first: TermId,
+    pub(crate) second: TermId,
+    /// The units that there were before.
+    pub(crate) before: u64,
+}
+
+/// What a comparison does next.
+#[derive(Clone, Copy)]
+pub(crate) enum Look {
+    /// It compares two terms.
+    At(TermId, TermId),
+    /// It goes on behind a pair that is alike, or isn't.
+    Behind(bool),
+}
+
+/// How far a pair was compared.
+#[derive(Clone, Copy)]
+enum Met {
+    /// It is told, for the units that are taken.
+    AtOnce(bool),
+    /// Its weak head forms are to be compared.
+    Opens,
+}
+
+/// What a comparison comes to, or waits for.
+#[derive(Clone, Copy)]
+pub(crate) enum Compared {
+    Told(bool),
+    /// The weak head forms of a pair.
+    Asks(OpenPair),
+}
+
 impl PoolReducer {
     /// Whether the two are convertible, as evaluation over the version finds it (docs/evaluation.md).
     ///
     /// Each pair that is compared takes a unit, and each weak head form those that it takes. `Ended` comes only where they
     /// don't suffice, and leaves none. The answer for each pair is remembered.
-    #[cycle(evaluation)]
     #[tactic(auto, using(crate::proofs::Winding::extends_none, crate::proofs::Winding::extends_more))]
     pub(crate) fn compare(
         &mut self,
@@ -63,78 +98,127 @@ impl PoolReducer {
         ensures keeps { Extends self.old.pool self.new.pool }
         ensures serves { Serves (entries_of version.now) self.new }
         ensures spent { left.new ≤ left.old }
-        ensures turned { OnOk result (left.new < left.old) }
     {
         let mut work = Vec::new(self.alloc);
-        let mut alike = self.compare_pair(version, trees, t, u, &mut work, left)?;
-        while let Some(step) = work.pop() {
-            match step {
-                Step::Pair(first, second) => {
-                    if alike {
-                        alike = self.compare_pair(version, trees, first, second, &mut work, left)?;
-                    }
-                }
-                Step::Conclude(first, second, before) => {
-                    let units = before - *left;
-                    let answer = Answer { alike, units };
-                    self.answers.put(first.number(), second.number(), answer);
+        let mut look = Look::At(t, u);
+        loop {
+            match self.compare_on(version, look, &mut work, left)? {
+                Compared::Told(alike) => return Ok(alike),
+                Compared::Asks(pair) => {
+                    let x = self.evaluate(version, trees, pair.first, left)?;
+                    let y = self.evaluate(version, trees, pair.second, left)?;
+                    let alike = pair_parts(&self.pool, pair, x, y, &mut work)?;
+                    look = Look::Behind(alike);
                 }
             }
         }
-        Ok(alike)
     }
 
-    /// The comparison of a pair, up to that of its parts, which go onto the stack; false where the two aren't convertible.
-    #[cycle(evaluation)]
+    /// Goes on with a comparison, up to the weak head forms that it asks for.
     #[tactic(auto, using(crate::proofs::Winding::extends_none, crate::proofs::Winding::extends_more))]
-    fn compare_pair(
+    pub(crate) fn compare_on(
         &mut self,
         version: &Version,
-        trees: &Trees,
-        t: TermId,
-        u: TermId,
+        look: Look,
         work: &mut Vec<Step>,
         left: &mut u64,
-    ) -> Result<bool, Stop>
-        requires t { t.0 < length self.old.pool }
-        requires u { u.0 < length self.old.pool }
-        requires steps { AreSteps (length self.old.pool) work.old.items }
-        requires opened { AreOpen (entries_of version.now) self.old.pool
-            (pair_compared (entries_of version.now) (term self.old.pool t) (term self.old.pool u) left.old)
-            left.old work.old.items }
+    ) -> Result<Compared, Stop>
+        requires look { IsLook (length self.old.pool) look }
+        requires open { IsUnderWay (entries_of version.now) self.old.pool
+            (look_due (entries_of version.now) self.old.pool look left.old work.old.items)
+            (look_made (entries_of version.now) self.old.pool look left.old) left.old work.old.items }
         requires serves { Serves (entries_of version.now) self.old }
-        requires trees { AreTrees (entries_of version.now) trees.now }
-        ensures gives { GivesPair (entries_of version.now)
-            (pair_compared (entries_of version.now) (term self.old.pool t) (term self.old.pool u) left.old
-            (pending self.old.pool work.old.items)) self.new.pool result work.new.items left.new }
+        ensures gives { GivesCompared (entries_of version.now)
+            (look_due (entries_of version.now) self.old.pool look left.old work.old.items) self.new.pool result
+            work.new.items left.new }
         ensures keeps { Extends self.old.pool self.new.pool }
         ensures serves { Serves (entries_of version.now) self.new }
         ensures spent { left.new ≤ left.old }
+        ensures turned { OnOk result (left.new < left.old + look_rank look) }
+        ensures asked { IfOk result (λ c. left.new + asks_rank c ≤ left.old) }
+    {
+        let mut look = look;
+        loop {
+            match look {
+                Look::At(first, second) => {
+                    let before = *left;
+                    match self.meet(version, first, second, left)? {
+                        Met::AtOnce(alike) => look = Look::Behind(alike),
+                        Met::Opens => return Ok(Compared::Asks(OpenPair {
+                            first,
+                            second,
+                            before,
+                        })),
+                    }
+                }
+                Look::Behind(alike) => match work.pop() {
+                    None => return Ok(Compared::Told(alike)),
+                    Some(Step::Pair(first, second)) => {
+                        if alike {
+                            look = Look::At(first, second);
+                        }
+                    }
+                    Some(Step::Conclude(first, second, before)) => {
+                        let units = before - *left;
+                        let answer = Answer { alike, units };
+                        self.answers.put(first.number(), second.number(), answer);
+                    }
+                },
+            }
+        }
+    }
+
+    /// The comparison of a pair, where it is told at once: equal terms, and those that are remembered. It takes a unit at least.
+    fn meet(&mut self, version: &Version, t: TermId, u: TermId, left: &mut u64) -> Result<Met, Stop>
+        requires t { t.0 < length self.old.pool }
+        requires u { u.0 < length self.old.pool }
+        requires serves { Serves (entries_of version.now) self.old }
+        ensures gives { Meets (entries_of version.now) self.old.pool t u left.old result left.new }
+        ensures same { self.new ≡ self.old }
+        ensures spent { left.new ≤ left.old }
         ensures turned { OnOk result (left.new < left.old) }
     {
+        let _version = version;
         if *left == 0 {
             return Err(Stop::Ended);
         }
         if self.pool.same(t, u) {
             *left -= 1;
-            return Ok(true);
+            return Ok(Met::AtOnce(true));
         }
-        if let Some(found) = self.answers.find(t.number(), u.number()) {
-            if *left < found.units {
-                *left = 0;
-                return Err(Stop::Ended);
+        match self.answers.find(t.number(), u.number()) {
+            Some(found) => {
+                if *left < found.units {
+                    *left = 0;
+                    return Err(Stop::Ended);
+                }
+                *left -= found.units;
+                Ok(Met::AtOnce(found.alike))
             }
-            *left -= found.units;
-            return Ok(found.alike);
+            None => {
+                *left -= 1;
+                Ok(Met::Opens)
+            }
         }
-        let before = *left;
-        *left -= 1;
-        let x = self.evaluate(version, trees, t, left)?;
-        let y = self.evaluate(version, trees, u, left)?;
-        push_step(work, Step::Conclude(t, u, before))?;
-        let alike = parts(&self.pool, x, y, work)?;
-        Ok(alike)
     }
+}
+
+/// The parts of a pair's weak head forms go onto the stack, on what is to be concluded of the pair; false where their heads
+/// differ.
+pub(crate) fn pair_parts(
+    pool: &Pool,
+    pair: OpenPair,
+    x: TermId,
+    y: TermId,
+    work: &mut Vec<Step>,
+) -> Result<bool, NoMemory>
+    requires x { x.0 < length pool.now }
+    requires y { y.0 < length pool.now }
+    ensures { IfOk result (λ alike. TakesApart pool.now (term pool.now x) (term pool.now y)
+        (work.old.items ++ Conclude pair.first pair.second pair.before ∷ []) alike work.new.items) }
+{
+    push_step(work, Step::Conclude(pair.first, pair.second, pair.before))?;
+    parts(pool, x, y, work)
 }
 
 /// Puts a step on the stack.

@@ -1,36 +1,26 @@
 //! The weak head form, by turns over a term, a stack of arguments and a stack of selections that wait for a value.
-ghost use Rattle.std.specs.Prelude.{◌≡◌, ◌+◌, ◌≤◌, ◌<◌, ◌∷◌, ◌++◌, [], IfOk, OnOk, length};
+ghost use Rattle.std.specs.Prelude.{◌≡◌, ◌+◌, ◌*◌, ◌≤◌, ◌<◌, ◌∷◌, ◌++◌, [], IfOk, OnOk, length};
 ghost use Rattle.shared_term.specs.Pools.{Extends};
 ghost use Rattle.signature_log.specs.Versions.{entries_of};
 ghost use Rattle.conversion.specs.Machine.{AreWithin};
 ghost use Rattle.conversion.specs.Reducers.{Serves};
 ghost use Rattle.conversion.specs.Trees.{AreTrees};
-ghost use Rattle.conversion.specs.Turning.{IsNext, next_rank, turn_rank};
-ghost use Rattle.conversion.specs.Clauses.{Evaluates, Turns};
+ghost use Rattle.conversion.specs.Pausing.{IsPause, ArePauses};
+ghost use Rattle.conversion.specs.Turning.{IsDue, IsNext, next_rank, told_rank, next_weight, turn_rank};
+ghost use Rattle.conversion.specs.Clauses.{Evaluates, Turns, LetsWait};
+ghost use Rattle.dk_model.specs.Trees.{Tree};
+ghost use Rattle.dk_model.specs.Units.{Units};
 
 use crate::PoolReducer;
 use crate::machine::wind;
+use crate::pauses::Pause;
 use crate::selection::Selection;
 use crate::state::Value;
 use crate::trees::Trees;
 use crate::turn::Turn;
 use dk_model::{NoMemory, Stop};
-use rule_match::{Answer, Matcher};
 use shared_term::{TermId, unwind};
 use signature_log::Version;
-
-/// A selection that waits for a value.
-#[derive(Drop)]
-pub(crate) struct Pause<'v> {
-    pub(crate) symbol: u32,
-    pub(crate) matcher: Matcher<'v>,
-    /// The arguments of its symbol, the first one on top.
-    pub(crate) stack: Vec<TermId>,
-    /// The term whose value it is.
-    pub(crate) asked: TermId,
-    /// The units that there were when it was asked for.
-    pub(crate) start: u64,
-}
 
 /// What is done next over a stack of arguments.
 #[derive(Drop)]
@@ -39,6 +29,8 @@ pub(crate) enum Next<'v> {
     Whole(TermId),
     /// A selection, to go on.
     Goes(Selection<'v>),
+    /// A selection that waited for this weak head form.
+    Told(Pause<'v>, TermId),
 }
 
 impl PoolReducer {
@@ -47,7 +39,6 @@ impl PoolReducer {
     /// `left` has the units that may be spent, and then those that are left. Each turn takes one: a contraction, a rule of
     /// the head symbol, or the end. `Ended` comes only where they don't suffice, and leaves none. A form that was found
     /// before takes what it took then.
-    #[cycle(evaluation)]
     #[tactic(auto, using(crate::proofs::Winding::extends_none, crate::proofs::Winding::extends_more, crate::proofs::Serving::loaded_grown, crate::proofs::Serving::heads_grown, crate::proofs::Serving::values_grown, crate::proofs::Serving::normals_grown, crate::proofs::Serving::answers_grown))]
     pub(crate) fn evaluate(
         &mut self,
@@ -80,7 +71,6 @@ impl PoolReducer {
     }
 
     /// The same, of a term whose form isn't remembered.
-    #[cycle(evaluation)]
     #[tactic(auto, using(crate::proofs::Winding::extends_none, crate::proofs::Winding::extends_more, crate::proofs::Serving::loaded_grown, crate::proofs::Serving::heads_grown, crate::proofs::Serving::values_grown, crate::proofs::Serving::normals_grown, crate::proofs::Serving::answers_grown, shared_term::proofs::Winding::within_grown, crate::proofs::Pausing::pauses_grown, crate::proofs::Pausing::pauses_pushed, crate::proofs::Pausing::pauses_popped, crate::proofs::Pausing::popped_pause, crate::proofs::Pausing::awaits_none))]
     fn evaluated(
         &mut self,
@@ -104,24 +94,17 @@ impl PoolReducer {
             match self.turn(version, trees, next, &mut stack, left)? {
                 Turn::Goes(term) => next = Next::Whole(term),
                 Turn::Selects(selection) => next = Next::Goes(selection),
-                Turn::Asks(pause) => {
-                    next = Next::Whole(pause.asked);
-                    push_pause(&mut pauses, pause)?;
-                }
+                Turn::Asks(pause) => next = self.wait(version, pause, &mut pauses, left)?,
                 Turn::Stands(head) => {
                     let value = wind(&mut self.pool, head, stack)?;
+                    stack = Vec::new(self.alloc);
                     match pauses.pop() {
                         None => return Ok(value),
                         Some(pause) => {
-                            stack = pause.stack;
                             let units = pause.start - *left;
                             let key = pause.asked.number();
                             self.values.put(key, 0, Value { id: value, units });
-                            next = Next::Goes(Selection {
-                                symbol: pause.symbol,
-                                matcher: pause.matcher,
-                                answer: Answer::Value(value),
-                            });
+                            next = Next::Told(pause, value);
                         }
                     }
                 }
@@ -129,8 +112,44 @@ impl PoolReducer {
         }
     }
 
+    /// A selection that asks for a weak head form waits, unless that is remembered.
+    fn wait<'v>(
+        &self,
+        version: &Version,
+        pause: Pause<'v>,
+        pauses: &mut Vec<Pause<'v>>,
+        left: &mut u64,
+    ) -> Result<Next<'v>, Stop>
+        requires pause { IsPause (entries_of version.now) (length self.now.pool) pause }
+        requires start { pause.start ≡ left.old }
+        requires pauses { ArePauses (entries_of version.now) (length self.now.pool) pauses.old.items }
+        requires serves { Serves (entries_of version.now) self.now }
+        ensures gives { LetsWait version.now self.now pause.entry pauses.old result pauses.new left.new }
+        ensures next { IfOk result (IsNext (entries_of version.now) (length self.now.pool)) }
+        ensures pauses { OnOk result (ArePauses (entries_of version.now) (length self.now.pool)
+            pauses.new.items) }
+        ensures spent { left.new ≤ left.old }
+        ensures less { IfOk result (λ next. 8 * left.new + (2 * length pauses.new.items + next_weight next)
+            ≤ 8 * left.old + (2 * length pauses.old.items + 2)) }
+    {
+        match self.known(version, pause.asked) {
+            Some(found) => {
+                if *left < found.units {
+                    *left = 0;
+                    return Err(Stop::Ended);
+                }
+                *left -= found.units;
+                Ok(Next::Told(pause, found.id))
+            }
+            None => {
+                let asked = pause.asked;
+                push_pause(pauses, pause)?;
+                Ok(Next::Whole(asked))
+            }
+        }
+    }
+
     /// A turn of a term, or a selection for a symbol, whose turn took its unit already, up to its next answer.
-    #[cycle(evaluation)]
     #[tactic(auto, using(crate::proofs::Winding::extends_none, crate::proofs::Winding::extends_more, crate::proofs::Serving::loaded_grown, crate::proofs::Serving::heads_grown, crate::proofs::Serving::values_grown, crate::proofs::Serving::normals_grown, crate::proofs::Serving::answers_grown))]
     fn turn<'v>(
         &mut self,
@@ -141,6 +160,8 @@ impl PoolReducer {
         left: &mut u64,
     ) -> Result<Turn<'v>, Stop>
         requires next { IsNext (entries_of version.now) (length self.old.pool) next }
+        requires due { (due : Units Tree) × IsDue (entries_of version.now) self.old.pool next stack.old.items
+            left.old due }
         requires stack { AreWithin (length self.old.pool) stack.old.items }
         requires serves { Serves (entries_of version.now) self.old }
         requires trees { AreTrees (entries_of version.now) trees.now }
@@ -151,14 +172,15 @@ impl PoolReducer {
         ensures serves { Serves (entries_of version.now) self.new }
         ensures spent { left.new ≤ left.old }
         ensures turned { OnOk result (left.new < left.old + next_rank next.entry) }
-        ensures selects { IfOk result (λ turn. left.new + turn_rank turn ≤ left.old) }
+        ensures selects { IfOk result (λ turn. left.new + turn_rank turn ≤ left.old + told_rank next.entry) }
     {
         match next {
             Next::Whole(term) => {
                 let head = unwind(&self.pool, term, stack)?;
                 self.turn_head(version, trees, head, stack, left)
             }
-            Next::Goes(selection) => self.turn_selection(version, trees, selection, stack, left),
+            Next::Goes(selection) => self.turn_selection(version, selection, stack, left),
+            Next::Told(pause, value) => self.told(version, pause, value, stack, left),
         }
     }
 }

@@ -13,6 +13,7 @@ mod loading;
 mod machine;
 mod mentions;
 mod normal;
+mod pauses;
 mod putting;
 mod reducer;
 mod rules;

@@ -49,8 +49,6 @@ pub struct PoolReducer {
     /// The trees of symbols whose rules were gone through often. A call from outside takes them out while it runs.
     pub(crate) trees: Trees,
     pub(crate) walks: Walks,
-    /// How many comparisons and normal forms that rules ask for are inside each other.
-    pub(crate) nested: u32,
 }
 
 /// How many forms and answers of each kind are remembered at most.
@@ -61,10 +59,6 @@ const RIGHT_SIDES: usize = 1024;
 
 /// Of how many symbols it is remembered what they do.
 const HEADS: usize = 1024;
-
-/// How many comparisons and normal forms that rules ask for may be inside each other: these alone nest on the program's
-/// stack (docs/DECISIONS.md). One more is want of memory.
-const MOST_NESTED: u32 = 100_000;
 
 /// A pool of more nodes than this is dropped, not cleared.
 const MOST_KEPT: usize = 1 << 16;
@@ -107,7 +101,6 @@ impl PoolReducer {
             answers,
             trees: Trees::new(alloc),
             walks,
-            nested: 0,
         })
     }
 
@@ -130,14 +123,5 @@ impl PoolReducer {
         self.answers.clear();
         self.trees = Trees::new(self.alloc);
         self.walks.clear();
-    }
-}
-
-/// One evaluation more inside others, where the stack has room for it.
-pub(crate) fn deeper(nested: u32) -> Result<u32, NoMemory> {
-    if nested < MOST_NESTED {
-        Ok(nested + 1)
-    } else {
-        Err(NoMemory)
     }
 }

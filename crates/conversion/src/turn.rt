@@ -13,22 +13,23 @@ ghost use Rattle.conversion.specs.Machine.{AreWithin, is_application};
 ghost use Rattle.conversion.specs.Pausing.{IsSelection, StartsOver};
 ghost use Rattle.conversion.specs.Reducers.{Serves};
 ghost use Rattle.conversion.specs.Trees.{AreTrees};
-ghost use Rattle.conversion.specs.Turning.{turn_rank, Waits};
+ghost use Rattle.conversion.specs.Turning.{turn_rank};
 ghost use Rattle.conversion.specs.Clauses.{TurnsHead, TurnsSymbol, TurnsSelection, PutsRight, Normalises, Compares};
 
 use crate::PoolReducer;
-use crate::evaluate::Pause;
+use crate::compare::Look;
+use crate::normal::Next;
+use crate::pauses::{Pause, Purpose, with_arguments};
 use crate::putting::{Filling, put};
 use crate::rules::rule_at;
 use crate::selection::{Selection, left_sides, told};
-use crate::state::{Head, deeper};
+use crate::state::Head;
 use crate::trees::{MOST_TREES, Trees};
 use dk_model::{NoMemory, NodeOf, Stop};
 use rule_match::{Answer, Ask, Matcher, Tree};
 use shared_term::TermId;
 use signature_log::{Row, Rows, Version};
 use std::alloc::Global;
-use std::mem;
 
 /// What a turn makes of a term before arguments.
 #[derive(Drop)]
@@ -165,12 +166,10 @@ impl PoolReducer {
 
     /// A selection with its answer, up to what it asks for next, over the arguments of a stack: the turn of its symbol
     /// where a rule is taken or none.
-    #[cycle(evaluation)]
     #[tactic(auto, using(crate::proofs::Winding::extends_none, crate::proofs::Winding::extends_more, crate::proofs::Serving::loaded_grown, crate::proofs::Serving::heads_grown, crate::proofs::Serving::values_grown, crate::proofs::Serving::normals_grown, crate::proofs::Serving::answers_grown, shared_term::proofs::Winding::within_grown))]
     pub(crate) fn turn_selection<'v>(
         &mut self,
         version: &'v Version,
-        trees: &'v Trees,
         selection: Selection<'v>,
         stack: &mut Vec<TermId>,
         left: &mut u64,
@@ -178,7 +177,6 @@ impl PoolReducer {
         requires selection { IsSelection (entries_of version.now) (length self.old.pool) selection }
         requires stack { AreWithin (length self.old.pool) stack.old.items }
         requires serves { Serves (entries_of version.now) self.old }
-        requires trees { AreTrees (entries_of version.now) trees.now }
         ensures gives { TurnsSelection version.now self.old selection.entry stack.old left.old result
             self.new stack.new left.new }
         ensures stack { OnOk result (AreWithin (length self.new.pool) stack.new.items) }
@@ -201,79 +199,25 @@ impl PoolReducer {
             }
             Ask::Evaluate(column) => {
                 let asked = matcher.at(column);
-                self.ask(version, symbol, matcher, asked, stack, left)
+                let waiter = with_arguments(self.alloc, symbol, matcher, stack);
+                Ok(Turn::Asks(Pause {
+                    waiter,
+                    purpose: Purpose::Column,
+                    asked,
+                    start: *left,
+                }))
             }
             Ask::Escape(part) => {
-                let normal = self.normalise_inside(version, trees, part, left)?;
-                Ok(Turn::Selects(Selection {
-                    symbol,
-                    matcher,
-                    answer: Answer::Normal(normal),
-                }))
+                let waiter = with_arguments(self.alloc, symbol, matcher, stack);
+                let frames = Vec::new(self.alloc);
+                self.normalise_for(version, waiter, Next::Part(part), frames, stack, left)
             }
             Ask::Same(first, second) => {
-                let alike = self.compare_inside(version, trees, first, second, left)?;
-                Ok(Turn::Selects(Selection {
-                    symbol,
-                    matcher,
-                    answer: told(alike),
-                }))
+                let waiter = with_arguments(self.alloc, symbol, matcher, stack);
+                let work = Vec::new(self.alloc);
+                self.compare_for(version, waiter, Look::At(first, second), work, stack, left)
             }
         }
-    }
-
-    /// The normal form that a selection asks for, where the stack has room for one more inside others.
-    #[cycle(evaluation)]
-    #[tactic(auto, using(crate::proofs::Winding::extends_none, crate::proofs::Serving::serves_again))]
-    fn normalise_inside(
-        &mut self,
-        version: &Version,
-        trees: &Trees,
-        part: TermId,
-        left: &mut u64,
-    ) -> Result<TermId, Stop>
-        requires part { part.0 < length self.old.pool }
-        requires serves { Serves (entries_of version.now) self.old }
-        requires trees { AreTrees (entries_of version.now) trees.now }
-        ensures gives { Normalises version.now self.old part left.old result self.new left.new }
-        ensures keeps { Extends self.old.pool self.new.pool }
-        ensures serves { Serves (entries_of version.now) self.new }
-        ensures spent { left.new ≤ left.old }
-        ensures turned { OnOk result (left.new < left.old) }
-    {
-        let nested = self.nested;
-        self.nested = deeper(nested)?;
-        let normal = self.normalise(version, trees, part, left);
-        self.nested = nested;
-        normal
-    }
-
-    /// The comparison that a selection asks for, where the stack has room for one more inside others.
-    #[cycle(evaluation)]
-    #[tactic(auto, using(crate::proofs::Winding::extends_none, crate::proofs::Serving::serves_again))]
-    fn compare_inside(
-        &mut self,
-        version: &Version,
-        trees: &Trees,
-        first: TermId,
-        second: TermId,
-        left: &mut u64,
-    ) -> Result<bool, Stop>
-        requires first { first.0 < length self.old.pool }
-        requires second { second.0 < length self.old.pool }
-        requires serves { Serves (entries_of version.now) self.old }
-        requires trees { AreTrees (entries_of version.now) trees.now }
-        ensures gives { Compares version.now self.old first second left.old result left.new }
-        ensures keeps { Extends self.old.pool self.new.pool }
-        ensures serves { Serves (entries_of version.now) self.new }
-        ensures spent { left.new ≤ left.old }
-        ensures turned { OnOk result (left.new < left.old) }
-    {
-        let nested = self.nested;
-        self.nested = deeper(nested)?;
-        let alike = self.compare(version, trees, first, second, left);
-        self.nested = nested;
-        alike
     }
 
     /// The right side of a rule that was taken, in the place of the arguments of its patterns.
@@ -305,54 +249,6 @@ impl PoolReducer {
         stack.truncate(kept);
         let next = put(&mut self.pool, right, Filling::Captures(captures), stack)?;
         Ok(next)
-    }
-
-    /// The selection once the term that it asks for has its value, where that is remembered; else it waits.
-    fn ask<'v>(
-        &self,
-        version: &Version,
-        symbol: u32,
-        matcher: Matcher<'v>,
-        asked: TermId,
-        stack: &mut Vec<TermId>,
-        left: &mut u64,
-    ) -> Result<Turn<'v>, Stop>
-        requires matcher { IsMatcher (length self.now.pool) matcher }
-        requires stands { Stands (rules_of (entries_of version.now) symbol) matcher }
-        requires awaits { TakesValue matcher }
-        requires asked { asked.0 < length self.now.pool }
-        requires stack { AreWithin (length self.now.pool) stack.old.items }
-        requires serves { Serves (entries_of version.now) self.now }
-        ensures gives { Waits (entries_of version.now) self.now.pool symbol matcher.entry asked
-            stack.old left.old result stack.new left.new }
-        ensures stack { OnOk result (AreWithin (length self.now.pool) stack.new.items) }
-        ensures spent { left.new ≤ left.old }
-        ensures turned { IfOk result (λ turn. left.new + turn_rank turn ≤ left.old) }
-    {
-        match self.known(version, asked) {
-            Some(found) => {
-                if *left < found.units {
-                    *left = 0;
-                    return Err(Stop::Ended);
-                }
-                *left -= found.units;
-                Ok(Turn::Selects(Selection {
-                    symbol,
-                    matcher,
-                    answer: Answer::Value(found.id),
-                }))
-            }
-            None => {
-                let stack = mem::replace(stack, Vec::new(self.alloc));
-                Ok(Turn::Asks(Pause {
-                    symbol,
-                    matcher,
-                    stack,
-                    asked,
-                    start: *left,
-                }))
-            }
-        }
     }
 }
 

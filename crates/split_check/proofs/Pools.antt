@@ -117,10 +117,7 @@ reducer_send =
                     trees_row_send,
                     (
                       walks_send,
-                      (
-                        search (sendable, crosses) depth 20,
-                        tt,
-                      ),
+                      tt,
                     ),
                   ),
                 ),

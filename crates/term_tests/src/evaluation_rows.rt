@@ -255,7 +255,7 @@ pub const ROWS: [Row; 23] = [
 ];
 
 /// Rows that plain trees take too long for, or too deep.
-pub const LARGE: [Row; 4] = [
+pub const LARGE: [Row; 6] = [
     // Rules of one symbol in 1,099 commands, which stand in three levels of blocks.
     (
         &[
@@ -300,6 +300,33 @@ pub const LARGE: [Row; 4] = [
         ],
         Asked::Head,
         262_144,
+        Ok(true),
+    ),
+    // Comparisons that wait for each other, 131,072 deep. Each `p0` takes five more than its argument: a turn, one of `same`, the
+    // comparison, its second term and the `z` that is left. The innermost one compares `z` with itself, and evaluates neither.
+    (
+        &[
+            ("z : Type. def same : Type. [x] same x x --> z. ", 1),
+            ("def p0 : Type. [x] p0 x --> same x z. ", 1),
+            ("def p@ : Type. [x] p@ x --> p$ (p$ x). ", 17),
+            ("def t := p17 z. def v := z.", 1),
+        ],
+        Asked::Head,
+        786_430,
+        Ok(true),
+    ),
+    // Normal forms that wait for each other, as deep. Each `p0` takes six more: a turn, one of `part`, its column, the normal
+    // form, a turn of `left` and the `z` that is left.
+    (
+        &[
+            ("z : Type. def left : Type. [x, y] left x y --> x. ", 1),
+            ("def part : Type. [x] part (y => x) --> x. ", 1),
+            ("def p0 : Type. [x] p0 x --> part (y => left x y). ", 1),
+            ("def p@ : Type. [x] p@ x --> p$ (p$ x). ", 17),
+            ("def t := p17 z. def v := z.", 1),
+        ],
+        Asked::Head,
+        917_504,
         Ok(true),
     ),
     // Nesting without an end takes the budget.

@@ -60,7 +60,7 @@ returns-in_ok-body-in-Some-Body-clause-serves c =
     ap (λ l. slice_get l 0) (flip c.rules_of-rules.ensures) ∙ flip (rw c.in-Some-Body.field-0-is at (c.in-Some-Body.ensures c.args.symbol)) in
     let l = c.in_ok-body-in-Some-Body.ensures in
     let d = rw c.in-Some-Body.field-0-is at l.denotes in
-    let s = serves_grown S c.args.self.now c.load.new.self c.args.self.now.nested l.keeps c.requires.serves in
+    let s = serves_grown S c.args.self.now c.load.new.self l.keeps c.requires.serves in
     record {
       loaded = s.loaded;
       heads = heads_put S c.load.new.self c.args.self.now.heads c.put-in-Some-Body.new.self c.args.symbol 0 (Unfolds c.in_ok-body-in-Some-Body.body) s.heads
