@@ -1,10 +1,11 @@
 -- For proofs: a token that is read the short way.
-use Rattle.std.specs.Prelude.{◌≡◌, ◌<◌, ◌≤◌, ℕ, ◌+◌, ◌-◌, Bool, true, false, ◌==◌, ◌&&◌, ◌||◌, List, [], ◌∷◌, ◌++◌, length, take, drop}
+use Rattle.std.specs.Prelude.{◌≡◌, ◌<◌, ◌≤◌, ℕ, ◌+◌, ◌-◌, Bool, true, false, ◌==◌, ◌&&◌, ◌||◌, List, [], ◌∷◌, ◌++◌, length, take, drop, Some}
 use Rattle.dk_model.specs.declared.limits.Limits.{Limits}
 use Rattle.dk_lexer.specs.declared.place.Place.{Place}
 use Rattle.dk_lexer.specs.declared.token.Token.{Token}
 use Rattle.dk_lexer.specs.Classes.{begins_name, class_of}
 use Rattle.dk_lexer.specs.Spelling.{Spelling, behind_run, is_wildcard, run_of}
+use Rattle.dk_lexer.specs.Tokens.{begin_of, bound}
 use Rattle.one_lexer.specs.declared.lexer.Lexer.{Lexer}
 use Rattle.one_lexer.specs.declared.next.Next.TheVariants as next
 use Rattle.one_lexer.specs.declared.next.Standing.{Standing}
@@ -35,6 +36,10 @@ pub record KnowsNext (bytes : List ℕ) (short : Short) (lexer : Lexer) : Type 0
   pub knows : (over : Bool) (before : List ℕ) (ts : List Token) → Knows over before ts bytes lexer
       → Knows over before (ts ++ token_of short.spelt ∷ []) (last_of short.left bytes) (standing_at short.behind lexer)
   pub leaves : short.left < length bytes
+
+-- what begins here and ends by this last byte is within the bound of its command
+abbrev pub KeepsBound : Limits → Standing → ℕ → Type 0
+KeepsBound limits at last = last ≤ (bound limits (Some (begin_of at.command at.here.offset))).last
 
 -- a run stands first
 abbrev pub BeginsRun : List ℕ → Type 0

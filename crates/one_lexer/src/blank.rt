@@ -19,7 +19,8 @@ pub(crate) fn is_blank(byte: u8) -> bool
     byte == b' ' || (byte < b' ' && matches!(byte, b'\t' | b'\r' | b'\n'))
 }
 
-// The place behind the blanks at the front of some bytes, as far as the bound goes, and how many bytes are left.
+// The place behind the blanks at the front of some bytes, as far as the bound goes, and how many
+// bytes are left.
 #[inline(always)]
 pub(crate) fn over_blanks(last: u64, here: Place, bytes: &[u8]) -> (Place, usize)
     requires { last ≤ 4294967294 }
@@ -39,7 +40,8 @@ pub(crate) fn over_blanks(last: u64, here: Place, bytes: &[u8]) -> (Place, usize
     (place, 0)
 }
 
-// Where reading goes on behind the blanks that stand here, if some do within the bound; so many bytes are left.
+// Where reading goes on behind the blanks that stand here, if some do within the bound; so many
+// bytes are left.
 pub(crate) fn pass_blanks(limits: Limits, at: Standing, bytes: &[u8]) -> Option<(Place, usize)>
     ensures fewer { IfSome result (λ passed. passed.1 < length bytes.now) }
     ensures goes_over { IfSome result (λ passed.

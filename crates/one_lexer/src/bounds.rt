@@ -38,7 +38,8 @@ fn nearer(command: u64, input: u64) -> (u64, Code)
     }
 }
 
-// The last byte that may stand in a command that begins so, or in the input, and the fault behind it.
+// The last byte that may stand in a command that begins so, or in the input, and the fault behind
+// it.
 #[inline(always)]
 #[tactic(auto, unfolding(dk_lexer::specs::Tokens::bound))]
 pub(crate) fn bound_of(limits: Limits, command: Option<u32>) -> (u64, Code)
@@ -54,11 +55,11 @@ pub(crate) fn bound_of(limits: Limits, command: Option<u32>) -> (u64, Code)
 
 // The bound behind a brace that stands behind so many bytes, behind a run and a dot.
 fn brace_bound(limits: Limits, begin: u32, before: u64) -> (u64, Code)
-    ensures last { result.0
-        ≡ (nearer (brace_last (begin + command_limit limits == before) (begin + command_limit limits))
+    ensures last { result.0 ≡ (nearer
+        (brace_last (begin + command_limit limits == before) (begin + command_limit limits))
         (input_limit limits)).last }
-    ensures code { result.1
-        ≡ (nearer (brace_last (begin + command_limit limits == before) (begin + command_limit limits))
+    ensures code { result.1 ≡ (nearer
+        (brace_last (begin + command_limit limits == before) (begin + command_limit limits))
         (input_limit limits)).code }
     ensures within { result.0 ≤ 4294967294 }
 {
@@ -70,7 +71,8 @@ fn brace_bound(limits: Limits, begin: u32, before: u64) -> (u64, Code)
     }
 }
 
-// The bound of what stands at the last of so many bytes, of which so many are left at a brace behind a run and a dot.
+// The bound of what stands at the last of so many bytes, of which so many are left at a brace
+// behind a run and a dot.
 pub(crate) fn front_bound(
     limits: Limits,
     begin: u32,
@@ -88,7 +90,8 @@ pub(crate) fn front_bound(
     }
 }
 
-// The fault of a brace behind a run and a dot: the bytes before it are past the bound, or it is past that of the input.
+// The fault of a brace behind a run and a dot: the bytes before it are past the bound, or it is
+// past that of the input.
 pub(crate) fn brace_fault(
     limits: Limits,
     begin: u32,

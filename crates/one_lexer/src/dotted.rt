@@ -9,7 +9,8 @@ use crate::quoted::quoted;
 use dk_lexer::{Class, TokenKind, classify, is_wildcard};
 use dk_model::Code;
 
-// Behind a run and a dot: a second part at once makes it a qualified name, else the dot is the sign.
+// Behind a run and a dot: a second part at once makes it a qualified name, else the dot is the
+// sign.
 pub(crate) fn dotted<'a>(limit: usize, bytes: &'a [u8], run: &'a [u8], rest: &'a [u8]) -> Front<'a>
     requires { bytes.now ≡ run.now ++ 46 ∷ rest.now }
     ensures { spelling result ≡ behind_dot limit run.now rest.now }

@@ -15,7 +15,8 @@ pub fn settled_law()
         spelled_front limit (bytes ++ more) ≡ with_more (length more) (spelled_front limit bytes) }
 {}
 
-/// What a lexer knows stands when more bytes come behind those that are left, and when the end of the input is met.
+/// What a lexer knows stands when more bytes come behind those that are left, and when the end of
+/// the input is met.
 pub fn knows_law()
     ensures more { (before rest piece : List ℕ) (ts : List Token) (lexer : Lexer) →
         Knows false before ts rest lexer → Knows false (before ++ piece) ts (rest ++ piece) lexer }
@@ -23,8 +24,8 @@ pub fn knows_law()
         Knows false before ts rest lexer → Knows true before ts rest lexer }
 {}
 
-/// What is known of an input that broke off stands however it goes on: the tokens, and a fault with its line. Proved by
-/// reading on, one spelling after the other.
+/// What is known of an input that broke off stands however it goes on: the tokens, and a fault with
+/// its line. Proved by reading on, one spelling after the other.
 pub fn front_law()
     ensures { (limits : Limits) (bytes more : List ℕ) (ending : Ending) →
         IsFrontOf (tokens limits bytes broken) (tokens limits (bytes ++ more) ending) }

@@ -40,7 +40,8 @@ pub struct Lexer {
 pub enum Taken<'a> {
     /// A token, with blanks and comments before it.
     Token(Spelt<'a>, usize),
-    /// Nothing but blanks and comments; what is left isn't settled, and the next bytes go behind it.
+    /// Nothing but blanks and comments; what is left isn't settled, and the next bytes go behind
+    /// it.
     More(usize),
     /// A fault.
     Failed(Code),
@@ -70,31 +71,34 @@ impl Lexer {
         }
     }
 
-    /// Takes the next token of these bytes, which are those of the input that aren't taken yet, as far as they are there.
-    /// After a fault every later call answers it again.
+    /// Takes the next token of these bytes, which are those of the input that aren't taken yet, as
+    /// far as they are there. After a fault every later call answers it again.
     #[inline(always)]
     pub fn take<'a>(&mut self, bytes: &'a [u8]) -> Taken<'a>
         ensures limits { limits_of self.new ≡ limits_of self.old }
-        ensures takes { (before : List ℕ) (ts : List Token) → Knows false before ts bytes.now self.old →
+        ensures takes { (before : List ℕ) (ts : List Token) →
+            Knows false before ts bytes.now self.old →
             Takes false before ts bytes.now self.new result }
         ensures left { IsLeft false (length bytes.now) result }
     {
         self.step(false, bytes)
     }
 
-    /// Takes the next token of these bytes, which are all those of the input that aren't taken yet; where there is none,
-    /// none is left.
+    /// Takes the next token of these bytes, which are all those of the input that aren't taken yet;
+    /// where there is none, none is left.
     #[inline(always)]
     pub fn finish<'a>(&mut self, bytes: &'a [u8]) -> Taken<'a>
         ensures limits { limits_of self.new ≡ limits_of self.old }
-        ensures takes { (before : List ℕ) (ts : List Token) → Knows true before ts bytes.now self.old →
+        ensures takes { (before : List ℕ) (ts : List Token) →
+            Knows true before ts bytes.now self.old →
             Takes true before ts bytes.now self.new result }
         ensures left { IsLeft true (length bytes.now) result }
     {
         self.step(true, bytes)
     }
 
-    /// The line of the fault, if one stands; else of the first byte of what is begun; else of the next byte. From 1.
+    /// The line of the fault, if one stands; else of the first byte of what is begun; else of the
+    /// next byte. From 1.
     pub fn line(&self) -> u32
         ensures { result ≡ line_of self.now }
     {
@@ -105,7 +109,8 @@ impl Lexer {
     #[inline(always)]
     fn step<'a>(&mut self, over: bool, bytes: &'a [u8]) -> Taken<'a>
         ensures limits { limits_of self.new ≡ limits_of self.old }
-        ensures takes { (before : List ℕ) (ts : List Token) → Knows over before ts bytes.now self.old →
+        ensures takes { (before : List ℕ) (ts : List Token) →
+            Knows over before ts bytes.now self.old →
             Takes over before ts bytes.now self.new result }
         ensures left { IsLeft over (length bytes.now) result }
     {
@@ -131,7 +136,8 @@ impl Lexer {
     #[inline(never)]
     fn steps<'a>(&mut self, over: bool, bytes: &'a [u8]) -> Taken<'a>
         ensures limits { limits_of self.new ≡ limits_of self.old }
-        ensures takes { (before : List ℕ) (ts : List Token) → Knows over before ts bytes.now self.old →
+        ensures takes { (before : List ℕ) (ts : List Token) →
+            Knows over before ts bytes.now self.old →
             Takes over before ts bytes.now self.new result }
         ensures left { IsLeft over (length bytes.now) result }
     {
@@ -149,7 +155,8 @@ impl Lexer {
     fn one<'a>(&mut self, over: bool, bytes: &'a [u8]) -> One<'a>
         requires { 0 < length bytes.now }
         ensures limits { limits_of self.new ≡ limits_of self.old }
-        ensures takes { (before : List ℕ) (ts : List Token) → Knows over before ts bytes.now self.old →
+        ensures takes { (before : List ℕ) (ts : List Token) →
+            Knows over before ts bytes.now self.old →
             Passes over before ts bytes.now self.new result }
         ensures left { IsFewer over (length bytes.now) result }
     {
@@ -183,7 +190,8 @@ impl Lexer {
         }
     }
 
-    // The place behind the blanks that come next, if some do between tokens; so many bytes are left.
+    // The place behind the blanks that come next, if some do between tokens; so many bytes are
+    // left.
     fn blanks(&self, bytes: &[u8]) -> Option<(Place, usize)>
         ensures fewer { IfSome result (λ passed. passed.1 < length bytes.now) }
         ensures knows { IfSome result (λ passed. (over : Bool) (before : List ℕ) (ts : List Token) →
@@ -199,7 +207,8 @@ impl Lexer {
     // What stands at the first of these bytes.
     fn next<'a>(&self, over: bool, bytes: &'a [u8]) -> Next<'a>
         requires { 0 < length bytes.now }
-        ensures comes { (before : List ℕ) (ts : List Token) → Knows over before ts bytes.now self.now →
+        ensures comes { (before : List ℕ) (ts : List Token) →
+            Knows over before ts bytes.now self.now →
             Comes over self.now.limits before ts self.now.at bytes.now result }
         ensures fewer { LeavesFewer over (length bytes.now) result }
     {

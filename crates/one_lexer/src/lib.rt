@@ -1,4 +1,5 @@
-//! What stands at the front of some bytes, by the longest spelling. Begin at `stands_at` in spelled.rt.
+//! What stands at the front of some bytes, by the longest spelling. Begin at `stands_at` in
+//! spelled.rt.
 #![tactic(auto)]
 
 mod blank;

@@ -115,7 +115,8 @@ fn read_blank(limits: Limits, at: Standing, bytes: &[u8], left: usize) -> Next<'
 /// What stands next within a comment that began where reading stands.
 pub fn read_inside(limits: Limits, at: Standing, comment: Inside, bytes: &[u8]) -> Next<'static>
     ensures comes { (over : Bool) (before : List ℕ) (ts : List Token) →
-        ReadsComment over limits before ts at.here at.command comment.next comment.depth comment.last bytes.now →
+        ReadsComment over limits before ts at.here at.command
+        comment.next comment.depth comment.last bytes.now →
         Comes over limits before ts at bytes.now result }
     ensures fewer { (over : Bool) → LeavesFewer over (length bytes.now) result }
 {
@@ -172,22 +173,22 @@ fn front_of(limit: usize, bytes: &[u8]) -> Front<'_>
     stands_at(limit, bytes)
 }
 
-// A token or a fault stands here, in the command that begins so.
+// A token or a fault stands here, and no fault of a brace.
 fn read_found<'a>(
     limits: Limits,
     at: Standing,
-    begin: u32,
     over: bool,
     bytes: &'a [u8],
     front: Front<'a>,
 ) -> Next<'a>
-    requires begins { begin ≡ begin_of at.command at.here.offset }
     requires is { spelling front ≡ spelled_front limits.name_bytes bytes.now }
     requires token { IsToken (length bytes.now) front }
-    requires late { LateFits limits begin (at.here.offset + length bytes.now) front.late }
+    requires late { LateFits limits (begin_of at.command at.here.offset)
+        (at.here.offset + length bytes.now) front.late }
     ensures comes { ComesFrom over limits at bytes.now result }
     ensures fewer { LeavesFewer over (length bytes.now) result }
 {
+    let begin = command_begin(at.command, at.here.offset);
     let total = offset_at(at.here, bytes, 0);
     let (last, code) = front_bound(limits, begin, total, front.late);
     if !front.settled && !over {
@@ -261,7 +262,7 @@ fn read_token<'a>(
     let total = offset_at(at.here, bytes, 0);
     match brace_fault(limits, begin, total, front.late) {
         Some(code) => Next::Failed(code),
-        None => read_found(limits, at, begin, over, bytes, front),
+        None => read_found(limits, at, over, bytes, front),
     }
 }
 

@@ -1,9 +1,9 @@
-//! The short way to most tokens: the blanks before it, and a plain run or a sign that the next byte or two settle and
-//! that is within its bound. What isn't one of these is left to `read_next`. Begin at `quick_token`.
-ghost use Rattle.std.specs.Prelude.{◌≡◌, ◌≤◌, ◌<◌, ◌+◌, IfSome, Some, false, length};
+//! The short way to most tokens: the blanks before it, and a plain run or a sign that the next byte
+//! or two settle and that is within its bound. What isn't one of these is left to `read_next`.
+//! Begin at `quick_token`.
+ghost use Rattle.std.specs.Prelude.{◌≡◌, ◌≤◌, ◌<◌, ◌+◌, IfSome, false, length};
 ghost use Rattle.dk_lexer.specs.Spelling.{behind_bracket, behind_colon, behind_equals, behind_minus, behind_open, behind_two_minus, is_wildcard, kind_of, run_and_dot, run_of, sign_spelled, token};
-ghost use Rattle.dk_lexer.specs.Tokens.{begin_of, bound};
-ghost use Rattle.one_lexer.specs.Quick.{BeginsRun, ComesNext, EndsWithDot, IsSecond, IsSpelt, begins_word, may_be_word};
+ghost use Rattle.one_lexer.specs.Quick.{BeginsRun, ComesNext, EndsWithDot, IsSecond, IsSpelt, KeepsBound, begins_word, may_be_word};
 ghost use Rattle.one_lexer.specs.Views.{spelled_front};
 
 use crate::blank::{is_blank, over_blanks};
@@ -21,22 +21,30 @@ pub(crate) struct Short<'a> {
     pub left: usize,
 }
 
+// Where a token starts, and how far it may reach.
+#[derive(Clone, Copy)]
+struct TokenStart {
+    limits: Limits,
+    at: Standing,
+    // The bytes of the input before its end are at most so many.
+    last: u64,
+}
+
 // The token that stands here, if it is within the bound.
 #[inline(always)]
 fn token<'a>(
-    limits: Limits,
-    last: u64,
-    at: Standing,
+    start: TokenStart,
     bytes: &'a [u8],
     kind: TokenKind,
     text: &'a [u8],
     left: usize,
 ) -> Option<Short<'a>>
-    requires near { last ≤ (bound limits (Some (begin_of at.command at.here.offset))).last }
-    requires within { last ≤ 4294967294 }
-    requires is { IsSpelt limits.name_bytes bytes.now (token kind text.now left) left }
-    ensures { IfSome result (ComesNext limits at bytes.now) }
+    requires near { KeepsBound start.limits start.at start.last }
+    requires within { start.last ≤ 4294967294 }
+    requires is { IsSpelt start.limits.name_bytes bytes.now (token kind text.now left) left }
+    ensures { IfSome result (ComesNext start.limits start.at bytes.now) }
 {
+    let TokenStart { at, last, .. } = start;
     let end = offset_at(at.here, bytes, left);
     if end > last {
         return None;
@@ -60,21 +68,21 @@ fn token<'a>(
     })
 }
 
-// The run that stands here with the dot behind it, if both are within the bound; so many bytes are left behind the dot.
+// The run that stands here with the dot behind it, if both are within the bound; so many bytes are
+// left behind the dot.
 #[inline(always)]
 fn run_before_dot<'a>(
-    limits: Limits,
-    last: u64,
-    at: Standing,
+    start: TokenStart,
     bytes: &'a [u8],
     run: &'a [u8],
     left: usize,
 ) -> Option<Short<'a>>
-    requires near { last ≤ (bound limits (Some (begin_of at.command at.here.offset))).last }
-    requires within { last ≤ 4294967294 }
-    requires is { IsSpelt limits.name_bytes bytes.now (run_and_dot run.now left) (left + 1) }
-    ensures { IfSome result (ComesNext limits at bytes.now) }
+    requires near { KeepsBound start.limits start.at start.last }
+    requires within { start.last ≤ 4294967294 }
+    requires is { IsSpelt start.limits.name_bytes bytes.now (run_and_dot run.now left) (left + 1) }
+    ensures { IfSome result (ComesNext start.limits start.at bytes.now) }
 {
+    let TokenStart { at, last, .. } = start;
     if offset_at(at.here, bytes, left) > last {
         return None;
     }
@@ -136,7 +144,8 @@ fn run_kind(text: &[u8]) -> TokenKind
     }
 }
 
-// How many bytes are left behind the second part of a qualified name, which begins here, if they settle it; else 0.
+// How many bytes are left behind the second part of a qualified name, which begins here, if they
+// settle it; else 0.
 #[inline(never)]
 fn behind_second(limit: usize, rest: &[u8]) -> usize
     ensures within { result ≤ length rest.now }
@@ -152,51 +161,44 @@ fn behind_second(limit: usize, rest: &[u8]) -> usize
 
 // The qualified name that stands here: a run, a dot, and what is behind them.
 #[inline(always)]
-fn qualified<'a>(
-    limits: Limits,
-    last: u64,
-    at: Standing,
-    bytes: &'a [u8],
-    rest: &'a [u8],
-) -> Option<Short<'a>>
-    requires near { last ≤ (bound limits (Some (begin_of at.command at.here.offset))).last }
-    requires within { last ≤ 4294967294 }
-    requires dot { EndsWithDot limits.name_bytes bytes.now rest.now }
+fn qualified<'a>(start: TokenStart, bytes: &'a [u8], rest: &'a [u8]) -> Option<Short<'a>>
+    requires near { KeepsBound start.limits start.at start.last }
+    requires within { start.last ≤ 4294967294 }
+    requires dot { EndsWithDot start.limits.name_bytes bytes.now rest.now }
     requires begins { BeginsRun rest.now }
-    ensures { IfSome result (ComesNext limits at bytes.now) }
+    ensures { IfSome result (ComesNext start.limits start.at bytes.now) }
 {
-    let left = behind_second(limits.name_bytes as usize, rest);
+    let left = behind_second(start.limits.name_bytes as usize, rest);
     if left == 0 {
         return None;
     }
     let (text, _) = bytes.split_at(bytes.len() - left);
-    token(limits, last, at, bytes, TokenKind::Qualified, text, left)
+    token(start, bytes, TokenKind::Qualified, text, left)
 }
 
 // The token that stands here, a run with a dot and this rest behind it.
 #[inline(always)]
 fn dotted<'a>(
-    limits: Limits,
-    last: u64,
-    at: Standing,
+    start: TokenStart,
     bytes: &'a [u8],
     run: &'a [u8],
     rest: &'a [u8],
 ) -> Option<Short<'a>>
-    requires near { last ≤ (bound limits (Some (begin_of at.command at.here.offset))).last }
-    requires within { last ≤ 4294967294 }
+    requires near { KeepsBound start.limits start.at start.last }
+    requires within { start.last ≤ 4294967294 }
     requires run { run.now ≡ run_of bytes.now }
-    requires dot { is_wildcard run.now ≡ false → EndsWithDot limits.name_bytes bytes.now rest.now }
-    ensures { IfSome result (ComesNext limits at bytes.now) }
+    requires dot { is_wildcard run.now ≡ false →
+        EndsWithDot start.limits.name_bytes bytes.now rest.now }
+    ensures { IfSome result (ComesNext start.limits start.at bytes.now) }
 {
     if is_wildcard(run) {
         return None;
     }
     let first = rest.first()?;
     if is_blank(*first) {
-        run_before_dot(limits, last, at, bytes, run, rest.len())
+        run_before_dot(start, bytes, run, rest.len())
     } else if begins_name(*first) {
-        qualified(limits, last, at, bytes, rest)
+        qualified(start, bytes, rest)
     } else {
         None
     }
@@ -204,22 +206,22 @@ fn dotted<'a>(
 
 // The run that stands here, if the bytes behind it settle it.
 #[inline(always)]
-fn run<'a>(limits: Limits, last: u64, at: Standing, bytes: &'a [u8]) -> Option<Short<'a>>
-    requires near { last ≤ (bound limits (Some (begin_of at.command at.here.offset))).last }
-    requires within { last ≤ 4294967294 }
+fn run<'a>(start: TokenStart, bytes: &'a [u8]) -> Option<Short<'a>>
+    requires near { KeepsBound start.limits start.at start.last }
+    requires within { start.last ≤ 4294967294 }
     requires begins { BeginsRun bytes.now }
-    ensures { IfSome result (ComesNext limits at bytes.now) }
+    ensures { IfSome result (ComesNext start.limits start.at bytes.now) }
 {
     let count = name_length(bytes);
-    if count > limits.name_bytes as usize {
+    if count > start.limits.name_bytes as usize {
         return None;
     }
     let (text, rest) = bytes.split_at(count);
     let (next, more) = rest.split_first()?;
     if *next == b'.' {
-        dotted(limits, last, at, bytes, text, more)
+        dotted(start, bytes, text, more)
     } else {
-        token(limits, last, at, bytes, run_kind(text), text, rest.len())
+        token(start, bytes, run_kind(text), text, rest.len())
     }
 }
 
@@ -322,17 +324,17 @@ fn sign(limit: usize, bytes: &[u8]) -> Option<(Sign, usize)>
 
 // The token that stands here, if the byte behind it settles it, and it is within the bound.
 #[inline(always)]
-fn next_token<'a>(limits: Limits, last: u64, at: Standing, bytes: &'a [u8]) -> Option<Short<'a>>
-    requires near { last ≤ (bound limits (Some (begin_of at.command at.here.offset))).last }
-    requires within { last ≤ 4294967294 }
-    ensures { IfSome result (ComesNext limits at bytes.now) }
+fn next_token<'a>(start: TokenStart, bytes: &'a [u8]) -> Option<Short<'a>>
+    requires near { KeepsBound start.limits start.at start.last }
+    requires within { start.last ≤ 4294967294 }
+    ensures { IfSome result (ComesNext start.limits start.at bytes.now) }
 {
     let first = bytes.first()?;
     if begins_name(*first) {
-        return run(limits, last, at, bytes);
+        return run(start, bytes);
     }
-    let (own, left) = sign(limits.name_bytes as usize, bytes)?;
-    token(limits, last, at, bytes, TokenKind::Sign(own), &[], left)
+    let (own, left) = sign(start.limits.name_bytes as usize, bytes)?;
+    token(start, bytes, TokenKind::Sign(own), &[], left)
 }
 
 /// The token that stands next, behind blanks, if it is one of those that are read so.
@@ -347,5 +349,10 @@ pub(crate) fn quick_token<'a>(limits: Limits, at: Standing, bytes: &'a [u8]) -> 
         here,
         command: at.command,
     };
-    next_token(limits, last, behind, rest)
+    let start = TokenStart {
+        limits,
+        at: behind,
+        last,
+    };
+    next_token(start, rest)
 }

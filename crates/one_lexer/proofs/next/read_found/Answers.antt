@@ -14,7 +14,7 @@ returns-then-not-over-clause-comes c before ts r =
     let size = r.total in
     let begin = begin_of c.args.at.command c.args.at.here.offset in
     let all : c.offset_at-total.result ≡ length before = omega (arith, c.offset_at-total.ensures, size) in
-    let bd = bound_at c.args.limits c.args.begin begin c.offset_at-total.result (length before) c.args.front.late c.requires.begins all in
+    let bd = bound_at c.args.limits c.command_begin-begin.result begin c.offset_at-total.result (length before) c.args.front.late c.command_begin-begin.ensures all in
     let last : c.front_bound-last.result.0 ≡ (front_bound c.args.limits begin (length before) c.args.front.late).last = c.front_bound-last.ensures.last ∙ ap (λ (b : Bound). b.last) bd in
     let code : c.front_bound-last.result.1 ≡ (front_bound c.args.limits begin (length before) c.args.front.late).code = c.front_bound-last.ensures.code ∙ ap (λ (b : Bound). b.code) bd in
     let met = met_within (length c.args.bytes.now) c.args.front.found c.requires.token.0 in
@@ -22,9 +22,9 @@ returns-then-not-over-clause-comes c before ts r =
     let settled : c.args.front.settled ≡ false = search rules in
     elim c.if-total-last.branch [
       | then-total-last w ↦ rw (w.result-is, code) (waits_past c.args.over c.args.front.settled c.args.limits before ts c.args.at.here c.args.at.command c.args.bytes.now c.args.front.late c.args.front.found
-          c.args.begin (c.args.at.here.offset + length c.args.bytes.now) over settled r met c.requires.is c.requires.late c.requires.begins (sym size) (omega (arith, last, all, w.if-total-last.true)))
+          begin (c.args.at.here.offset + length c.args.bytes.now) over settled r met c.requires.is c.requires.late refl (sym size) (omega (arith, last, all, w.if-total-last.true)))
       | else-total-last w ↦ rw w.result-is (waits_next c.args.over c.args.front.settled c.args.limits before ts c.args.at.here c.args.at.command c.args.bytes.now c.args.front.late c.args.front.found
-          c.args.begin (c.args.at.here.offset + length c.args.bytes.now) over settled r met c.requires.is c.requires.late c.requires.begins (sym size) (omega (arith, last, all, w.if-total-last.false)))
+          begin (c.args.at.here.offset + length c.args.bytes.now) over settled r met c.requires.is c.requires.late refl (sym size) (omega (arith, last, all, w.if-total-last.false)))
     ]
 
 pub returns-then-offset_at-last-clause-comes : goal.returns-then-offset_at-last-clause-comes
@@ -32,7 +32,7 @@ returns-then-offset_at-last-clause-comes c before ts r =
     let size = r.total in
     let begin = begin_of c.args.at.command c.args.at.here.offset in
     let all : c.offset_at-total.result ≡ length before = omega (arith, c.offset_at-total.ensures, size) in
-    let bd = bound_at c.args.limits c.args.begin begin c.offset_at-total.result (length before) c.args.front.late c.requires.begins all in
+    let bd = bound_at c.args.limits c.command_begin-begin.result begin c.offset_at-total.result (length before) c.args.front.late c.command_begin-begin.ensures all in
     let last : c.front_bound-last.result.0 ≡ (front_bound c.args.limits begin (length before) c.args.front.late).last = c.front_bound-last.ensures.last ∙ ap (λ (b : Bound). b.last) bd in
     let code : c.front_bound-last.result.1 ≡ (front_bound c.args.limits begin (length before) c.args.front.late).code = c.front_bound-last.ensures.code ∙ ap (λ (b : Bound). b.code) bd in
     let met = met_within (length c.args.bytes.now) c.args.front.found c.requires.token.0 in
@@ -42,7 +42,7 @@ returns-then-offset_at-last-clause-comes c before ts r =
     ] in
     let s = token c.in-Token.kind c.in-Token.text.now c.in-Token.left in
     let m = meet c.args.over c.args.front.settled c.args.limits before ts c.args.at.here c.args.at.command c.args.bytes.now c.args.front.late c.args.front.found s
-    c.args.begin (c.args.at.here.offset + length c.args.bytes.now) r c.requires.is met known c.requires.late c.requires.begins (sym size) (ap found_spelling c.in-Token.is) in
+    begin (c.args.at.here.offset + length c.args.bytes.now) r c.requires.is met known c.requires.late refl (sym size) (ap found_spelling c.in-Token.is) in
     rw code (past_next c.args.over c.args.limits before ts c.args.at.here c.args.at.command c.args.bytes.now c.args.front.late s c.in-Token.left m
     (met_some c.args.limits.name_bytes c.args.bytes.now c.args.front.settled c.args.front.late c.args.front.found met c.requires.is) refl
     (omega (arith, last, size, c.offset_at.ensures, c.if-offset_at-last.true)))
@@ -52,7 +52,7 @@ returns-else-offset_at-last-clause-comes c before ts r =
     let size = r.total in
     let begin = begin_of c.args.at.command c.args.at.here.offset in
     let all : c.offset_at-total.result ≡ length before = omega (arith, c.offset_at-total.ensures, size) in
-    let bd = bound_at c.args.limits c.args.begin begin c.offset_at-total.result (length before) c.args.front.late c.requires.begins all in
+    let bd = bound_at c.args.limits c.command_begin-begin.result begin c.offset_at-total.result (length before) c.args.front.late c.command_begin-begin.ensures all in
     let last : c.front_bound-last.result.0 ≡ (front_bound c.args.limits begin (length before) c.args.front.late).last = c.front_bound-last.ensures.last ∙ ap (λ (b : Bound). b.last) bd in
     let met = met_within (length c.args.bytes.now) c.args.front.found c.requires.token.0 in
     let known : IsKnown c.args.front.settled c.args.over = elim c.else-not-front.branch [
@@ -61,9 +61,9 @@ returns-else-offset_at-last-clause-comes c before ts r =
     ] in
     let s = token c.in-Token.kind c.in-Token.text.now c.in-Token.left in
     let m = meet c.args.over c.args.front.settled c.args.limits before ts c.args.at.here c.args.at.command c.args.bytes.now c.args.front.late c.args.front.found s
-    c.args.begin (c.args.at.here.offset + length c.args.bytes.now) r c.requires.is met known c.requires.late c.requires.begins (sym size) (ap found_spelling c.in-Token.is) in
+    begin (c.args.at.here.offset + length c.args.bytes.now) r c.requires.is met known c.requires.late refl (sym size) (ap found_spelling c.in-Token.is) in
     let fewer : c.in-Token.left < length c.args.bytes.now = search rules in
-    rw (c.command_after.ensures, c.requires.begins, c.place_at.ensures)
+    rw (c.command_after.ensures, c.command_begin-begin.ensures, c.place_at.ensures)
     (token_next c.args.over c.args.limits before ts c.args.at.here c.args.at.command c.args.bytes.now c.args.front.late c.in-Token.kind c.in-Token.text.now c.in-Token.left m fewer
     (omega (arith, last, size, c.offset_at.ensures, c.if-offset_at-last.false)))
 
@@ -72,7 +72,7 @@ returns-then-offset_at-last-2-clause-comes c before ts r =
     let size = r.total in
     let begin = begin_of c.args.at.command c.args.at.here.offset in
     let all : c.offset_at-total.result ≡ length before = omega (arith, c.offset_at-total.ensures, size) in
-    let bd = bound_at c.args.limits c.args.begin begin c.offset_at-total.result (length before) c.args.front.late c.requires.begins all in
+    let bd = bound_at c.args.limits c.command_begin-begin.result begin c.offset_at-total.result (length before) c.args.front.late c.command_begin-begin.ensures all in
     let last : c.front_bound-last.result.0 ≡ (front_bound c.args.limits begin (length before) c.args.front.late).last = c.front_bound-last.ensures.last ∙ ap (λ (b : Bound). b.last) bd in
     let code : c.front_bound-last.result.1 ≡ (front_bound c.args.limits begin (length before) c.args.front.late).code = c.front_bound-last.ensures.code ∙ ap (λ (b : Bound). b.code) bd in
     let met = met_within (length c.args.bytes.now) c.args.front.found c.requires.token.0 in
@@ -82,7 +82,7 @@ returns-then-offset_at-last-2-clause-comes c before ts r =
     ] in
     let s = run_and_dot c.in-RunAndDot.text.now c.in-RunAndDot.left in
     let m = meet c.args.over c.args.front.settled c.args.limits before ts c.args.at.here c.args.at.command c.args.bytes.now c.args.front.late c.args.front.found s
-    c.args.begin (c.args.at.here.offset + length c.args.bytes.now) r c.requires.is met known c.requires.late c.requires.begins (sym size) (ap found_spelling c.in-RunAndDot.is) in
+    begin (c.args.at.here.offset + length c.args.bytes.now) r c.requires.is met known c.requires.late refl (sym size) (ap found_spelling c.in-RunAndDot.is) in
     rw code (past_next c.args.over c.args.limits before ts c.args.at.here c.args.at.command c.args.bytes.now c.args.front.late s c.in-RunAndDot.left m
     (met_some c.args.limits.name_bytes c.args.bytes.now c.args.front.settled c.args.front.late c.args.front.found met c.requires.is) refl
     (omega (arith, last, size, c.offset_at-in-RunAndDot.ensures, c.if-offset_at-last-2.true)))
@@ -92,7 +92,7 @@ returns-else-offset_at-last-2-clause-comes c before ts r =
     let size = r.total in
     let begin = begin_of c.args.at.command c.args.at.here.offset in
     let all : c.offset_at-total.result ≡ length before = omega (arith, c.offset_at-total.ensures, size) in
-    let bd = bound_at c.args.limits c.args.begin begin c.offset_at-total.result (length before) c.args.front.late c.requires.begins all in
+    let bd = bound_at c.args.limits c.command_begin-begin.result begin c.offset_at-total.result (length before) c.args.front.late c.command_begin-begin.ensures all in
     let last : c.front_bound-last.result.0 ≡ (front_bound c.args.limits begin (length before) c.args.front.late).last = c.front_bound-last.ensures.last ∙ ap (λ (b : Bound). b.last) bd in
     let met = met_within (length c.args.bytes.now) c.args.front.found c.requires.token.0 in
     let known : IsKnown c.args.front.settled c.args.over = elim c.else-not-front.branch [
@@ -101,8 +101,8 @@ returns-else-offset_at-last-2-clause-comes c before ts r =
     ] in
     let s = run_and_dot c.in-RunAndDot.text.now c.in-RunAndDot.left in
     let m = meet c.args.over c.args.front.settled c.args.limits before ts c.args.at.here c.args.at.command c.args.bytes.now c.args.front.late c.args.front.found s
-    c.args.begin (c.args.at.here.offset + length c.args.bytes.now) r c.requires.is met known c.requires.late c.requires.begins (sym size) (ap found_spelling c.in-RunAndDot.is) in
-    rw (c.kind_of.ensures, c.requires.begins, c.place_at-in-RunAndDot.ensures)
+    begin (c.args.at.here.offset + length c.args.bytes.now) r c.requires.is met known c.requires.late refl (sym size) (ap found_spelling c.in-RunAndDot.is) in
+    rw (c.kind_of.ensures, c.command_begin-begin.ensures, c.place_at-in-RunAndDot.ensures)
     (run_next c.args.over c.args.limits before ts c.args.at.here c.args.at.command c.args.bytes.now c.args.front.late c.in-RunAndDot.text.now c.in-RunAndDot.left m
     (met_some c.args.limits.name_bytes c.args.bytes.now c.args.front.settled c.args.front.late c.args.front.found met c.requires.is)
     (omega (arith, last, size, c.offset_at-in-RunAndDot.ensures, c.if-offset_at-last-2.false)))
@@ -122,7 +122,7 @@ returns-then-offset_at-last-3-clause-comes c before ts r =
     let size = r.total in
     let begin = begin_of c.args.at.command c.args.at.here.offset in
     let all : c.offset_at-total.result ≡ length before = omega (arith, c.offset_at-total.ensures, size) in
-    let bd = bound_at c.args.limits c.args.begin begin c.offset_at-total.result (length before) c.args.front.late c.requires.begins all in
+    let bd = bound_at c.args.limits c.command_begin-begin.result begin c.offset_at-total.result (length before) c.args.front.late c.command_begin-begin.ensures all in
     let last : c.front_bound-last.result.0 ≡ (front_bound c.args.limits begin (length before) c.args.front.late).last = c.front_bound-last.ensures.last ∙ ap (λ (b : Bound). b.last) bd in
     let code : c.front_bound-last.result.1 ≡ (front_bound c.args.limits begin (length before) c.args.front.late).code = c.front_bound-last.ensures.code ∙ ap (λ (b : Bound). b.code) bd in
     let met = met_within (length c.args.bytes.now) c.args.front.found c.requires.token.0 in
@@ -132,7 +132,7 @@ returns-then-offset_at-last-3-clause-comes c before ts r =
     ] in
     let s = wrong c.in-Wrong.wrong c.in-Wrong.left in
     let m = meet c.args.over c.args.front.settled c.args.limits before ts c.args.at.here c.args.at.command c.args.bytes.now c.args.front.late c.args.front.found s
-    c.args.begin (c.args.at.here.offset + length c.args.bytes.now) r c.requires.is met known c.requires.late c.requires.begins (sym size) (ap found_spelling c.in-Wrong.is) in
+    begin (c.args.at.here.offset + length c.args.bytes.now) r c.requires.is met known c.requires.late refl (sym size) (ap found_spelling c.in-Wrong.is) in
     rw code (past_next c.args.over c.args.limits before ts c.args.at.here c.args.at.command c.args.bytes.now c.args.front.late s c.in-Wrong.left m
     (met_some c.args.limits.name_bytes c.args.bytes.now c.args.front.settled c.args.front.late c.args.front.found met c.requires.is) refl
     (omega (arith, last, size, c.offset_at-in-Wrong.ensures, c.if-offset_at-last-3.true)))
@@ -142,7 +142,7 @@ returns-else-offset_at-last-3-clause-comes c before ts r =
     let size = r.total in
     let begin = begin_of c.args.at.command c.args.at.here.offset in
     let all : c.offset_at-total.result ≡ length before = omega (arith, c.offset_at-total.ensures, size) in
-    let bd = bound_at c.args.limits c.args.begin begin c.offset_at-total.result (length before) c.args.front.late c.requires.begins all in
+    let bd = bound_at c.args.limits c.command_begin-begin.result begin c.offset_at-total.result (length before) c.args.front.late c.command_begin-begin.ensures all in
     let last : c.front_bound-last.result.0 ≡ (front_bound c.args.limits begin (length before) c.args.front.late).last = c.front_bound-last.ensures.last ∙ ap (λ (b : Bound). b.last) bd in
     let met = met_within (length c.args.bytes.now) c.args.front.found c.requires.token.0 in
     let known : IsKnown c.args.front.settled c.args.over = elim c.else-not-front.branch [
@@ -150,7 +150,7 @@ returns-else-offset_at-last-3-clause-comes c before ts r =
       | else-not-front-via-else-not-front w ↦ known_settled c.args.front.settled c.args.over (search rules)
     ] in
     let m = meet c.args.over c.args.front.settled c.args.limits before ts c.args.at.here c.args.at.command c.args.bytes.now c.args.front.late c.args.front.found (wrong c.in-Wrong.wrong c.in-Wrong.left)
-    c.args.begin (c.args.at.here.offset + length c.args.bytes.now) r c.requires.is met known c.requires.late c.requires.begins (sym size) (ap found_spelling c.in-Wrong.is) in
+    begin (c.args.at.here.offset + length c.args.bytes.now) r c.requires.is met known c.requires.late refl (sym size) (ap found_spelling c.in-Wrong.is) in
     wrong_next c.args.over c.args.limits before ts c.args.at.here c.args.at.command c.args.bytes.now c.args.front.late c.in-Wrong.wrong c.in-Wrong.left m
     (met_some c.args.limits.name_bytes c.args.bytes.now c.args.front.settled c.args.front.late c.args.front.found met c.requires.is)
     (omega (arith, last, size, c.offset_at-in-Wrong.ensures, c.if-offset_at-last-3.false))
