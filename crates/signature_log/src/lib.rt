@@ -19,6 +19,7 @@ mod place;
 mod reducer;
 mod rows;
 mod rule_list;
+mod sides;
 mod slots;
 mod steps;
 mod storing;
