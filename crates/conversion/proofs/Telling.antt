@@ -16,7 +16,7 @@ use Rattle.conversion.specs.declared.compare.OpenPair.{OpenPair}
 use Rattle.conversion.specs.declared.normal.Frame.{Frame}
 use Rattle.conversion.specs.declared.normal.OpenPart.{OpenPart}
 use Rattle.conversion.specs.declared.pauses.Waiter.{Waiter}
-use Rattle.conversion.specs.Given.{GivesTerm, GivesBool}
+use Rattle.conversion.specs.Given.{GivesTerm, GivesBool, Recalls}
 use Rattle.conversion.specs.Pending.{pending, IsOpenPair, GivesCompared}
 use Rattle.conversion.specs.Waiting.{IsResumed, IsOpenPart, MeetsPart, GivesNormal}
 use Rattle.conversion.specs.Pausing.{IsSelection, answered, rewritten_by, IsWaiter}
@@ -67,6 +67,10 @@ module _ (S : PlainSignature) where
       → TurnsTo S due ns (Err stop) ids left
   normal_waited_stops w due ns Ended fs ids left h g = (h g.0, g.1)
   normal_waited_stops w due ns NoMemory fs ids left h g = tt
+
+  pub recalled_stops : (w due : Units Tree) (ns : List Node) (n : ℕ) (stop : Stop) (ids : List TermId) (left : ℕ) → (w ≡ None → due ≡ None) → Recalls w ns n (Err stop) left → TurnsTo S due ns (Err stop) ids left
+  recalled_stops w due ns n Ended ids left h g = (h g.0, g.1)
+  recalled_stops w due ns n NoMemory ids left h g = tt
 
   -- the weak head forms of a pair, and of a part, from what is left once its unit is taken
 

@@ -17,6 +17,8 @@ use Rattle.shared_term.specs.Changes.{captured_terms}
 use Rattle.signature_log.specs.Versions.{entries_of}
 use Rattle.conversion.specs.declared.state.PoolReducer.{PoolReducer}
 use Rattle.conversion.specs.declared.evaluate.Next.{Next}
+use Rattle.conversion.specs.declared.evaluate.Course.{Course}
+use Rattle.conversion.specs.declared.evaluate.Reached.{Reached}
 use Rattle.conversion.specs.declared.turn.Turn.{Turn}
 use Rattle.conversion.specs.declared.selection.Selection.{Selection}
 use Rattle.conversion.specs.declared.compare.Look.{Look}
@@ -32,6 +34,7 @@ use Rattle.conversion.specs.Pausing.{rewritten_by, GoesOnWith, GoesOnWhether, Co
 use Rattle.conversion.specs.Pending.{look_due}
 use Rattle.conversion.specs.Waiting.{resumed, next_due as part_due}
 use Rattle.conversion.specs.Turning.{IsDue, GoesNext, rule_due, TurnsTo}
+use Rattle.conversion.specs.Courses.{Comes, Reaches}
 
 abbrev pub Entries : Type 0
 Entries = List (Entry Stored)
@@ -47,6 +50,14 @@ Normalises v old t n result new left = GivesTerm (normal_of (entries_of v) n (te
 -- whether two terms are alike
 abbrev pub Compares : Entries → PoolReducer → TermId → TermId → ℕ → Result Bool Stop → ℕ → Type 0
 Compares v old t u n result left = GivesBool (comparison_of (entries_of v) n (term old.pool t) (term old.pool u)) result left
+
+-- the weak head form that an evaluation under way comes to
+abbrev pub Completes : Entries → PoolReducer → Course → ℕ → Result TermId Stop → PoolReducer → ℕ → Type 0
+Completes v old c n result new left = (whole : Units Tree) → Comes (entries_of v) old.pool c n whole → GivesTerm whole new.pool result left
+
+-- the same up to a symbol that is to have a tree
+abbrev pub TurnsOn : Entries → PoolReducer → Course → ℕ → Result Reached Stop → PoolReducer → ℕ → Type 0
+TurnsOn v old c n result new left = (whole : Units Tree) → Comes (entries_of v) old.pool c n whole → Reaches (entries_of v) whole new.pool result left
 
 -- turns
 

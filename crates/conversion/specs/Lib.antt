@@ -5,6 +5,7 @@ pub mod Reducers
 pub mod Rules
 pub mod Pausing
 pub mod Turning
+pub mod Courses
 pub mod Pending
 pub mod Waiting
 pub mod Owned

@@ -12,7 +12,7 @@ use Rattle.shared_term.specs.Pools.{Node, term}
 use Rattle.conversion.specs.declared.evaluate.Next.{Next}
 use Rattle.conversion.specs.declared.evaluate.Next.TheVariants.{Whole, Goes as GoesOn, Told}
 use Rattle.conversion.specs.declared.turn.Turn.{Turn}
-use Rattle.conversion.specs.declared.turn.Turn.TheVariants.{Goes, Stands, Selects, Asks}
+use Rattle.conversion.specs.declared.turn.Turn.TheVariants.{Goes, Stands, Begins, Selects, Asks}
 use Rattle.conversion.specs.Machine.{behind, wound}
 use Rattle.conversion.specs.Pausing.{rewritten_by, Continues, awaited, Await, IsSelection, IsPause}
 use Rattle.conversion.specs.declared.pauses.Pause.{Pause}
@@ -56,6 +56,7 @@ next_weight (Told p v) = 4
 abbrev pub TurnsTo : PlainSignature → Units Tree → List Node → Result Turn Stop → List TermId → ℕ → Type 0
 TurnsTo S due ns (Ok (Goes t)) ids left = (due ≡ whnf_of S left (wound (term ns t) (behind ns ids))) × (t.0 < length ns)
 TurnsTo S due ns (Ok (Stands h)) ids left = (due ≡ Some (wound (term ns h) (behind ns ids), left)) × (h.0 < length ns)
+TurnsTo S due ns (Ok (Begins k)) ids left = due ≡ rule_due S k (behind ns ids) left
 TurnsTo S due ns (Ok (Selects s)) ids left = (due ≡ rewritten_by S ns s ids left) × IsSelection S (length ns) s
 TurnsTo S due ns (Ok (Asks p)) ids left = Continues S ns p due × (p.start ≡ left) × (ids ≡ []) × IsPause S (length ns) p
 TurnsTo S due ns (Err Ended) ids left = (due ≡ None) × (left ≡ 0)
@@ -65,6 +66,7 @@ TurnsTo S due ns (Err NoMemory) ids left = Unit {0}
 abbrev pub turn_rank : Turn → ℕ
 turn_rank (Goes t) = 0
 turn_rank (Stands h) = 0
+turn_rank (Begins k) = 1
 turn_rank (Selects s) = 1
 turn_rank (Asks p) = 0
 

@@ -8,12 +8,10 @@ ghost use Rattle.conversion.specs.declared.compare.HeadPairs.TheVariants.{Alike,
 ghost use Rattle.conversion.specs.Pending.{AreHeads, head_pairs, TakesApart, IsLook, look_made, look_due, look_rank, IsUnderWay, Meets, GivesCompared, asks_rank};
 ghost use Rattle.conversion.specs.declared.compare.Step.TheVariants.{Conclude};
 ghost use Rattle.conversion.specs.Reducers.{Serves};
-ghost use Rattle.conversion.specs.Trees.{AreTrees};
 ghost use Rattle.conversion.specs.Clauses.{Compares};
 
 use crate::PoolReducer;
 use crate::state::Answer;
-use crate::trees::Trees;
 use dk_model::{NoMemory, NodeOf, Stop};
 use shared_term::{Node, Pool, TermId};
 use signature_log::Version;
@@ -85,7 +83,6 @@ impl PoolReducer {
     pub(crate) fn compare(
         &mut self,
         version: &Version,
-        trees: &Trees,
         t: TermId,
         u: TermId,
         left: &mut u64,
@@ -93,7 +90,6 @@ impl PoolReducer {
         requires t { t.0 < length self.old.pool }
         requires u { u.0 < length self.old.pool }
         requires serves { Serves (entries_of version.now) self.old }
-        requires trees { AreTrees (entries_of version.now) trees.now }
         ensures gives { Compares version.now self.old t u left.old result left.new }
         ensures keeps { Extends self.old.pool self.new.pool }
         ensures serves { Serves (entries_of version.now) self.new }
@@ -105,8 +101,8 @@ impl PoolReducer {
             match self.compare_on(version, look, &mut work, left)? {
                 Compared::Told(alike) => return Ok(alike),
                 Compared::Asks(pair) => {
-                    let x = self.evaluate(version, trees, pair.first, left)?;
-                    let y = self.evaluate(version, trees, pair.second, left)?;
+                    let x = self.evaluate(version, pair.first, left)?;
+                    let y = self.evaluate(version, pair.second, left)?;
                     let alike = pair_parts(&self.pool, pair, x, y, &mut work)?;
                     look = Look::Behind(alike);
                 }
@@ -126,11 +122,12 @@ impl PoolReducer {
         requires look { IsLook (length self.old.pool) look }
         requires open { IsUnderWay (entries_of version.now) self.old.pool
             (look_due (entries_of version.now) self.old.pool look left.old work.old.items)
-            (look_made (entries_of version.now) self.old.pool look left.old) left.old work.old.items }
+            (look_made (entries_of version.now) self.old.pool look left.old) left.old
+            work.old.items }
         requires serves { Serves (entries_of version.now) self.old }
         ensures gives { GivesCompared (entries_of version.now)
-            (look_due (entries_of version.now) self.old.pool look left.old work.old.items) self.new.pool result
-            work.new.items left.new }
+            (look_due (entries_of version.now) self.old.pool look left.old work.old.items)
+            self.new.pool result work.new.items left.new }
         ensures keeps { Extends self.old.pool self.new.pool }
         ensures serves { Serves (entries_of version.now) self.new }
         ensures spent { left.new ≤ left.old }
@@ -234,7 +231,8 @@ fn parts(pool: &Pool, t: TermId, u: TermId, work: &mut Vec<Step>) -> Result<bool
     requires t { t.0 < length pool.now }
     requires u { u.0 < length pool.now }
     ensures { IfOk result
-        (λ alike. TakesApart pool.now (term pool.now t) (term pool.now u) work.old.items alike work.new.items) }
+        (λ alike. TakesApart pool.now (term pool.now t) (term pool.now u) work.old.items alike
+        work.new.items) }
 {
     let mut t = t;
     let mut u = u;
@@ -270,7 +268,8 @@ fn pair_heads(pool: &Pool, t: Node, u: Node) -> HeadPairs
     requires t { IsWithin (length pool.now) t }
     requires u { IsWithin (length pool.now) u }
     requires head { is_application (denoted (terms pool.now) t) ≡ false }
-    ensures pairs { pairs_of (denoted (terms pool.now) t) (denoted (terms pool.now) u) ≡ head_pairs pool.now result }
+    ensures pairs { pairs_of (denoted (terms pool.now) t) (denoted (terms pool.now) u)
+        ≡ head_pairs pool.now result }
     ensures within { AreHeads (length pool.now) result }
 {
     let _pool = pool;

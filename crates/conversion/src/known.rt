@@ -1,12 +1,15 @@
 //! Weak head forms that are there at once: those that are remembered, and of terms that take no step.
-ghost use Rattle.std.specs.Prelude.{◌≡◌, ◌<◌, None, IsTrue, IfSome, length, slice_get};
+ghost use Rattle.std.specs.Prelude.{◌≡◌, ◌<◌, None, IsTrue, IfSome, ◌≤◌, length, slice_get};
 ghost use Rattle.dk_model.specs.SymbolRules.{rules_of};
+ghost use Rattle.dk_model.specs.Evaluation.{whnf_of};
+ghost use Rattle.shared_term.specs.Pools.{term};
 ghost use Rattle.signature_log.specs.Versions.{entries_of};
 ghost use Rattle.conversion.specs.Reducers.{Serves, IsValue};
+ghost use Rattle.conversion.specs.Given.{Recalls};
 
 use crate::PoolReducer;
 use crate::state::{Head, Value};
-use dk_model::NodeOf;
+use dk_model::{NodeOf, Stop};
 use shared_term::TermId;
 use signature_log::Version;
 
@@ -23,13 +26,40 @@ impl PoolReducer {
         self.values.find(term.number(), 0)
     }
 
+    /// The weak head form of a term where it is there at once, with its units taken. Where they don't suffice, none is left.
+    pub(crate) fn recalled(
+        &self,
+        version: &Version,
+        whole: TermId,
+        left: &mut u64,
+    ) -> Result<Option<TermId>, Stop>
+        requires whole { whole.0 < length self.now.pool }
+        requires serves { Serves (entries_of version.now) self.now }
+        ensures gives { Recalls (whnf_of (entries_of version.now) left.old (term self.now.pool whole))
+            self.now.pool left.old result left.new }
+        ensures spent { left.new ≤ left.old }
+    {
+        match self.known(version, whole) {
+            None => Ok(None),
+            Some(found) => {
+                if *left < found.units {
+                    *left = 0;
+                    return Err(Stop::Ended);
+                }
+                *left -= found.units;
+                Ok(Some(found.id))
+            }
+        }
+    }
+
     /// Whether the head takes no step whatever its arguments are, so that the term is its own weak head form for a unit.
     #[tactic(auto, using(crate::proofs::Resting::stuck_rests, crate::proofs::Resting::symbol_rests, crate::proofs::Resting::bare_rests))]
     fn rests(&self, version: &Version, whole: TermId) -> bool
         requires whole { whole.0 < length self.now.pool }
         requires serves { Serves (entries_of version.now) self.now }
         ensures { IsTrue result
-            → IsValue (entries_of version.now) self.now.pool whole.0 (record { id = whole; units = 1 }) }
+            → IsValue (entries_of version.now) self.now.pool whole.0
+            (record { id = whole; units = 1 }) }
     {
         let _version = version;
         let mut head = whole;

@@ -5,7 +5,6 @@
 #![tactic(auto)]
 
 mod brought;
-mod calls;
 mod compare;
 mod evaluate;
 mod known;
@@ -25,3 +24,4 @@ mod turn;
 mod walks;
 
 pub use state::PoolReducer;
+pub use walks::TreeLimits;

@@ -5,13 +5,11 @@ ghost use Rattle.shared_term.specs.Pools.{term, Extends};
 ghost use Rattle.signature_log.specs.Versions.{entries_of};
 ghost use Rattle.conversion.specs.Clauses.{Normalises};
 ghost use Rattle.conversion.specs.Reducers.{Serves};
-ghost use Rattle.conversion.specs.Trees.{AreTrees};
 ghost use Rattle.conversion.specs.Waiting.{resumed, value_due, IsNext, IsResumed, next_due, next_rank, MeetsPart, GivesNormal, TakesValueApart, asks_rank};
 ghost use Rattle.conversion.specs.declared.normal.Frame.TheVariants.{Conclude};
 
 use crate::PoolReducer;
 use crate::state::Value;
-use crate::trees::Trees;
 use dk_model::{NoMemory, NodeOf, Stop};
 use shared_term::{Pool, TermId};
 use signature_log::Version;
@@ -70,13 +68,11 @@ impl PoolReducer {
     pub(crate) fn normalise(
         &mut self,
         version: &Version,
-        trees: &Trees,
         whole: TermId,
         left: &mut u64,
     ) -> Result<TermId, Stop>
         requires whole { whole.0 < length self.old.pool }
         requires serves { Serves (entries_of version.now) self.old }
-        requires trees { AreTrees (entries_of version.now) trees.now }
         ensures gives { Normalises version.now self.old whole left.old result self.new left.new }
         ensures keeps { Extends self.old.pool self.new.pool }
         ensures serves { Serves (entries_of version.now) self.new }
@@ -88,7 +84,7 @@ impl PoolReducer {
             match self.normalise_on(version, next, &mut frames, left)? {
                 Normalised::Told(value) => return Ok(value),
                 Normalised::Asks(opened) => {
-                    let value = self.evaluate(version, trees, opened.part, left)?;
+                    let value = self.evaluate(version, opened.part, left)?;
                     next = part_parts(&self.pool, opened, value, &mut frames)?;
                 }
             }
@@ -108,7 +104,8 @@ impl PoolReducer {
         requires way { IsResumed (entries_of version.now) self.old.pool
             (resumed (entries_of version.now) self.old.pool frames.old.items
             (next_due (entries_of version.now) self.old.pool next left.old))
-            (next_due (entries_of version.now) self.old.pool next left.old) left.old frames.old.items }
+            (next_due (entries_of version.now) self.old.pool next left.old) left.old
+            frames.old.items }
         requires serves { Serves (entries_of version.now) self.old }
         ensures gives { GivesNormal (entries_of version.now)
             (resumed (entries_of version.now) self.old.pool frames.old.items
@@ -147,7 +144,8 @@ impl PoolReducer {
     ) -> Result<Option<TermId>, Stop>
         requires part { part.0 < length self.old.pool }
         requires serves { Serves (entries_of version.now) self.old }
-        ensures gives { MeetsPart (entries_of version.now) self.old.pool part left.old result left.new }
+        ensures gives { MeetsPart (entries_of version.now) self.old.pool part left.old result
+            left.new }
         ensures same { self.new ≡ self.old }
         ensures spent { left.new ≤ left.old }
         ensures turned { OnOk result (left.new < left.old) }
@@ -194,7 +192,8 @@ impl PoolReducer {
             (next_due (entries_of version.now) self.new.pool next left) left frames.new.items) }
         ensures keeps { Extends self.old.pool self.new.pool }
         ensures serves { Serves (entries_of version.now) self.new }
-        ensures ranked { IfOk result (λ next. length frames.new.items + next_rank next ≤ length frames.old.items + 1) }
+        ensures ranked { IfOk result (λ next.
+            length frames.new.items + next_rank next ≤ length frames.old.items + 1) }
     {
         match frame {
             Frame::Argument(argument) => {
@@ -263,7 +262,8 @@ fn push_frame(frames: &mut Vec<Frame>, frame: Frame) -> Result<(), NoMemory>
 fn take_apart(pool: &Pool, value: TermId, frames: &mut Vec<Frame>) -> Result<Next, NoMemory>
     requires { value.0 < length pool.now }
     ensures { IfOk result
-        (λ next. TakesValueApart pool.now (term pool.now value) frames.old.items next frames.new.items) }
+        (λ next. TakesValueApart pool.now (term pool.now value) frames.old.items next
+        frames.new.items) }
 {
     let mut head = value;
     loop {

@@ -61,7 +61,8 @@ pub(crate) fn with_arguments<'v>(
     matcher: Matcher<'v>,
     stack: &mut Vec<TermId>,
 ) -> Waiter<'v>
-    ensures waits { result ≡ record { symbol = symbol; matcher = matcher.entry; stack = stack.old } }
+    ensures waits { result
+        ≡ record { symbol = symbol; matcher = matcher.entry; stack = stack.old } }
     ensures empty { stack.new.items ≡ [] }
 {
     Waiter {
@@ -106,23 +107,47 @@ impl PoolReducer {
             (look_made (entries_of version.now) self.old.pool look left.old) left.old work.items }
         requires stack { stack.old.items ≡ [] }
         requires serves { Serves (entries_of version.now) self.old }
-        ensures gives { TurnsCompared version.now self.old waiter.entry look work left.old result self.new
-            stack.new left.new }
+        ensures gives { TurnsCompared version.now self.old waiter.entry look work left.old result
+            self.new stack.new left.new }
         ensures stack { OnOk result (AreWithin (length self.new.pool) stack.new.items) }
         ensures keeps { Extends self.old.pool self.new.pool }
         ensures serves { Serves (entries_of version.now) self.new }
         ensures spent { left.new ≤ left.old }
-        ensures turned { IfOk result (λ turn. left.new + turn_rank turn ≤ left.old + look_rank look) }
+        ensures turned { IfOk result (λ turn.
+            left.new + turn_rank turn ≤ left.old + look_rank look) }
     {
         let mut work = work;
-        match self.compare_on(version, look, &mut work, left)? {
-            Compared::Told(alike) => Ok(Turn::Selects(waiter.goes(told(alike), stack))),
-            Compared::Asks(pair) => Ok(Turn::Asks(Pause {
-                waiter,
-                purpose: Purpose::Compares(work, pair, None),
-                asked: pair.first,
-                start: *left,
-            })),
+        let mut look = look;
+        loop {
+            match self.compare_on(version, look, &mut work, left)? {
+                Compared::Told(alike) => {
+                    return Ok(Turn::Selects(waiter.goes(told(alike), stack)));
+                }
+                Compared::Asks(pair) => match self.recalled(version, pair.first, left)? {
+                    None => {
+                        return Ok(Turn::Asks(Pause {
+                            waiter,
+                            purpose: Purpose::Compares(work, pair, None),
+                            asked: pair.first,
+                            start: *left,
+                        }));
+                    }
+                    Some(first) => match self.recalled(version, pair.second, left)? {
+                        None => {
+                            return Ok(Turn::Asks(Pause {
+                                waiter,
+                                purpose: Purpose::Compares(work, pair, Some(first)),
+                                asked: pair.second,
+                                start: *left,
+                            }));
+                        }
+                        Some(second) => {
+                            let alike = pair_parts(&self.pool, pair, first, second, &mut work)?;
+                            look = Look::Behind(alike);
+                        }
+                    },
+                },
+            }
         }
     }
 
@@ -146,26 +171,34 @@ impl PoolReducer {
             (next_due (entries_of version.now) self.old.pool next left.old) left.old frames.items }
         requires stack { stack.old.items ≡ [] }
         requires serves { Serves (entries_of version.now) self.old }
-        ensures gives { TurnsNormal version.now self.old waiter.entry next frames left.old result self.new
-            stack.new left.new }
+        ensures gives { TurnsNormal version.now self.old waiter.entry next frames left.old result
+            self.new stack.new left.new }
         ensures stack { OnOk result (AreWithin (length self.new.pool) stack.new.items) }
         ensures keeps { Extends self.old.pool self.new.pool }
         ensures serves { Serves (entries_of version.now) self.new }
         ensures spent { left.new ≤ left.old }
-        ensures turned { IfOk result (λ turn. left.new + turn_rank turn ≤ left.old + next_rank next) }
+        ensures turned { IfOk result (λ turn.
+            left.new + turn_rank turn ≤ left.old + next_rank next) }
     {
         let mut frames = frames;
-        match self.normalise_on(version, next, &mut frames, left)? {
-            Normalised::Told(normal) => Ok(Turn::Selects(waiter.goes(
-                Answer::Normal(normal),
-                stack,
-            ))),
-            Normalised::Asks(opened) => Ok(Turn::Asks(Pause {
-                waiter,
-                purpose: Purpose::Normalises(frames, opened),
-                asked: opened.part,
-                start: *left,
-            })),
+        let mut next = next;
+        loop {
+            match self.normalise_on(version, next, &mut frames, left)? {
+                Normalised::Told(normal) => {
+                    return Ok(Turn::Selects(waiter.goes(Answer::Normal(normal), stack)));
+                }
+                Normalised::Asks(opened) => match self.recalled(version, opened.part, left)? {
+                    None => {
+                        return Ok(Turn::Asks(Pause {
+                            waiter,
+                            purpose: Purpose::Normalises(frames, opened),
+                            asked: opened.part,
+                            start: *left,
+                        }));
+                    }
+                    Some(value) => next = part_parts(&self.pool, opened, value, &mut frames)?,
+                },
+            }
         }
     }
 
@@ -181,10 +214,12 @@ impl PoolReducer {
     ) -> Result<Turn<'v>, Stop>
         requires pause { IsPause (entries_of version.now) (length self.old.pool) pause }
         requires waits { IsAwaited (entries_of version.now) self.old.pool pause }
-        requires told { awaited (entries_of version.now) self.old.pool pause ≡ Some (term self.old.pool value, left.old) }
+        requires told { awaited (entries_of version.now) self.old.pool pause
+            ≡ Some (term self.old.pool value, left.old) }
         requires value { value.0 < length self.old.pool }
         requires serves { Serves (entries_of version.now) self.old }
-        ensures gives { TurnsTold version.now self.old pause.entry result self.new stack.new left.new }
+        ensures gives { TurnsTold version.now self.old pause.entry result self.new stack.new
+            left.new }
         ensures stack { OnOk result (AreWithin (length self.new.pool) stack.new.items) }
         ensures keeps { Extends self.old.pool self.new.pool }
         ensures serves { Serves (entries_of version.now) self.new }

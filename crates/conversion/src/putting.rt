@@ -21,7 +21,8 @@ pub(crate) enum Filling<'a> {
 fn filled(pool: &mut Pool, whole: TermId, filling: Filling<'_>) -> Result<TermId, NoMemory>
     requires whole { whole.0 < length pool.old }
     requires filling { IsFilling (length pool.old) filling }
-    ensures moves { IfOk result (λ t. Moves (put_by pool.old filling.entry) pool.old pool.new whole t) }
+    ensures moves { IfOk result (λ t.
+        Moves (put_by pool.old filling.entry) pool.old pool.new whole t) }
     ensures keeps { Extends pool.old pool.new }
 {
     match filling {
@@ -42,7 +43,8 @@ pub(crate) fn put(
     requires filling { IsFilling (length pool.old) filling }
     requires stack { AreWithin (length pool.old) stack.old.items }
     ensures puts { IfOk result (λ h. wound (term pool.new h) (behind pool.new stack.new.items)
-        ≡ wound (put_by pool.old filling.entry (term pool.old whole)) (behind pool.old stack.old.items)) }
+        ≡ wound (put_by pool.old filling.entry (term pool.old whole))
+        (behind pool.old stack.old.items)) }
     ensures there { IfOk result (λ h. h.0 < length pool.new) }
     ensures stack { AreWithin (length pool.new) stack.new.items }
     ensures keeps { Extends pool.old pool.new }

@@ -31,17 +31,17 @@ impl Reducer for PoolReducer {
 
     #[tactic(auto, using(crate::proofs::Pooling::pool_keeps, crate::proofs::Pooling::pool_gives))]
     fn whnf(&mut self, v: &Version, t: &TermId, left: &mut u64) -> Result<TermId, Stop> {
-        self.whnf_by_trees(v, *t, left)
+        self.evaluate(v, *t, left)
     }
 
     #[tactic(auto, using(crate::proofs::Pooling::pool_keeps, crate::proofs::Pooling::pool_answers))]
     fn same(&mut self, v: &Version, t: &TermId, u: &TermId, left: &mut u64) -> Result<bool, Stop> {
-        self.same_by_trees(v, *t, *u, left)
+        self.compare(v, *t, *u, left)
     }
 
     #[tactic(auto, using(crate::proofs::Pooling::pool_keeps, crate::proofs::Pooling::pool_gives))]
     fn normal(&mut self, v: &Version, t: &TermId, left: &mut u64) -> Result<TermId, Stop> {
-        self.normal_by_trees(v, *t, left)
+        self.normalise(v, *t, left)
     }
 
     #[tactic(auto, using(crate::proofs::Pooling::pool_keeps, crate::proofs::Pooling::pool_shows, crate::proofs::Winding::extends_none))]

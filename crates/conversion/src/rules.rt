@@ -2,7 +2,8 @@
 ghost use Rattle.std.specs.Prelude.{◌≡◌, ◌<◌, Some, map, length, slice_get};
 ghost use Rattle.signature_log.specs.Rows.{row_rules};
 ghost use Rattle.shared_term.specs.Storage.{stored_term};
-ghost use Rattle.conversion.specs.Rules.{plain_rule_of, stored_pattern};
+ghost use Rattle.rule_match.specs.Rows.{stored_pattern};
+ghost use Rattle.conversion.specs.Rules.{plain_rule_of};
 
 use dk_model::Pat;
 use shared_term::Stored;
@@ -37,22 +38,12 @@ impl<'v> SymbolRule<'v> {
     }
 
     /// The patterns of its arguments.
-    pub(crate) fn patterns(&self) -> &'v [Pat<Stored>]
+    fn patterns(&self) -> &'v [Pat<Stored>]
         ensures { map stored_pattern result.now ≡ (plain_rule_of self.now).pats }
     {
         match self.row {
             Row::Body(_) => &[],
             Row::Rule(rule) => rule.pats.as_slice(),
-        }
-    }
-
-    /// How many variables it has.
-    pub(crate) fn variable_count(&self) -> u32
-        ensures { result ≡ (plain_rule_of self.now).vars }
-    {
-        match self.row {
-            Row::Body(_) => 0,
-            Row::Rule(rule) => rule.vars,
         }
     }
 

@@ -3,7 +3,7 @@ ghost use Rattle.std.specs.Prelude.{◌≡◌, IfOk};
 
 use crate::table::Table;
 use crate::trees::Trees;
-use crate::walks::Walks;
+use crate::walks::{TreeLimits, USUAL, Walks};
 use dk_model::NoMemory;
 use shared_term::{Pool, TermId};
 use std::alloc::Global;
@@ -46,7 +46,7 @@ pub struct PoolReducer {
     pub(crate) normals: Table<Value>,
     /// The answers of comparisons, each by its two terms.
     pub(crate) answers: Table<Answer>,
-    /// The trees of symbols whose rules were gone through often. A call from outside takes them out while it runs.
+    /// The trees of symbols whose rules were gone through often. An evaluation takes them out while it runs.
     pub(crate) trees: Trees,
     pub(crate) walks: Walks,
 }
@@ -73,6 +73,14 @@ impl PoolReducer {
         ensures empty { IfOk result (λ r. r.pool ≡ []) }
         ensures serves { IfOk result (λ r. (S : PlainSignature) → Serves S r) }
     {
+        PoolReducer::with_limits(alloc, USUAL)
+    }
+
+    /// The same with limits of its own for trees. They change the time that an answer takes, and nothing else.
+    pub fn with_limits(alloc: Global, limits: TreeLimits) -> Result<PoolReducer, NoMemory>
+        ensures empty { IfOk result (λ r. r.pool ≡ []) }
+        ensures serves { IfOk result (λ r. (S : PlainSignature) → Serves S r) }
+    {
         let nothing = Value {
             id: TermId::first(),
             units: 0,
@@ -90,7 +98,7 @@ impl PoolReducer {
                 units: 0,
             },
         )?;
-        let walks = Walks::new(alloc)?;
+        let walks = Walks::new(alloc, limits)?;
         Ok(PoolReducer {
             alloc,
             pool,

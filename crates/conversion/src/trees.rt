@@ -1,14 +1,11 @@
 //! The matching trees of symbols with many rules, over one version.
-ghost use Rattle.std.specs.Prelude.{◌≡◌, ◌≤◌, IfSome, length};
+ghost use Rattle.std.specs.Prelude.{◌≡◌, ◌≤◌, ◌<◌, IfSome, IfOk, length};
 ghost use Rattle.dk_model.specs.Signatures.{PlainSignature};
 ghost use Rattle.dk_model.specs.SymbolRules.{rules_of};
-ghost use Rattle.signature_log.specs.Versions.{entries_of};
 ghost use Rattle.rule_match.specs.Trees.{IsTree};
 
-use crate::selection::left_sides;
 use dk_model::NoMemory;
-use rule_match::{Tree, compile};
-use signature_log::Version;
+use rule_match::Tree;
 use std::alloc::Global;
 
 /// How many symbols have a tree at most.
@@ -74,7 +71,7 @@ impl Trees {
 
     /// Puts in the tree of a symbol.
     #[tactic(auto, using(crate::proofs::Treeing::tree_put))]
-    fn put(&mut self, symbol: u32, tree: Tree) -> Result<(), NoMemory>
+    pub(crate) fn put(&mut self, symbol: u32, tree: Tree) -> Result<(), NoMemory>
         ensures { (S : PlainSignature) → AreTrees S self.old → IsTree (rules_of S symbol) tree
             → AreTrees S self.new }
     {
@@ -83,18 +80,80 @@ impl Trees {
         Ok(())
     }
 
-    /// Compiles the rules of a symbol.
-    pub(crate) fn add(
-        &mut self,
-        alloc: Global,
-        version: &Version,
-        symbol: u32,
-    ) -> Result<(), NoMemory>
-        ensures { AreTrees (entries_of version.now) self.old
-            → AreTrees (entries_of version.now) self.new }
+    /// Puts in those of another. Where memory ends, the rest of them is dropped.
+    pub(crate) fn put_all(&mut self, others: Trees)
+        ensures { (S : PlainSignature) → AreTrees S self.old → AreTrees S others
+            → AreTrees S self.new }
     {
-        let sides = left_sides(alloc, &version.rules_of(symbol), symbol)?;
-        let tree = compile(alloc, sides.as_slice())?;
-        self.put(symbol, tree)
+        let mut others = others.listed;
+        while let Some(other) = others.pop() {
+            if self.put(other.symbol, other.tree).is_err() {
+                return;
+            }
+        }
+    }
+}
+
+/// A tree that was compiled while an evaluation was under way.
+#[derive(Clone, Copy)]
+pub(crate) struct NewTree<'v> {
+    pub(crate) symbol: u32,
+    pub(crate) tree: &'v Tree,
+}
+
+/// The trees that an evaluation selects by: those that the reducer had when it began, and those that were compiled since.
+#[derive(Drop)]
+pub(crate) struct TreesInUse<'v> {
+    pub(crate) kept: &'v Trees,
+    pub(crate) new: Vec<NewTree<'v>>,
+    /// How many more there may be.
+    pub(crate) room: usize,
+}
+
+impl<'v> TreesInUse<'v> {
+    ghost use Rattle.conversion.specs.Trees.{AreTrees, AreInUse};
+
+    /// Those that the reducer has.
+    pub(crate) fn of(alloc: Global, kept: &'v Trees) -> TreesInUse<'v>
+        ensures { (S : PlainSignature) → AreTrees S kept.now → AreInUse S result }
+    {
+        TreesInUse {
+            kept,
+            new: Vec::new(alloc),
+            room: MOST_TREES.saturating_sub(kept.len()),
+        }
+    }
+
+    /// The tree of a symbol, if it has one.
+    pub(crate) fn find(&self, symbol: u32) -> Option<&'v Tree>
+        ensures { IfSome result (λ tree. (S : PlainSignature) → AreInUse S self.now
+            → IsTree (rules_of S symbol) tree.now) }
+    {
+        if let Some(tree) = self.kept.find(symbol) {
+            return Some(tree);
+        }
+        for at in 0..self.new.len() {
+            let new = self.new[at];
+            if new.symbol == symbol {
+                return Some(new.tree);
+            }
+        }
+        None
+    }
+
+    /// With the tree of one more symbol.
+    pub(crate) fn with(self, symbol: u32, tree: &'v Tree) -> Result<TreesInUse<'v>, NoMemory>
+        requires room { 0 < self.room }
+        ensures trees { IfOk result (λ more. (S : PlainSignature) → AreInUse S self.entry
+            → IsTree (rules_of S symbol) tree.now → AreInUse S more) }
+        ensures room { IfOk result (λ more. more.room < self.entry.room) }
+    {
+        let mut new = self.new;
+        new.push(NewTree { symbol, tree })?;
+        Ok(TreesInUse {
+            kept: self.kept,
+            new,
+            room: self.room - 1,
+        })
     }
 }

@@ -12,7 +12,6 @@ ghost use Rattle.rule_match.specs.Trees.{IsTree};
 ghost use Rattle.conversion.specs.Machine.{AreWithin, is_application};
 ghost use Rattle.conversion.specs.Pausing.{IsSelection, StartsOver};
 ghost use Rattle.conversion.specs.Reducers.{Serves};
-ghost use Rattle.conversion.specs.Trees.{AreTrees};
 ghost use Rattle.conversion.specs.Turning.{turn_rank};
 ghost use Rattle.conversion.specs.Clauses.{TurnsHead, TurnsSymbol, TurnsSelection, PutsRight, Normalises, Compares};
 
@@ -22,14 +21,12 @@ use crate::normal::Next;
 use crate::pauses::{Pause, Purpose, with_arguments};
 use crate::putting::{Filling, put};
 use crate::rules::rule_at;
-use crate::selection::{Selection, left_sides, told};
+use crate::selection::Selection;
 use crate::state::Head;
-use crate::trees::{MOST_TREES, Trees};
 use dk_model::{NoMemory, NodeOf, Stop};
-use rule_match::{Answer, Ask, Matcher, Tree};
+use rule_match::{Answer, Ask};
 use shared_term::TermId;
-use signature_log::{Row, Rows, Version};
-use std::alloc::Global;
+use signature_log::{Row, Version};
 
 /// What a turn makes of a term before arguments.
 #[derive(Drop)]
@@ -38,7 +35,9 @@ pub(crate) enum Turn<'v> {
     Goes(TermId),
     /// The head, which takes no turn.
     Stands(TermId),
-    /// The rules of the head symbol are selected from: the selection begins, or goes on.
+    /// A selection from the rules of the head symbol begins.
+    Begins(u32),
+    /// It goes on.
     Selects(Selection<'v>),
     /// A selection that waits for a value. It took the arguments with it.
     Asks(Pause<'v>),
@@ -50,7 +49,6 @@ impl PoolReducer {
     pub(crate) fn turn_head<'v>(
         &mut self,
         version: &'v Version,
-        trees: &'v Trees,
         head: TermId,
         stack: &mut Vec<TermId>,
         left: &mut u64,
@@ -59,9 +57,8 @@ impl PoolReducer {
         requires alone { is_application (term self.old.pool head) ≡ false }
         requires stack { AreWithin (length self.old.pool) stack.old.items }
         requires serves { Serves (entries_of version.now) self.old }
-        requires trees { AreTrees (entries_of version.now) trees.now }
-        ensures gives { TurnsHead version.now self.old head stack.old left.old result self.new stack.new
-            left.new }
+        ensures gives { TurnsHead version.now self.old head stack.old left.old result self.new
+            stack.new left.new }
         ensures stack { OnOk result (AreWithin (length self.new.pool) stack.new.items) }
         ensures keeps { Extends self.old.pool self.new.pool }
         ensures serves { Serves (entries_of version.now) self.new }
@@ -81,7 +78,7 @@ impl PoolReducer {
                 None => Ok(Turn::Stands(head)),
             },
             NodeOf::Sym(k) => {
-                let turn = self.turn_symbol(version, trees, k, head, stack.as_slice(), *left)?;
+                let turn = self.turn_symbol(version, k, head, stack.as_slice())?;
                 Ok(turn)
             }
             NodeOf::Star => Ok(Turn::Stands(head)),
@@ -99,17 +96,14 @@ impl PoolReducer {
     fn turn_symbol<'v>(
         &mut self,
         version: &'v Version,
-        trees: &'v Trees,
         symbol: u32,
         head: TermId,
         stack: &[TermId],
-        left: u64,
     ) -> Result<Turn<'v>, NoMemory>
         requires head { head.0 < length self.old.pool }
         requires symbol { term self.old.pool head ≡ symbol_term symbol }
         requires stack { AreWithin (length self.old.pool) stack.now }
         requires serves { Serves (entries_of version.now) self.old }
-        requires trees { AreTrees (entries_of version.now) trees.now }
         ensures gives { IfOk result (TurnsSymbol version.now self.old symbol stack.now self.new) }
         ensures keeps { Extends self.old.pool self.new.pool }
         ensures serves { Serves (entries_of version.now) self.new }
@@ -117,7 +111,7 @@ impl PoolReducer {
         match self.heads.find(symbol, 0) {
             Some(Head::Stands) => Ok(Turn::Stands(head)),
             Some(Head::Unfolds(body)) => Ok(Turn::Goes(body)),
-            None => self.turn_by_rules(version, trees, symbol, head, stack, left),
+            None => self.turn_by_rules(version, symbol, head, stack),
         }
     }
 
@@ -126,17 +120,14 @@ impl PoolReducer {
     fn turn_by_rules<'v>(
         &mut self,
         version: &'v Version,
-        trees: &'v Trees,
         symbol: u32,
         head: TermId,
         stack: &[TermId],
-        left: u64,
     ) -> Result<Turn<'v>, NoMemory>
         requires head { head.0 < length self.old.pool }
         requires symbol { term self.old.pool head ≡ symbol_term symbol }
         requires stack { AreWithin (length self.old.pool) stack.now }
         requires serves { Serves (entries_of version.now) self.old }
-        requires trees { AreTrees (entries_of version.now) trees.now }
         ensures gives { IfOk result (TurnsSymbol version.now self.old symbol stack.now self.new) }
         ensures keeps { Extends self.old.pool self.new.pool }
         ensures serves { Serves (entries_of version.now) self.new }
@@ -152,15 +143,7 @@ impl PoolReducer {
                 self.heads.put(symbol, 0, Head::Unfolds(body));
                 Ok(Turn::Goes(body))
             }
-            Some(Row::Rule(_)) => {
-                let tree = trees.find(symbol);
-                let room = tree.is_none() && trees.len() < MOST_TREES;
-                if self.walks.wants_tree(symbol, rules.len(), left, room) {
-                    return Err(NoMemory);
-                }
-                let selection = selection_before(self.alloc, &rules, tree, symbol, stack)?;
-                Ok(Turn::Selects(selection))
-            }
+            Some(Row::Rule(_)) => Ok(Turn::Begins(symbol)),
         }
     }
 
@@ -177,8 +160,8 @@ impl PoolReducer {
         requires selection { IsSelection (entries_of version.now) (length self.old.pool) selection }
         requires stack { AreWithin (length self.old.pool) stack.old.items }
         requires serves { Serves (entries_of version.now) self.old }
-        ensures gives { TurnsSelection version.now self.old selection.entry stack.old left.old result
-            self.new stack.new left.new }
+        ensures gives { TurnsSelection version.now self.old selection.entry stack.old left.old
+            result self.new stack.new left.new }
         ensures stack { OnOk result (AreWithin (length self.new.pool) stack.new.items) }
         ensures keeps { Extends self.old.pool self.new.pool }
         ensures serves { Serves (entries_of version.now) self.new }
@@ -187,35 +170,51 @@ impl PoolReducer {
     {
         let symbol = selection.symbol;
         let mut matcher = selection.matcher;
-        let ask = matcher.next(&mut self.pool, selection.answer)?;
-        match ask {
-            Ask::Take(at, captures) => {
-                let next = self.put_right(version, symbol, at, captures.as_slice(), stack)?;
-                Ok(Turn::Goes(next))
-            }
-            Ask::Nothing => {
-                let head = self.pool.intern(NodeOf::Sym(symbol))?;
-                Ok(Turn::Stands(head))
-            }
-            Ask::Evaluate(column) => {
-                let asked = matcher.at(column);
-                let waiter = with_arguments(self.alloc, symbol, matcher, stack);
-                Ok(Turn::Asks(Pause {
-                    waiter,
-                    purpose: Purpose::Column,
-                    asked,
-                    start: *left,
-                }))
-            }
-            Ask::Escape(part) => {
-                let waiter = with_arguments(self.alloc, symbol, matcher, stack);
-                let frames = Vec::new(self.alloc);
-                self.normalise_for(version, waiter, Next::Part(part), frames, stack, left)
-            }
-            Ask::Same(first, second) => {
-                let waiter = with_arguments(self.alloc, symbol, matcher, stack);
-                let work = Vec::new(self.alloc);
-                self.compare_for(version, waiter, Look::At(first, second), work, stack, left)
+        let mut answer = selection.answer;
+        loop {
+            let ask = matcher.next(&mut self.pool, answer)?;
+            match ask {
+                Ask::Evaluate(column) => {
+                    let asked = matcher.at(column);
+                    match self.recalled(version, asked, left)? {
+                        Some(value) => answer = Answer::Value(value),
+                        None => {
+                            let waiter = with_arguments(self.alloc, symbol, matcher, stack);
+                            return Ok(Turn::Asks(Pause {
+                                waiter,
+                                purpose: Purpose::Column,
+                                asked,
+                                start: *left,
+                            }));
+                        }
+                    }
+                }
+                Ask::Take(at, captures) => {
+                    let next = self.put_right(version, symbol, at, captures.as_slice(), stack)?;
+                    return Ok(Turn::Goes(next));
+                }
+                Ask::Nothing => {
+                    let head = self.pool.intern(NodeOf::Sym(symbol))?;
+                    return Ok(Turn::Stands(head));
+                }
+                Ask::Escape(part) => {
+                    let waiter = with_arguments(self.alloc, symbol, matcher, stack);
+                    let frames = Vec::new(self.alloc);
+                    return self.normalise_for(
+                        version,
+                        waiter,
+                        Next::Part(part),
+                        frames,
+                        stack,
+                        left,
+                    );
+                }
+                Ask::Same(first, second) => {
+                    let waiter = with_arguments(self.alloc, symbol, matcher, stack);
+                    let work = Vec::new(self.alloc);
+                    let look = Look::At(first, second);
+                    return self.compare_for(version, waiter, look, work, stack, left);
+                }
             }
         }
     }
@@ -235,7 +234,8 @@ impl PoolReducer {
         requires stack { AreWithin (length self.old.pool) stack.old.items }
         requires serves { Serves (entries_of version.now) self.old }
         ensures puts { IfOk result (λ t. PutsRight self.old captures.now
-            (rule_at (rules_of (entries_of version.now) symbol) at) stack.old self.new t stack.new) }
+            (rule_at (rules_of (entries_of version.now) symbol) at) stack.old self.new t
+            stack.new) }
         ensures stack { AreWithin (length self.new.pool) stack.new.items }
         ensures keeps { Extends self.old.pool self.new.pool }
         ensures serves { Serves (entries_of version.now) self.new }
@@ -250,28 +250,4 @@ impl PoolReducer {
         let next = put(&mut self.pool, right, Filling::Captures(captures), stack)?;
         Ok(next)
     }
-}
-
-/// The selection for a symbol before the arguments of a stack, at its start: by the symbol's tree, where it has one that has
-/// nodes.
-fn selection_before<'v>(
-    alloc: Global,
-    rules: &Rows<'v>,
-    tree: Option<&'v Tree>,
-    symbol: u32,
-    stack: &[TermId],
-) -> Result<Selection<'v>, NoMemory>
-    requires tree { IfSome tree (λ t. IsTree (row_rules symbol rules.now) t.now) }
-    ensures starts { IfOk result (λ s. StartsOver (row_rules symbol rules.now) symbol stack.now s) }
-    ensures within { IfOk result (λ s. (n : ℕ) → AreWithin n stack.now → IsMatcher n s.matcher) }
-{
-    let matcher = match tree {
-        Some(tree) if tree.nodes() > 0 => Matcher::start(alloc, tree, stack)?,
-        _ => Matcher::walk(alloc, left_sides(alloc, rules, symbol)?, stack)?,
-    };
-    Ok(Selection {
-        symbol,
-        matcher,
-        answer: Answer::Begin,
-    })
 }

@@ -1,39 +1,42 @@
 //! Which symbol is to have a tree: one whose rules were gone through so often that a tree pays soon.
+ghost use Rattle.std.specs.Prelude.{◌≡◌, ◌<◌, true, length};
+ghost use Rattle.signature_log.specs.Rows.{row_rules};
 
 use crate::table::Table;
+use crate::trees::TreesInUse;
 use dk_model::NoMemory;
+use signature_log::Rows;
 use std::alloc::Global;
-
-/// How many rules a symbol has at least that is to have a tree.
-const FEWEST_RULES: u32 = 8;
-
-/// How often they are gone through before. That takes about as long as to compile them.
-const WALKS: u32 = 32;
-
-/// How many rules are gone through in the time that a unit takes.
-const RULES_A_UNIT: u64 = 16;
 
 /// Of how many symbols it is counted.
 const SYMBOLS: usize = 1024;
+
+/// From when on a symbol is to have a matching tree.
+#[derive(Clone, Copy)]
+pub struct TreeLimits {
+    /// How many rules it has at least.
+    pub fewest_rules: u32,
+    /// How often they are gone through before. At 0 there is a tree at once.
+    pub walks: u32,
+}
+
+/// The usual limits. So many walks take about as long as to compile the rules.
+pub(crate) const USUAL: TreeLimits = TreeLimits {
+    fewest_rules: 16,
+    walks: 32,
+};
 
 /// How often the rules of symbols were gone through in a check.
 #[derive(Drop)]
 pub(crate) struct Walks {
     counts: Table<u32>,
-    /// The units that there were when the call from outside began.
-    start: u64,
-    /// The symbol for whose tree the call ended.
-    pub(crate) wanted: Option<u32>,
+    limits: TreeLimits,
 }
 
 impl Walks {
-    pub(crate) fn new(alloc: Global) -> Result<Walks, NoMemory> {
+    pub(crate) fn new(alloc: Global, limits: TreeLimits) -> Result<Walks, NoMemory> {
         let counts = Table::new(alloc, SYMBOLS, 0)?;
-        Ok(Walks {
-            counts,
-            start: 0,
-            wanted: None,
-        })
+        Ok(Walks { counts, limits })
     }
 
     /// Forgets all counts.
@@ -41,17 +44,16 @@ impl Walks {
         self.counts.clear();
     }
 
-    /// A call from outside begins.
-    pub(crate) fn begin(&mut self, left: u64) {
-        self.start = left;
-        self.wanted = None;
-    }
-
-    /// Whether a symbol of so many rules is to have a tree, where there is room for it, before they are gone through once
-    /// more. A call that ends for it is made again from its first units, so what the units took that it spent has to be
-    /// less than what the walks took.
-    pub(crate) fn wants_tree(&mut self, symbol: u32, rules: u32, left: u64, room: bool) -> bool {
-        if rules < FEWEST_RULES || !room {
+    /// Whether a symbol is to have a tree before its rules are gone through once more.
+    pub(crate) fn wants_tree(&mut self, rules: &Rows, trees: &TreesInUse, symbol: u32) -> bool
+        ensures room { result ≡ true → 0 < trees.now.room }
+        ensures rules { result ≡ true → 0 < length (row_rules symbol rules.now) }
+    {
+        let fewest = self.limits.fewest_rules.max(1);
+        if trees.room == 0 || rules.len() < fewest {
+            return false;
+        }
+        if trees.find(symbol).is_some() {
             return false;
         }
         let walks = match self.counts.find(symbol, 0) {
@@ -59,12 +61,6 @@ impl Walks {
             None => 1,
         };
         self.counts.put(symbol, 0, walks);
-        let spent = self.start.saturating_sub(left);
-        let gone_through = u64::from(rules) * u64::from(walks);
-        if walks <= WALKS || gone_through / RULES_A_UNIT < spent {
-            return false;
-        }
-        self.wanted = Some(symbol);
-        true
+        walks > self.limits.walks
     }
 }

@@ -26,6 +26,7 @@ use Rattle.conversion.specs.contracts.table.Slot as TableSlot
 use Rattle.conversion.specs.contracts.table.Table as Table
 use Rattle.conversion.specs.contracts.trees.SymbolTree as SymbolTree
 use Rattle.conversion.specs.contracts.trees.Trees as Trees
+use Rattle.conversion.specs.contracts.walks.TreeLimits as TreeLimits
 use Rattle.conversion.specs.contracts.walks.Walks as Walks
 use Rattle.split_check.proofs.Crosses.{node_send, pat_send, stored_send}
 
@@ -91,8 +92,11 @@ value_send = search (sendable, crosses) depth 40 fits 20000
 answer_send : IsSend Answer.the_row
 answer_send = search (sendable, crosses) depth 40 fits 20000
 
+limits_send : IsSend TreeLimits.the_row
+limits_send = search (sendable, crosses) depth 40 fits 20000
+
 walks_send : IsSend Walks.the_row
-walks_send = search (sendable, crosses, results_send) depth 40 fits 20000
+walks_send = let a = limits_send in search (sendable, crosses) depth 40 fits 20000
 
 id_send : IsSend TermId.the_row
 id_send = search (sendable, crosses) depth 40 fits 20000

@@ -1,16 +1,15 @@
--- A symbol without rules, one with a body, and one whose rules are selected from.
+-- A symbol without rules, and one with a body.
 use Rattle.std.proofs.Common.{◌≡◌, ◌∙◌, ap, sym as flip, Some, None}
 use Rattle.std.specs.Prelude.{slice_get}
 use Rattle.dk_model.specs.Trees.{Tree}
 use Rattle.dk_model.specs.Signatures.{PlainSignature}
 use Rattle.dk_model.specs.SymbolRules.{rules_of}
 use Rattle.shared_term.specs.Storage.{stored_term}
-use Rattle.signature_log.specs.Rows.{row_rules}
 use Rattle.signature_log.specs.Versions.{entries_of}
 use Rattle.conversion.specs.declared.state.Head.TheVariants.{Stands, Unfolds}
 use Rattle.conversion.specs.Reducers.{unfolding_rule}
 use Rattle.conversion.proofs.Serving.{heads_put, serves_grown}
-use Rattle.conversion.proofs.Turning.{symbol_stands, symbol_unfolds, symbol_selects_from, selection_within}
+use Rattle.conversion.proofs.Turning.{symbol_stands, symbol_unfolds}
 use Rattle.conversion.proofs.state.PoolReducer.turn_by_rules.Goals as goal
 
 pub returns-in-None-clause-gives : goal.returns-in-None-clause-gives
@@ -29,14 +28,6 @@ returns-in_ok-body-in-Some-Body-clause-gives c = λ n.
           l.keeps c.requires.stack,
       l.within,
     )
-
-pub returns-in_ok-selection-in-Some-Rule-clause-gives : goal.returns-in_ok-selection-in-Some-Rule-clause-gives
-returns-in_ok-selection-in-Some-Rule-clause-gives c = λ n. (
-  symbol_selects_from (entries_of c.args.version.now) c.args.self.now.pool c.args.stack.now c.args.symbol (row_rules c.args.symbol c.rules_of-rules.result) c.in_ok-selection-in-Some-Rule.selection
-      c.rules_of-rules.ensures c.in_ok-selection-in-Some-Rule.ensures.starts n,
-  selection_within (entries_of c.args.version.now) c.args.self.now.pool c.args.stack.now c.args.symbol (row_rules c.args.symbol c.rules_of-rules.result) c.in_ok-selection-in-Some-Rule.selection
-      c.rules_of-rules.ensures c.in_ok-selection-in-Some-Rule.ensures.starts c.requires.stack c.in_ok-selection-in-Some-Rule.ensures.within,
-)
 
 pub returns-in-None-clause-serves : goal.returns-in-None-clause-serves
 returns-in-None-clause-serves c =

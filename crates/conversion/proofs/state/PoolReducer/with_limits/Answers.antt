@@ -1,5 +1,5 @@
 use Rattle.conversion.proofs.Serving.{loaded_blank, heads_blank, values_blank, normals_blank, answers_blank}
-use Rattle.conversion.proofs.state.PoolReducer.new.Goals as goal
+use Rattle.conversion.proofs.state.PoolReducer.with_limits.Goals as goal
 
 pub returns-clause-serves : goal.returns-clause-serves
 returns-clause-serves c = λ S. record {
