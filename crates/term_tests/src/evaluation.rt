@@ -3,7 +3,7 @@ ghost use Rattle.signature_log.specs.Versions.{entries_of};
 
 use crate::evaluation_rows::{Asked, LARGE, ROWS, Row};
 use crate::texts::version_of_text;
-use conversion::PoolReducer;
+use conversion::{PoolReducer, TreeLimits};
 use dk_model::{Entry, NoMemory, Stop};
 use shared_term::Stored;
 use signature_log::{Reducer, Version};
@@ -152,6 +152,12 @@ fn first_wrong(
     None
 }
 
+/// The limits by which each symbol has a tree before its rules are gone through.
+const AT_ONCE: TreeLimits = TreeLimits {
+    fewest_rules: 1,
+    walks: 0,
+};
+
 /// The first wrong one of the rows, and of the large ones.
 fn both_wrong(alloc: Global) -> Result<[Option<usize>; 2], NoMemory> {
     let mut terms = PoolReducer::new(alloc)?;
@@ -159,7 +165,23 @@ fn both_wrong(alloc: Global) -> Result<[Option<usize>; 2], NoMemory> {
     Ok([both, first_wrong(alloc, &mut terms, &LARGE, false)])
 }
 
+/// The same where each symbol has a matching tree at once.
+fn both_wrong_at_once(alloc: Global) -> Result<[Option<usize>; 2], NoMemory> {
+    let mut terms = PoolReducer::with_limits(alloc, AT_ONCE)?;
+    let both = first_wrong(alloc, &mut terms, &ROWS, false);
+    Ok([both, first_wrong(alloc, &mut terms, &LARGE, false)])
+}
+
 #[test]
 fn terms_are_evaluated_with_their_units(rt: HostRuntime) {
     assert_eq!(rt; both_wrong(rt.alloc()), Ok([None; 2]), "of the rows");
+}
+
+#[test]
+fn matching_trees_change_no_unit(rt: HostRuntime) {
+    assert_eq!(rt;
+        both_wrong_at_once(rt.alloc()),
+        Ok([None; 2]),
+        "of the rows"
+    );
 }

@@ -18,18 +18,19 @@ pub type Row = (Parts, Asked, u64, Result<bool, Stop>);
 
 /// Rules of each form.
 const RULES: (&str, u32) = (
-    "z : Type. s : Type. eq : Type. c : Type. def plus : Type. def first : Type. def later : Type. def twice : Type. def guarded : Type. def constant : Type. def body : Type. def applied : Type. def over : Type. def endless : Type. def both : Type. def d : Type.
+    "z : Type. s : Type. eq : Type. c : Type. def plus : Type. def first : Type. def later : Type. def twice : Type. def guarded : Type. def constant : Type. def body : Type. def applied : Type. def over : Type. def endless : Type. def both : Type. def d : Type. def switch : Type. def inner : Type.
     [y] plus z y --> y [x, y] plus (s x) y --> s (plus x y)
     [] first z --> s z [x] first x --> c [x] later x --> c [] later z --> s z
     [x] twice x x --> c [x] guarded x {x} --> c
     [x] constant x --> c [f] body (y => f) --> f [f] applied (y => f y) --> f z [x] over x --> s
     [] endless --> plus endless z
-    [m, n] both (s m) (s n) --> z [n] d n --> both n n.
+    [m, n] both (s m) (s n) --> z [n] d n --> both n n
+    [f] switch (x => y => f x y) --> a => b => f b a [f] inner (y => f) --> f [f] inner (y => s (f y)) --> f z.
     ",
     1,
 );
 
-pub const ROWS: [Row; 23] = [
+pub const ROWS: [Row; 26] = [
     (
         &[
             RULES,
@@ -44,6 +45,12 @@ pub const ROWS: [Row; 23] = [
     ),
     (
         &[RULES, ("def t := first z. def v := s z.", 1)],
+        Asked::Head,
+        3,
+        Ok(true),
+    ),
+    (
+        &[RULES, ("def t := first c. def v := c.", 1)],
         Asked::Head,
         3,
         Ok(true),
@@ -106,6 +113,26 @@ pub const ROWS: [Row; 23] = [
         &[RULES, ("def t := applied (y => s y). def v := s z.", 1)],
         Asked::Head,
         4,
+        Ok(true),
+    ),
+    // Two columns below each other, then two contractions for the arguments and two for the capture.
+    (
+        &[
+            RULES,
+            (
+                "def t := switch (x => y => eq x y) c z. def v := eq z c.",
+                1,
+            ),
+        ],
+        Asked::Head,
+        8,
+        Ok(true),
+    ),
+    // The normal form of `s y` takes four, and fails the first row alone.
+    (
+        &[RULES, ("def t := inner (y => s y). def v := z.", 1)],
+        Asked::Head,
+        9,
         Ok(true),
     ),
     (

@@ -276,6 +276,23 @@ fn first_wrong(alloc: Global) -> Result<Option<usize>, NoMemory> {
     Ok(None)
 }
 
+/// How many nodes the tree of a symbol's rules has, where it has any.
+fn nodes_of(alloc: Global, parts: Parts, symbol: u32) -> Result<Option<u32>, NoMemory> {
+    let version = version_of_text(alloc, parts)?;
+    match version.rules_of(symbol).tree(alloc)? {
+        Some(tree) => Ok(Some(tree.nodes())),
+        None => Ok(None),
+    }
+}
+
+#[test]
+fn a_symbol_with_rules_has_a_tree(rt: HostRuntime) {
+    for (symbol, nodes) in [(0, None), (1, None), (2, Some(3))] {
+        let found = nodes_of(rt.alloc(), PLUS, symbol);
+        assert_eq!(rt; found, Ok(nodes), "of symbol {symbol}");
+    }
+}
+
 #[test]
 fn rules_are_taken_by_what_is_asked(rt: HostRuntime) {
     assert_eq!(rt; first_wrong(rt.alloc()), Ok(None), "of the selections");
