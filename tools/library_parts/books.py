@@ -2,13 +2,13 @@
 (docs/modules.md)."""
 import os
 
-from .cuts import MODULE_NAME, MODULES, items, tokens
+from .cuts import MODULE_NAME, MODULES, SPELT, items, tokens
 from .names import ASKS_FOR_ONE, ASKS_FOR_TWO, KEYWORDS, WORDS_OUTSIDE, Names
 from where_parts.terms import Declaration, Query, Reader, Unread
 from where_parts.texts import Token
 
 DIRECTIVES = (b"#NAME", b"#REQUIRE")
-MOST_OPEN, MOST_READ = 64, 1000
+MOST_OPEN, MOST_READ, MOST_BYTES = 64, 1000, 255
 KINDS = {"qualified": "name", "name": "name", "word": "word", "sign": "sign"}
 
 
@@ -132,9 +132,14 @@ def is_label(words, number):
     return number > 0 and len(around) == 4 and around[0] == b"{" and around[2:] == [b"}", b"["]
 
 
+def is_long(name):
+    """Whether a name, or a part of a qualified one, has too many bytes."""
+    return len(name) > MOST_BYTES and any(len(it) > MOST_BYTES + 4 * it.startswith(b"{|") for it in SPELT.findall(name))
+
+
 def is_read(words):
     """Whether a command has a form of the grammar, as far as its tokens tell."""
-    if Names(words).is_odd or any(it[1] in WORDS_OUTSIDE for it in words):
+    if Names(words).is_odd or any(it[1] in WORDS_OUTSIDE or is_long(it[1]) for it in words):
         return False
     given = [Token(KINDS[kind], text, start) for kind, text, start, _ in words]
     try:

@@ -1,18 +1,19 @@
 """A theory as one file: each symbol of a module under a name of its own, and where each command stands in its own file."""
-from .books import Theory
-from .cuts import QUALIFIED, SPELT, tokens
-from .names import Names
 import re
 
-MOST_BYTES = 255
+from .books import MOST_BYTES, Theory, is_long
+from .cuts import QUALIFIED, SPELT, tokens
+from .names import Names
+
 IS_QUALIFIED = re.compile(QUALIFIED)
 
 
 class Command:
     """A command of the merged file: its text there, its line there, and in its own book its text, line and column; its name as
-    reports on FILE have it, and as those on the merged file do."""
+    reports on FILE have it, and as those on the merged file do. Of rules the heads, as the merged file spells them; whether it is a
+    declaration without a body."""
 
-    __slots__ = ("number", "text", "merged_line", "book", "own_text", "line", "column", "name", "merged_name", "is_whole")
+    __slots__ = "number text merged_line book own_text line column name merged_name is_whole heads is_bodiless".split()
 
 
 class Spellings:
@@ -78,7 +79,7 @@ class Merged:
         it.line, it.column = book.place(item.start)
         it.own_text = book.text[item.start : item.end]
         it.name = it.merged_name = b"-"
-        it.text = it.own_text
+        it.text, it.heads, it.is_bodiless = it.own_text, (), False
         if item.is_whole:
             self.rename(it, book, item)
         self.line += it.text.count(b"\n") + 1
@@ -95,20 +96,26 @@ class Merged:
             it.text = with_changes(book.text, item, changed)
         if words[0][0] == "word":
             it.name = it.merged_name = words[0][1]
-        elif named.declared is not None:
-            name = named.declared[1]
+        elif named.declared:
+            name = named.declared[0]
             it.merged_name = self.spelt(book, name)
             it.name = name if book is self.theory.main() else book.module + b"." + name
+        if words[0][1] in (b"[", b"{"):
+            it.heads = {self.spelt(book, name) for name in named.declared}
+        else:
+            it.is_bodiless = words[0][0] != "word" and all(word[1] != b":=" for word in words)
 
     def spelt(self, book, name):
-        """What a name that means a symbol is spelt like in the merged file."""
+        """What a name that means a symbol is spelt like in the merged file; one that is refused for its length as it is."""
+        if is_long(name):
+            return name
         if IS_QUALIFIED.fullmatch(name):
             module, _, name = name.partition(b".")
             return self.spellings.of(module, name)
         return self.spellings.of(book.module, name)
 
     def text(self):
-        return b"".join(it.text + b"\n" for it in self.commands)
+        return b"".join(it.text + (b"\n" if it.is_whole else b"") for it in self.commands)
 
     def table(self):
         """The places: of each command its number, its line and column in its own file, that file, its line in the merged file, and

@@ -7,12 +7,12 @@ NAMES = ("name", "qualified")
 
 
 class Names:
-    """The names of a command that mean symbols, as far as its form tells. Beside them the token that it declares, or of rules their
-    first head; the qualified ones whose plain name is bound at their place; and whether one stands where none can, which the grammar
+    """The names of a command that mean symbols, as far as its form tells. Beside them the name that it declares, or of rules the
+    head of each; the qualified ones whose plain name is bound at their place; and whether one stands where none can, which the grammar
     refuses."""
 
     def __init__(self, words):
-        self.words, self.found, self.declared, self.is_odd = words, [], None, False
+        self.words, self.found, self.declared, self.is_odd = words, [], [], False
         self.hidden = set()
         self.variables, self.bound = {}, {}
         self.frames, self.waiting = [], []
@@ -110,9 +110,9 @@ class Names:
         at = 1 if self.words[0][1] in (b"def", b"thm") else 0
         if at < len(self.words) and self.words[at][0] in NAMES:
             self.declares(at)
-            self.declared = self.words[at]
-            if self.declared[0] == "name":
-                self.meet(self.declared)
+            self.declared.append(self.words[at][1])
+            if self.words[at][0] == "name":
+                self.meet(self.words[at])
             at += 1
         self.frames.append([])
         self.waiting.append(None)
@@ -138,8 +138,7 @@ class Names:
             self.bound, self.variables = {}, {}
             self.frames.append([])
             at = self.context(at + 1)
-            if self.declared is None:
-                self.declared = next((it for it in self.words[at:] if it[1] != b"("), None)
+            self.declared += [it[1] for it in self.words[at : at + 1001] if it[1] != b"("][:1]
             at = self.term(at, (b"-->",), has_guards=True)
             if self.sign(at) == b"-->":
                 at = self.term(at + 1, (b"[", b"{"))
