@@ -68,7 +68,7 @@ class Merged:
 
     def __init__(self, name):
         self.theory = Theory(name)
-        self.spellings = Spellings(self.theory)
+        self.spellings, self.known = Spellings(self.theory), {}
         self.commands, self.line = [], 1
         for book, item in self.theory.commands:
             self.add(book, item)
@@ -106,7 +106,14 @@ class Merged:
             it.is_bodiless = words[0][0] != "word" and all(word[1] != b":=" for word in words)
 
     def spelt(self, book, name):
-        """What a name that means a symbol is spelt like in the merged file; one that is refused for its length as it is."""
+        """What a name that means a symbol is spelt like in the merged file."""
+        key = (book.module, name)
+        if key not in self.known:
+            self.known[key] = self.spelling(book, name)
+        return self.known[key]
+
+    def spelling(self, book, name):
+        # What is refused for its length stays as it is.
         if is_long(name):
             return name
         if IS_QUALIFIED.fullmatch(name):

@@ -1,8 +1,12 @@
 """How far a check is, told from outside by what the system says of its process: how much of its files it has read, and its memory."""
 import os
+import re
 import sys
 import time
 
+from .cuts import MODULES
+
+REQUIRED = re.compile(rb"#REQUIRE[ \t\r\n]+([A-Za-z0-9_!?']+)")
 # A share smaller than this says little of the time.
 LEAST_SHARE = 0.02
 
@@ -12,46 +16,70 @@ class Running:
 
     def __init__(self, process, name):
         self.process, self.name, self.begun = process, name, time.monotonic()
-        # The files that were seen open, with their bytes, and those of them that are open now.
-        self.seen, self.now = {}, {}
+        self.bytes, self.modules = None, 0
 
-    def look(self):
-        """Looks at the files that it has open, and how far it is in each."""
-        folder = "/proc/%d/fd" % self.process.pid
-        self.now = {}
-        try:
-            for it in os.listdir(folder):
-                path = os.path.join(folder, it)
-                name = os.readlink(path)
-                if int(it) > 2 and os.path.isfile(name):
-                    self.seen[name] = os.stat(path).st_size
-                    self.now[name] = position(self.process.pid, it)
-        except (OSError, ValueError):
-            pass
+    def seconds(self):
+        return time.monotonic() - self.begun
 
     def share(self):
-        """The share of FILE that is read; None where it isn't open or has no size. What a module has isn't in it, so behind the need of
-        a module it stands still."""
-        path = os.path.realpath(self.name)
-        if path in self.seen and path not in self.now:
-            return 1.0
-        size = self.seen.get(path)
-        return self.now[path] / size if size else None
+        """The share of FILE and its modules that is read; None where it can't be told."""
+        if self.bytes is None:
+            sizes = sizes_of_books(self.name)
+            self.bytes, self.modules = sum(sizes), max(0, len(sizes) - 1)
+        read = bytes_read(self.process.pid)
+        return min(1.0, read / self.bytes) if self.bytes and read is not None else None
 
     def line(self):
         """What a person is told of it."""
-        self.look()
-        share, memory, seconds = self.share(), memory_of(self.process.pid), time.monotonic() - self.begun
-        name = os.path.basename(self.name)
-        told = ["%s" % name if share is None else "%d%% of %s read" % (100 * share, name)]
-        inner = [it for it in self.now if it != os.path.realpath(self.name)]
-        if inner:
-            told.append("now %d%% of %s" % (100 * self.now[inner[-1]] / max(1, self.seen[inner[-1]]), os.path.basename(inner[-1])))
+        told, share = [os.path.basename(self.name)], self.share()
+        if share is not None:
+            also = " and its %d modules" % self.modules if self.modules else ""
+            told = ["%d%% of %s%s read" % (100 * share, told[0], also)]
+        memory = memory_of(self.process.pid)
         if memory:
             told.append("%d MB" % memory)
-        if share is not None and LEAST_SHARE <= share < 1 and not inner:
-            told.append("about %d s more" % (seconds / share - seconds + 1))
+        if share is not None and LEAST_SHARE <= share < 1:
+            told.append("about %d s more" % (self.seconds() / share - self.seconds() + 1))
         return ", ".join(told)
+
+
+def sizes_of_books(name):
+    """The sizes of a regular file and of the files beside it that it seems to need; none where it isn't one."""
+    folder, known, waiting, sizes = os.path.dirname(name), set(), [name], []
+    while waiting:
+        path = waiting.pop()
+        if path in known or not os.path.isfile(path):
+            continue
+        known.add(path)
+        try:
+            with open(path, "rb") as file:
+                text = file.read()
+        except OSError:
+            continue
+        sizes.append(len(text))
+        waiting += [os.path.join(folder, os.fsdecode(it) + ".dk") for it in set(MODULES.findall(text)) | set(REQUIRED.findall(text)) if it]
+    return sizes
+
+
+def bytes_read(number):
+    """How many bytes a process has read; None where the system doesn't tell, or it has ended."""
+    try:
+        with open("/proc/%d/io" % number, encoding="ascii") as file:
+            return int(file.readline().split()[1])
+    except (OSError, IndexError, ValueError):
+        return positions(number)
+
+
+def positions(number):
+    """How far a process is in the files that it has open, together."""
+    folder, total = "/proc/%d/fd" % number, 0
+    try:
+        for it in os.listdir(folder):
+            if int(it) > 2 and os.path.isfile(os.path.join(folder, it)):
+                total += position(number, it)
+    except (OSError, IndexError, ValueError):
+        return None
+    return total
 
 
 def position(number, descriptor):
