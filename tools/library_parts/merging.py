@@ -80,7 +80,8 @@ class Merged:
         it.own_text = book.text[item.start : item.end]
         it.name = it.merged_name = b"-"
         it.text, it.heads, it.is_bodiless = it.own_text, (), False
-        if item.is_whole:
+        is_read = item.is_whole and not (self.theory.is_ended and it.number == len(self.theory.commands))
+        if is_read:
             self.rename(it, book, item)
         self.line += it.text.count(b"\n") + 1
         self.commands.append(it)
