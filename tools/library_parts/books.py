@@ -148,7 +148,9 @@ def is_read(words):
         elif given[0].kind == "word":
             Query(given)
         else:
-            Declaration(given)
+            declared = Declaration(given)
+            has_type, has_body = declared.typ is not None, declared.body is not None
+            return {b"def": has_type or has_body, b"thm": has_type and has_body}.get(given[0].text, has_type and not has_body)
     except (Unread, IndexError, RecursionError):
         return False
     return given[0].kind != "word" or given[0].text in ASKS_FOR_TWO + ASKS_FOR_ONE
