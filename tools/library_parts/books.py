@@ -2,7 +2,7 @@
 (docs/modules.md)."""
 import os
 
-from .cuts import MODULE_NAME, MODULES, SPELT, items, tokens
+from .cuts import MODULE_NAME, MODULES, SPELT, blanked, items, tokens
 from .names import ASKS_FOR_ONE, ASKS_FOR_TWO, KEYWORDS, WORDS_OUTSIDE, Names
 from where_parts.terms import Declaration, Query, Reader, Unread
 from where_parts.texts import Token
@@ -88,7 +88,8 @@ class Theory:
 
     def needs(self, book, item):
         """The modules that a command needs and that aren't read, in order; none where it can't be read, which ends the reading."""
-        found = MODULES.findall(book.text, item.start, item.end)
+        commented = blanked(book.text, item) if item.comments else None
+        found = MODULES.findall(commented) if commented else MODULES.findall(book.text, item.start, item.end)
         if not any(it and it not in self.known and it != book.module for it in found):
             return []
         words = tokens(book.text, item)

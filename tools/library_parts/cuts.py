@@ -20,8 +20,9 @@ BLANKS = rb"[ \t\r\n]"
 PIECE = re.compile(rb"(?:" + rb"|".join([BLANKS + rb"++", QUALIFIED, PLAIN, QUOTED, WORD, SIGN]) + rb")*+")
 TOKEN = re.compile(BLANKS + rb"*+(?:(%s)|(%s|%s)|(%s)|(%s|\.))" % (QUALIFIED, PLAIN, QUOTED, WORD, SIGN))
 KINDS = (None, "qualified", "name", "word", "sign")
-# Names alone: what is spelt anywhere, and the modules of qualified names.
+# Names alone: the parts of one, all that may be spelt in a text with comments, and the modules of qualified names in one without.
 SPELT = re.compile(QUOTED + rb"|" + RUN)
+SPELT_ANYWHERE = re.compile(rb"(?=(" + QUOTED + rb"))|" + BYTE + rb"++")
 MODULES = re.compile(QUOTED + rb"|(" + RUN + rb")\.(?:" + RUN + rb"|" + QUOTED + rb")|" + RUN)
 MODULE_NAME = re.compile(rb"(?!" + WILDCARD + rb")" + RUN)
 

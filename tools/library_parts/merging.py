@@ -2,7 +2,7 @@
 import re
 
 from .books import MOST_BYTES, Theory, is_long
-from .cuts import QUALIFIED, SPELT, tokens
+from .cuts import QUALIFIED, SPELT_ANYWHERE, tokens
 from .names import Names
 
 IS_QUALIFIED = re.compile(QUALIFIED)
@@ -22,7 +22,7 @@ class Spellings:
 
     def __init__(self, theory):
         self.main, self.given = theory.main().module, {}
-        self.taken = set().union(*(SPELT.findall(it.text) for it in theory.books))
+        self.taken = set().union(*(spelt_in(it.text) for it in theory.books))
         self.hidden = hidden_names(theory)
 
     def of(self, module, name):
@@ -47,6 +47,11 @@ def candidates(module, name):
         end = b".%d" % number
         yield b"{|" + (module + b"." + plain)[: MOST_BYTES - len(end)] + end + b"|}"
         number += 1
+
+
+def spelt_in(text):
+    """All names that stand in a text, and more, since comments aren't left out."""
+    return {it.group(1) or it.group() for it in SPELT_ANYWHERE.finditer(text)}
 
 
 def hidden_names(theory):
