@@ -1,11 +1,7 @@
 """The bytes of a file, cut into commands and directives and these into tokens (docs/syntax.md), in a time that grows as the file."""
-import os
 import re
-import sys
 
-sys.path.insert(0, os.path.dirname(os.path.dirname(os.path.realpath(__file__))))
-
-from where_parts.texts import behind_blanks, behind_comment  # noqa: E402
+from where_parts.texts import behind_blanks, behind_comment
 
 BYTE = rb"[A-Za-z0-9_!?']"
 RUN = rb"(?!')" + BYTE + rb"++"
