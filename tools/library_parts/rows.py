@@ -8,8 +8,10 @@ MERGED = {
             "a.dk": "t : Type.\n\n  x : t.",
             "b.dk": "#REQUIRE a.\nt : Type.\nc : a.t -> t.\n",
         },
-        "a_t : Type.\na_x : a_t.\nb_t : Type.\nb_c : a_t -> b_t.\nthm one : b_t := b_c (; a comment ;) a_x.\ntwo : a_t.\nthree : two -> b_t.\n",
-        "1 1 a.dk a.t a_t\n3 3 a.dk a.x a_x\n2 1 b.dk b.t b_t\n3 1 b.dk b.c b_c\n2 1 f.dk one one\n3 15 f.dk two two\n3 26 f.dk three three\n",
+        "a_t : Type.\na_x : a_t.\nb_t : Type.\nb_c : a_t -> b_t.\nthm one : b_t := b_c (; a comment ;) a_x.\n"
+        "two : a_t.\nthree : two -> b_t.\n",
+        "1 1 a.dk a.t a_t\n3 3 a.dk a.x a_x\n2 1 b.dk b.t b_t\n3 1 b.dk b.c b_c\n2 1 f.dk one one\n3 15 f.dk two two\n"
+        "3 26 f.dk three three\n",
     ),
     "a directive comes first, and a need in the middle": (
         {"f.dk": "a : Type. #REQUIRE n. b : m.a.", "m.dk": "a : Type.", "n.dk": "a : Type.\nb : m.a. c : b."},
@@ -19,7 +21,8 @@ MERGED = {
     "names that stand in the theory already": (
         {"f.dk": "m_a : Type. thm t : m.a -> m.a := m_b : m.a => m_b. {|m.b|} : m.b. q : m.c. {|m.d|} : {|m.d.2|} : m_d -> m.d.",
          "m.dk": "a : Type. b : Type. c : Type. d : Type."},
-        "m_a : Type.\n{|m.a|} : Type.\n{|m.b.2|} : Type.\nm_c : Type.\n{|m.d.3|} : Type.\nthm t : {|m.a|} -> {|m.a|} := m_b : {|m.a|} => m_b.\n"
+        "m_a : Type.\n{|m.a|} : Type.\n{|m.b.2|} : Type.\nm_c : Type.\n{|m.d.3|} : Type.\n"
+        "thm t : {|m.a|} -> {|m.a|} := m_b : {|m.a|} => m_b.\n"
         "{|m.b|} : {|m.b.2|}.\nq : m_c.\n{|m.d|} : {|m.d.2|} : m_d -> {|m.d.3|}.\n",
         None,
     ),
@@ -29,8 +32,12 @@ MERGED = {
         None,
     ),
     "quoted names, and what only looks like a name": (
-        {"f.dk": "{|a b|} : m.{|a.b (; c|}. (;m.a;) {|m.a|} : (; m.a {| ;) m.{|'x'|} -> m.{||}.", "m.dk": "{|a.b (; c|} : Type. {|'x'|} : Type. {||} : Type."},
-        "{|m.a.b (; c|} : Type.\n{|m.'x'|} : Type.\n{|m.|} : Type.\n{|a b|} : {|m.a.b (; c|}.\n{|m.a|} : (; m.a {| ;) {|m.'x'|} -> {|m.|}.\n",
+        {
+            "f.dk": "{|a b|} : m.{|a.b (; c|}. (;m.a;) {|m.a|} : (; m.a {| ;) m.{|'x'|} -> m.{||}.",
+            "m.dk": "{|a.b (; c|} : Type. {|'x'|} : Type. {||} : Type.",
+        },
+        "{|m.a.b (; c|} : Type.\n{|m.'x'|} : Type.\n{|m.|} : Type.\n{|a b|} : {|m.a.b (; c|}.\n"
+        "{|m.a|} : (; m.a {| ;) {|m.'x'|} -> {|m.|}.\n",
         "1 1 m.dk m.{|a.b (; c|} {|m.a.b (; c|}\n1 22 m.dk m.{|'x'|} {|m.'x'|}\n1 38 m.dk m.{||} {|m.|}\n1 1 f.dk {|a b|} {|a b|}\n"
         "1 35 f.dk {|m.a|} {|m.a|}\n",
     ),
@@ -50,14 +57,18 @@ MERGED = {
         "m_t : Type.\nm_a : m_t.\ndef m_f : m_t -> m_t.\ndef m_g : m_t -> m_t.\ndef m_h : (m_t -> m_t) -> m_t.\n"
         "{r} [a, f : m_t, g : f] m_h (a => f a) --> (x => f) {h} [x] (m_h) (t => x t {m_t}) --> x m_a.\n[] m_f _ --> m_a.\n"
         "[] m_f m_a --> m_a.\n{m_r} [m : m_t] m_g m --> m_f m [f] m_g f --> m_f f.\n",
-        "1 1 m.dk m.t m_t\n1 11 m.dk m.a m_a\n1 18 m.dk m.f m_f\n1 34 m.dk m.g m_g\n1 50 m.dk m.h m_h\n2 1 m.dk m.h m_h\n2 85 m.dk m.f m_f\n"
-        "1 1 f.dk m.f m_f\n1 21 f.dk m.g m_g\n",
+        "1 1 m.dk m.t m_t\n1 11 m.dk m.a m_a\n1 18 m.dk m.f m_f\n1 34 m.dk m.g m_g\n1 50 m.dk m.h m_h\n2 1 m.dk m.h m_h\n"
+        "2 85 m.dk m.f m_f\n1 1 f.dk m.f m_f\n1 21 f.dk m.g m_g\n",
     ),
     "queries": (
-        {"f.dk": "#ASSERT m.a : m.t. #CHECK m.a == (x : m.t => x) m.a.\n#EVAL x : m.t => x. #INFER m.a.", "m.dk": "t : Type. a : t. #CHECK a : t."},
-        "m_t : Type.\nm_a : m_t.\n#CHECK m_a : m_t.\n#ASSERT m_a : m_t.\n#CHECK m_a == (x : m_t => x) m_a.\n#EVAL x : m_t => x.\n#INFER m_a.\n",
-        "1 1 m.dk m.t m_t\n1 11 m.dk m.a m_a\n1 18 m.dk #CHECK #CHECK\n1 1 f.dk #ASSERT #ASSERT\n1 20 f.dk #CHECK #CHECK\n2 1 f.dk #EVAL #EVAL\n"
-        "2 21 f.dk #INFER #INFER\n",
+        {
+            "f.dk": "#ASSERT m.a : m.t. #CHECK m.a == (x : m.t => x) m.a.\n#EVAL x : m.t => x. #INFER m.a.",
+            "m.dk": "t : Type. a : t. #CHECK a : t.",
+        },
+        "m_t : Type.\nm_a : m_t.\n#CHECK m_a : m_t.\n#ASSERT m_a : m_t.\n#CHECK m_a == (x : m_t => x) m_a.\n"
+        "#EVAL x : m_t => x.\n#INFER m_a.\n",
+        "1 1 m.dk m.t m_t\n1 11 m.dk m.a m_a\n1 18 m.dk #CHECK #CHECK\n1 1 f.dk #ASSERT #ASSERT\n1 20 f.dk #CHECK #CHECK\n"
+        "2 1 f.dk #EVAL #EVAL\n2 21 f.dk #INFER #INFER\n",
     ),
     "the file's own names, qualified": (
         {"f.dk": "a : Type. b : f.a. g : (a : Type) -> f.a -> a -> f.b. {|a|} : f.{|a|}."},
@@ -82,7 +93,11 @@ MERGED = {
         "m_a : Type.\nb : a (; a (; ;)\n",
         "1 1 m.dk m.a m_a\n2 2 m.dk - -\n",
     ),
-    "a byte that begins no token": ({"f.dk": "a : m.t. b : \\x. x : a.", "m.dk": "t : Type."}, "m_t : Type.\na : m_t.\nb : \\x. x : a.", None),
+    "a byte that begins no token": (
+        {"f.dk": "a : m.t. b : \\x. x : a.", "m.dk": "t : Type."},
+        "m_t : Type.\na : m_t.\nb : \\x. x : a.",
+        None,
+    ),
     "what can't be read needs nothing": ({"f.dk": "a : Type. b := absent.c. d : a."}, "a : Type.\nb := absent.c.\n", None),
     "a directive that can't be read": ({"f.dk": "#REQUIRE m.a. b : Type."}, "#REQUIRE m.a.\n", "1 1 f.dk - -\n"),
 }
@@ -124,13 +139,15 @@ logic.dk:8:1: [a] proof (not (not a)) --> proof a.
 AXIOMS = [
     (THEORY, "top", PROOF + "logic.dk:4:1: I : proof true.\n" + RULES + "top: 5 declarations without a body, 2 commands of rules\n", 0),
     (THEORY, "f.top", PROOF + "logic.dk:4:1: I : proof true.\n" + RULES + "f.top: 5 declarations without a body, 2 commands of rules\n", 0),
-    (THEORY, "logic.true", "logic.dk:1:1: prop : Type.\nlogic.dk:3:1: true : prop.\nlogic.true: 2 declarations without a body, 0 commands of rules\n", 0),
+    (THEORY, "logic.true", "logic.dk:1:1: prop : Type.\nlogic.dk:3:1: true : prop.\n"
+     "logic.true: 2 declarations without a body, 0 commands of rules\n", 0),
     # `prune` leaves out a symbol's own rules.
     (THEORY, "logic.not", "logic.dk:1:1: prop : Type.\nlogic.dk:3:1: true : prop.\n" + "".join(RULES.splitlines(True)[:2])
      + "logic.not: 3 declarations without a body, 1 command of rules\n", 0),
     (THEORY, "same", "logic.dk:1:1: prop : Type.\nsame: 1 declaration without a body, 0 commands of rules\n", 0),
     (THEORY, "unused", "f.dk:3:1: unused : Type.\nunused: 1 declaration without a body, 0 commands of rules\n", 0),
-    (THEORY, "logic.{|a b|}", PROOF + RULES + "logic.dk:9:30: {|a b|} : proof true -> Type.\nlogic.{|a b|}: 5 declarations without a body, 2 commands of rules\n", 0),
+    (THEORY, "logic.{|a b|}", PROOF + RULES + "logic.dk:9:30: {|a b|} : proof true -> Type.\n"
+     "logic.{|a b|}: 5 declarations without a body, 2 commands of rules\n", 0),
     (THEORY, "I", "unknown I\nthere is logic.I\n", 1),
     (THEORY, "logic.top", "unknown logic.top\n", 1),
     ({"f.dk": TOP, "logic.dk": LOGIC}, "used", "refused 13 line 5 E10\n", 1),
@@ -146,15 +163,19 @@ AXIOMS = [
 REPLAYED = [
     ({"f.dk": "#NAME f.\na :\n  Type. (; b ;)\nthm t : (;\n;) f.a -> a\r\n := x\t=> x."},
      "insert 1 a :   Type.\ninsert 2 thm t : (; ;) a -> a\r  := x\t=> x.\nreport\n", "ok 1 a\nok 2 t\naccepted 2\nchecked 2\n"),
-    ({"f.dk": "b : m.a.", "m.dk": "a :\nType."}, "insert 1 m_a : Type.\ninsert 2 b : m_a.\nreport\n", "ok 1 m_a\nok 2 b\naccepted 2\nchecked 2\n"),
+    ({"f.dk": "b : m.a.", "m.dk": "a :\nType."}, "insert 1 m_a : Type.\ninsert 2 b : m_a.\nreport\n",
+     "ok 1 m_a\nok 2 b\naccepted 2\nchecked 2\n"),
     ({"f.dk": ""}, "report\n", "accepted 0\nchecked 0\n"),
-    ({"f.dk": "a : Type. b a. c : a."}, "insert 1 a : Type.\ninsert 2 b a.\ninsert 3 c : a.\nreport\n", "bad 2\nbad 3\nok 1 a\naccepted 1\nchecked 1\n"),
-    ({"f.dk": "a : Type. {|b\n|} : a. c : a."}, "insert 1 a : Type.\ninsert 2 {|b\nreport\n", "bad 2\nok 1 a\naccepted 1\nchecked 1\n"),
+    ({"f.dk": "a : Type. b a. c : a."}, "insert 1 a : Type.\ninsert 2 b a.\ninsert 3 c : a.\nreport\n",
+     "bad 2\nbad 3\nok 1 a\naccepted 1\nchecked 1\n"),
+    ({"f.dk": "a : Type. {|b\n|} : a. c : a."}, "insert 1 a : Type.\ninsert 2 {|b\nreport\n",
+     "bad 2\nok 1 a\naccepted 1\nchecked 1\n"),
     ({"f.dk": "a : Type. b : a -> a.\nb : a."}, "insert 1 a : Type.\ninsert 2 b : a -> a.\ninsert 3 b : a.\nreport\n",
      "ok 1 a\nok 2 b\nrefused 3 line 3 E11\nchecked 2\n"),
 ]
 
-GOOD, WRONG, ENDLESS = "a : Type. b : a.", "a : Type.\nb : b.", "t : Type. def f : t -> t. [x] f x --> f x. p : t -> Type. q : x : t -> p x. a : t. thm r : p a := q (f a)."
+GOOD, WRONG = "a : Type. b : a.", "a : Type.\nb : b."
+ENDLESS = "t : Type. def f : t -> t. [x] f x --> f x. p : t -> Type. q : x : t -> p x. a : t. thm r : p a := q (f a)."
 # The files, the words, what tools/checked writes, and its status.
 CHECKED = [
     ({"a b.dk": GOOD, "{|.dk": GOOD}, ["a b.dk", "{|.dk"], "a b.dk: accepted 2\n{|.dk: accepted 2\n2 accepted\n", 0),
