@@ -8,11 +8,11 @@ RESERVED = {"_", "Type", "def", "thm", "defac", "defacu", "injective", "private"
 def spelt(*parts):
     """The name for a label or a symbol, or for what belongs to several: other parts, other names.
 
-    Symbols have no `$` and labels neither `$` nor `'`; no label is a symbol, and plain are those without any such sign. So a name
-    of several parts has joints that no single label or symbol has, quoted or plain."""
+    Symbols have no `$`, labels neither `$` nor `'`, and no label is a symbol. What is plain has none of these signs, so joints are
+    seen, quoted or plain; no part is empty, so two `$` are none."""
     if all(map(PLAIN.match, parts)) and parts[0] not in RESERVED:
         return "'".join(parts)
-    return "{|%s|}" % "$".join(parts).replace("|}", "|$}")
+    return "{|%s|}" % "$".join(parts).replace("|}", "|$$}")
 
 
 class Theory:
