@@ -155,7 +155,7 @@ class Proof:
         for it in self.steps:
             if it.uses:
                 it.write()
-                if it is not root and (it.uses > 1 or it.depth > DEEPEST):
+                if it is not root and it.parts and (it.uses > 1 or it.depth > DEEPEST):
                     made += self.is_cut(it, spelt(self.frame.label, str(made)))
 
     def is_cut(self, node, name):

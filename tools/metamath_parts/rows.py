@@ -63,9 +63,16 @@ def $f Type _ $. thm $f Type x' $. a-b $f Type |} $. a.b $f Type {| $. q $f Type
 - $a Type ( _ -> x' ) $.  . $a |- ( |} -> ( {| -> |} ) ) $.  T $p |- ( _ -> ( 'a -> _ ) ) $= def q . $.
 ${ $d | } |} $. Kind $a |- ( | -> ( } -> |} ) ) $.  5 $p |- ( } -> ( | -> |} ) ) $= a-b s r Kind $. $}
 """
+SYNTAX = "wnn $p wff -. -. ph $= wph wn wn $. t $p |- ( -. -. ph -> ( ps -> -. -. ph ) ) $= wph wnn wps ax-1 $.\n"
+QUOTED = "$c ' $. wq $a wff ph ' $. t $p |- ( ph ' ' -> ( %s -> ph ' ' ) ) $= wph wq wq %s ax-1 $.\n"
 # Steps in one another, 2,000 of them; and each used twice by the next, 60 times.
 LONG = "${ l.1 $e |- ph $. same $a |- ph $. long $p |- ph $= %s l.1 %s $. $}\n" % ("wph " * 2000, "same " * 2000)
 TWICE = "${ t.1 $e |- ph $. t.2 $e |- ph $. both $a |- ph $. $}\n"
+
+
+OFTEN = """$c V $. wv $a wff V $. a-label-of-thirty-six-letters-at-all $a |- V $.
+often $p |- V $= %s $.
+""" % ("wv " * 30 + "a-label-of-thirty-six-letters-at-all " + "a-label-of-thirty-six-letters-at-all both " * 30)
 
 
 def number(value):
@@ -91,8 +98,10 @@ ROWS = [
     ("numbers of two letters", PROPOSITIONS + MANY, "accepted 28"),
     ("steps in one another", PROPOSITIONS + LONG, "accepted"),
     ("steps used twice", PROPOSITIONS + TWICE + doubled(60), "accepted"),
-    ("a theorem of syntax", PROPOSITIONS + "wnn $p wff -. -. ph $= wph wn wn $. t $p |- ( -. -. ph -> ( ps -> -. -. ph ) ) $= wph wnn wps ax-1 $.", "accepted 8"),
-    ("signs behind", PROPOSITIONS + "$c ' $. wq $a wff ph ' $. t $p |- ( ph ' ' -> ( -. ps ' -> ph ' ' ) ) $= wph wq wq wps wq wn ax-1 $.", "2 trees"),
+    ("an axiom without parts used often", PROPOSITIONS + TWICE + OFTEN, "accepted 11"),
+    ("a theorem of syntax", PROPOSITIONS + SYNTAX, "accepted 8"),
+    ("signs behind", PROPOSITIONS + QUOTED % ("ps '", "wps wq"), "accepted 9"),
+    ("signs behind, two trees", PROPOSITIONS + QUOTED % ("-. ps '", "wps wq wn"), "2 trees"),
     ("names", NAMES, "accepted"),
     ("wrong step", PROPOSITIONS + ID_SHORT + ID.replace("wph wph ax-1\n", "wph idc\n"), "E21 id"),
     ("another axiom", PROPOSITIONS + A1I.replace("wph wps ax-1", "wph wps wph ax-2"), "E21 a1i"),
@@ -137,7 +146,8 @@ ROWS = [
     ("a label there twice", PROPOSITIONS + "wn $a |- ( ph -> ph ) $.", "there twice"),
     ("two trees", PROPOSITIONS + "$c V $. wo $a wff ph V ps $. t $a |- ph V ps V ch $.", "2 trees"),
     ("no tree", PROPOSITIONS + "t $a |- ( ph -> $.", "0 trees"),
-    ("nothing and more of it", "$c wff |- $. $v x y $. wx $f wff x $. wy $f wff y $. e $a wff $. b $a wff x y $. t $a |- x $.", "with nothing"),
+    ("nothing and more of it", "$c wff |- $. $v x y $. wx $f wff x $. wy $f wff y $. e $a wff $. b $a wff x y $. t $a |- x $.",
+     "with nothing"),
     ("two typecodes", PROPOSITIONS + "$c set $. s $f set ph $.", "two typecodes"),
     ("a hypothesis of syntax", PROPOSITIONS + "${ h $e wff -. ph $. t $a |- ph $. $}", "a hypothesis that something is a wff"),
     ("syntax under a condition", PROPOSITIONS + "${ $d ph ps $. w $a wff -. ( ph -> ps ) $. $}", "under a condition"),
