@@ -6,29 +6,31 @@ HEAD = re.compile(r"(?:thm )?(\{\|.*?\|\}|[^ ]+)")
 
 
 def said(path):
-    """Of each $a and $p of a database: its string, those of its hypotheses, and its pairs, all as strings; in order."""
+    """Of each $a and $p of a database: its keyword, string, hypotheses, pairs and variables, in order; and all typecodes."""
     with open(path, encoding="latin-1") as file:
         words = re.sub(r"\$\(\s.*?\s\$\)", " ", file.read(), flags=re.S).split()
-    found, kinds, scopes, at = {}, {}, [([], [])], 0
+    found, kinds, scopes, at = {}, {}, [([], [], [])], 0
     while at < len(words):
         if words[at] == "${":
-            scopes.append((list(scopes[-1][0]), list(scopes[-1][1])))
+            scopes.append(tuple(map(list, scopes[-1])))
         elif words[at] == "$}":
             scopes.pop()
         elif words[at] in ("$c", "$v", "$d", "$f", "$e", "$a", "$p"):
             end = words.index("$.", at)
             label, keyword, body = words[at - 1], words[at], words[at + 1 : end]
-            hypotheses, pairs = scopes[-1]
+            floats, hypotheses, pairs = scopes[-1]
             if keyword == "$d":
                 pairs += [(it, other) for it in body for other in body if it != other]
             elif keyword == "$f":
                 kinds[body[1]] = body[0]
+                floats.append(body[1])
             elif keyword == "$e":
                 hypotheses.append((label, body))
             elif keyword in ("$a", "$p"):
                 body = body[: body.index("$=")] if "$=" in body else body
-                used = {it for string in [body] + [it for _, it in hypotheses] for it in string if it in kinds}
-                found[label] = keyword, body, list(hypotheses), {it for it in pairs if used.issuperset(it)}
+                used = {it for string in [body] + [it for _, it in hypotheses] for it in string}
+                mine = {it for it in pairs if used.issuperset(it)}
+                found[label] = keyword, body, list(hypotheses), mine, [it for it in floats if it in used]
             at = end
         at += 1
     return found, kinds
@@ -75,27 +77,26 @@ def split(tokens, sign):
 
 def declared(line):
     """The name of a command, what it takes as names with the tokens of their types, and the tokens of what it gives."""
-    name, front = HEAD.match(line)[1], line
+    name = HEAD.match(line)[1]
     if line.startswith("thm "):
         tokens = TOKEN.findall(line[: line.index(" := ")])[2:]
         given = []
         while tokens[0] == "(":
-            end = len(nested(tokens[1:])[0]) and nested(tokens, 1)[1]
+            end = nested(tokens, 1)[1]
             given.append((tokens[1], tokens[3:end]))
             tokens = tokens[end + 1 :]
         return name, given, tokens[1:]
-    parts = split(TOKEN.findall(front[: front.rindex(".")])[2:], "->")
+    parts = split(TOKEN.findall(line[: line.rindex(".")])[2:], "->")
     return name, [(it[0], it[2:]) for it in parts[:-1] if it[1:2] == [":"]], parts[-1]
 
 
 def unlike(database, theory):
     """The first statement of a database that the commands don't say, or nothing."""
     found, kinds = said(database)
-    axioms = {it: (body[1:], [of for of in kinds if of in body]) for it, (keyword, body, _, _) in found.items()
-              if keyword == "$a" and body[0] != "|-"}  # fmt: skip
+    axioms = {it: (body[1:], used) for it, (keyword, body, _, _, used) in found.items() if keyword == "$a" and body[0] != "|-"}
     with open(theory, encoding="latin-1") as file:
         commands = {HEAD.match(line)[1]: line for line in file if HEAD.match(line)}
-    for label, (keyword, body, hypotheses, pairs) in found.items():
+    for label, (keyword, body, hypotheses, pairs, used) in found.items():
         if keyword == "$p" and body[0] != "|-":
             continue
         line = commands.get(label) or commands.get("{|%s|}" % label)
@@ -104,7 +105,6 @@ def unlike(database, theory):
         if keyword == "$p" and not line.startswith("thm "):
             return "%s isn't proved" % label
         _, given, result = declared(line)
-        used = [it for it in kinds if any(it in of for of in [body] + [string for _, string in hypotheses])]
         due = [(it, [kinds[it]]) for it in used] + [(it, of) for it, of in hypotheses]
         told = [(bare(it), [bare(kind[0])] + (string(nested(kind[1:])[0], axioms) if kind[1:] else [])) for it, kind in given]
         if told[: len(due)] != due or {frozenset(map(bare, kind[1:])) for _, kind in given[len(due) :]} != set(map(frozenset, pairs)):
