@@ -16,10 +16,10 @@ class Bound:
 
 
 class Asked:
-    """The program asked for types in the place of a command."""
+    """The program asked for types in the place of a command, under the variables that stand round all of its parts."""
 
-    def __init__(self, program, command):
-        self.program, self.command = program, command
+    def __init__(self, program, command, outer=()):
+        self.program, self.command, self.outer = program, command, list(outer)
 
     def spelt(self, term):
         return self.command.spelt(term)
@@ -34,9 +34,9 @@ class Asked:
                 inner.append((parent, Bound(words[parent.binder].text, None if domain is None else self.spelt(domain))))
             term = parent
         inner.reverse()
-        found = []
+        found = list(self.outer)
         if declaration is not None:
-            found = [Bound(words[named].text, self.spelt(typ)) for named, typ in declaration.parameters]
+            found += [Bound(words[named].text, self.spelt(typ)) for named, typ in declaration.parameters]
             if term is declaration.body and declaration.typ is not None:
                 self.fill(declaration, [it for it in inner if self.is_at_top(it[0], declaration.body)])
         return found + [it for _, it in inner]
