@@ -36,7 +36,9 @@ def place_in_query(program, command, code):
     }[query.sign]()
     asked = Walk(program, command, code, parts)
     if code in (b"E21", b"budget") and query.sign != b":" and asked.is_past(last):
-        said = "this isn't convertible with what stands in front of ==" if code == b"E21" else "the types are found; the units end behind that"
+        said = "the types are found; the units end behind that"
+        if code == b"E21":
+            said = "this isn't convertible with what stands in front of =="
         return Place(command.tokens[last.first].start, command.spelt(last), said)
     found = asked.fault()
     if code in TYPED:
