@@ -44,7 +44,7 @@ def place_in_query(program, command, code):
     if code in TYPED:
         found.types = Asked(program, command).said_of(found.term, None, code)
     if code == b"E21" and found.at == command.tokens[query.left.first].start and found.text == command.spelt(query.left):
-        found.said += ": " + cut(command.spelt(query.right))
+        found.types.insert(0, "expected: " + cut(command.spelt(query.right)))
     return found
 
 
@@ -54,9 +54,6 @@ def place_of_types(program, command, code):
     if code in TYPED:
         found.types = Asked(program, command).said_of(found.term, declaration, code)
     body = declaration.body
-    if body is not None and declaration.typ is not None and found.at == command.tokens[body.first].start:
-        if found.text == command.spelt(body) and code == b"E21":
-            found.said += ": " + cut(command.spelt(declaration.typ))
     if code == b"E23" and body is not None and body.form == "product":
         found.said += "; an arrow in the type of a variable wants brackets, `x : (A -> B) => t`"
     return found

@@ -1,7 +1,7 @@
 """The types of a rule: of what its left side binds, as the declarations of the symbols there say it, and of the left side itself. A
 wildcard is named by its column. Nothing is evaluated, and nothing that equations find is put in; so what is told of them was tried: the
 rule is refused with a right side of the one type and accepted with one of the other."""
-from .shown_types import Asked, Bound
+from .shown_types import Asked, Bound, with_values
 from .terms import Declaration, Unread
 from .texts import cut, place, tokens
 
@@ -42,16 +42,10 @@ class Telescope:
 
     def spelt(self, term):
         """A term of the declaration with the values of its variables."""
-        first, last = term.first + term.brackets, term.last - term.brackets
-        parts, at = [], self.words[first].start
-        for number in range(first, last):
-            it = self.words[number]
-            behind = self.words[number + 1].text if number + 1 < last else b""
-            if it.text in self.values and behind in (b":", b"=>"):
-                raise Unread
-            parts += [self.text[at : it.start], self.values.get(it.text, it.text)]
-            at = it.end
-        return b" ".join(b"".join(parts).split())
+        found = with_values(self.text, self.words, term, self.values)
+        if found is None:
+            raise Unread
+        return found
 
 
 class RuleTypes:

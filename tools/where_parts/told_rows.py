@@ -37,6 +37,8 @@ TOLD = [
           "    " + DOUBLE, "    with `a` at columns 14 and 22 " + COMPARED]),
     ({"f.dk": VECTORS + "[n, v] tail n (c _ v) --> nil."}, [], None, 1, ["    expected: vec n", "    its type: vec z"]),
     ({"f.dk": VECTORS + "[n, m, v] copy n (c m v) --> v."}, [], None, 1, ["    " + DOUBLE]),
+    ({"f.dk": "nat : Type. bool : Type. z : nat. vec : nat -> Type.\nthm t : n : nat -> vec n -> vec n := m => v => z."}, [], None, 1, [
+        "at line 2 column 48: z", "    expected: vec m", "    its type: nat"]),
     # Names.
     ({"f.dk": "nat : Type.\n{|zero|} : nat.\nthm t : nat := zero."}, [], None, 1,
      ["at line 3 column 16: zero", "    line 2 declares {|zero|}: quotes make another name"]),
@@ -51,17 +53,17 @@ TOLD = [
      ["    the #NAME of this file says cic, and a module is named by its file: rename it"]),
     # One line.
     ({"f.dk": "nat : Type.\nz : nat.\nthm t : nat := x => z."}, ["--short"], None, 1,
-     ["FILE:3:16: E24: an abstraction, but no function is expected: x => z"]),
+     ["FILE:3:16: E24: an abstraction, but no function is expected: x => z; expected: nat"]),
     ({"f.dk": "nat : Type.\n" + "x" * 300 + " : nat."}, ["--short"], None, 1,
      ["FILE:2:1: E05: too long: %s ..." % ("x" * 60)]),
     ({"f.dk": "nat : Type. bool : Type. z : nat.\nthm t : bool := z."}, ["--short"], None, 1,
-     ["FILE:2:17: E21: types not convertible: z: this has another type than is expected: bool; its type: nat"]),
+     ["FILE:2:17: E21: types not convertible: z: this has another type than is expected; expected: bool; its type: nat"]),
     # Reports that are given.
     ({"f.dk": "nat : Type. bool : Type. z : nat.\nthm t : bool := z."}, ["--short", "--report", "refused 4 line 2 E21"], None, 1,
-     ["FILE:2:17: E21: types not convertible: z: this has another type than is expected: bool; its type: nat"]),
+     ["FILE:2:17: E21: types not convertible: z: this has another type than is expected; expected: bool; its type: nat"]),
     ({"f.dk": "nat : Type. bool : Type. z : nat.\nthm t : bool := z."}, ["--short", "--report=-"],
      "ok 1 nat\nok 2 bool\nok 3 z\nrefused 4 line 2 E21\n", 1,
-     ["FILE:2:17: E21: types not convertible: z: this has another type than is expected: bool; its type: nat"]),
+     ["FILE:2:17: E21: types not convertible: z: this has another type than is expected; expected: bool; its type: nat"]),
     ({"f.dk": "nat : Type."}, ["--report", "accepted 1"], None, 0, ["accepted 1"]),
     ({"f.dk": "nat : Type."}, ["--report", "refused 9 line 7 E21"], None, 1, ["the command is at line 7; this script can't find its text"]),
     ({"f.dk": "nat : Type. z : nat. eq : nat -> nat -> Type. refl : n : nat -> eq n n.\ndef f : nat -> nat. [n] f n --> f n.\n"
