@@ -1,12 +1,15 @@
 //! Files that are cut off, and files of one byte.
-use crate::NoGate;
-use crate::file_rows::NUMBERS;
-use crate::tests::{EMPTY, Row, is_answered};
+use crate::rows::{EMPTY, Row, is_answered};
+use dk_check_run::NoGate;
 use dk_io::NoMemory;
 use std::alloc::Global;
 use std::sync::Wait;
 use std::test::Fail;
 use std::thread::Threads;
+
+// Numbers, their addition and a theorem.
+const NUMBERS: &str =
+    "nat : Type.\nz : nat.\ns : nat -> nat.\ndef plus : nat -> nat -> nat.\n[n] plus z n --> n\n[m, n] plus (s m) n --> s (plus m n).\neq : nat -> nat -> Type.\nrefl : n : nat -> eq n n.\nthm two : eq (plus (s (s z)) (s (s z))) (s (s (s (s z)))) := refl (s (s (s (s z)))).\n";
 
 // Fronts of the text from so many bytes to fewer than so many, with the status and the last line of their report.
 const FRONTS: [(usize, usize, u8, &str); 19] = [

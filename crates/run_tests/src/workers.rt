@@ -1,7 +1,7 @@
 //! The same answers from any number of workers, and checks that run beside each other.
-use crate::NoGate;
-use crate::tests::{EMPTY, Row, is_answered};
+use crate::rows::{EMPTY, Row, is_answered};
 use board_core::Gate;
+use dk_check_run::NoGate;
 use dk_io::NoMemory;
 use std::alloc::Global;
 use std::sync::Wait;

@@ -1,6 +1,6 @@
 //! What failing calls of shelf and sink lead to, of a check and where a theory is made.
-use crate::NoGate;
-use crate::tests::{EMPTY, Row, is_answered};
+use crate::rows::{EMPTY, Row, is_answered};
+use dk_check_run::NoGate;
 use dk_io::NoMemory;
 use std::alloc::Global;
 use std::sync::Wait;
