@@ -2,10 +2,11 @@
 import hashlib
 import os
 import subprocess
-import time
 
 TOP = os.path.dirname(os.path.dirname(os.path.realpath(__file__)))
 PROGRAM = "dk_check_cli"
+# The folders of a crate of which the proved program is made, and the unproved one.
+PROVED_FROM, COMPILED_FROM = ("src", "specs", "proofs"), ("src",)
 # Before a look at the sources began: a file that changes while it is looked at is then newer.
 SECONDS_BEFORE = 0.1
 
@@ -83,17 +84,18 @@ def touch(program, since):
         pass
 
 
-def is_same(program, parts, top=TOP):
-    """Whether the program is there, is the one that was noted, and was made from the sources as they stand. None where it isn't the noted one."""
+def is_same(program, made, since):
+    """Whether the program is there, is the one that was noted, and was made from sources of this checksum, which was taken since then. None
+    where it isn't the noted one."""
     if not os.access(program, os.X_OK):
         return False
-    since, said = time.time(), noted(program)
+    said = noted(program)
     if said.get("program") != sum_of_file(program):
         return None
-    good = said.get("sources") == sum_of(parts, top)
-    if good:
-        touch(program, since)
-    return good
+    if said.get("sources") != made:
+        return False
+    touch(program, since)
+    return True
 
 
 def said_by(*words):
