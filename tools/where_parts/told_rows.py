@@ -19,7 +19,7 @@ def p : nat -> nat. d : n : nat -> vec (p n). def tail : n : nat -> vec (s n) ->
 def copy : n : nat -> vec n -> vec n.
 """
 DOUBLE = "the right side has another type than the left side"
-COMPARED = "the rule is accepted; each match then compares the two"
+COMPARED = "the rule is accepted; each match then compares them"
 
 TOLD = [
     # Types of rules, and variables in the place of wildcards.
