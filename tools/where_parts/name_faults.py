@@ -1,4 +1,5 @@
 """Faults of names, E10 to E13: which name of the command it is."""
+from .hints import Hints
 from .program import Unsure, first
 from .terms import ASKS_FOR_TWO, Reader
 from .texts import Place, place, readable
@@ -55,7 +56,7 @@ def entries(words, at, found):
     return reader.at + 1
 
 
-def place_of_name(program, command, code):
+def place_of_name(program, command, code, library):
     """The place of an unknown name or of a wildcard: the first with which, all names behind it replaced, the command is refused so."""
     given = named_in_terms(command.tokens, None if command.is_rules() else command.declared())
 
@@ -69,7 +70,9 @@ def place_of_name(program, command, code):
     name = given[at][0]
     if code == b"E12":
         return Place(name.start, name.text, "a term is due here: nothing is filled in")
-    return Place(name.start, name.text, said_of_unknown(command, name))
+    found = Place(name.start, name.text, said_of_unknown(command, name))
+    found.hints = Hints(command, library, library.folder + program.book if not library.is_alone() else library.name).of(name.text)
+    return found
 
 
 def said_of_unknown(command, name):

@@ -15,14 +15,15 @@ def section(code):
     return title, rest
 
 
-def explained(code):
-    """The lines that explain a code: its meaning, and an example that is mended."""
+def explained(code, is_rules=False):
+    """The lines that explain a code: its meaning, and an example that is mended, one of a rule where that is asked for and there is one."""
     found = section(code)
     if found is None:
         return []
     title, rest = found
     lines = ["", "%s: %s" % (code, title), *rest.strip().split("\n\n")[0].split("\n")]
-    mended = re.search(r"_mended\.dk`[^\n]*\n\n```\n(.*?)```", rest, re.S)
+    shown = r"_mended\.dk`[^\n]*\n\n```\n(.*?)```"
+    mended = is_rules and re.search("%s_rule%s" % (code, shown), rest, re.S) or re.search(shown, rest, re.S)
     if mended:
         lines += ["", "an example that is mended (docs/codes.md has the file before it):"]
         lines += ["    " + line for line in mended.group(1).rstrip().split("\n")]

@@ -1,20 +1,28 @@
 """The program as a black box: it is asked with files that are made of parts of the one that is refused."""
 import os
 import subprocess
-import time
 
 
 class Unsure(Exception):
     """The program answered in a way that this script can't read a place from."""
 
 
+# What the program gives each command without the option `--budget`.
+DEFAULT_UNITS = 1000000000
+
+
 class Program:
-    """The program with the budget that it is asked with, how often it was, and how long its last answer took. What it is asked with
-    stands in a folder, beside the modules that it may need."""
+    """The program with the budget that it is asked with, and how often it was. What it is asked with stands in a folder, beside the
+    modules that it may need."""
 
     def __init__(self, path, budget, folder):
-        self.path, self.budget, self.runs, self.seconds = path, budget, 0, 0.0
+        self.path, self.budget, self.runs = path, budget, 0
         self.folder, self.book, self.file = folder, "f.dk", "f.dk"
+
+    @property
+    def units(self):
+        """The units that the check of a command may take."""
+        return int(self.budget) if self.budget is not None and self.budget.isdecimal() else DEFAULT_UNITS
 
     def beside(self, library, book):
         """From now on it is asked with texts in the place of a book of the library, each checked alone."""
@@ -40,9 +48,7 @@ class Program:
         """The lines of the quiet report, and the status."""
         budget = [] if self.budget is None else ["--budget", self.budget]
         words = [self.path, "check", *budget, "--quiet", "--", name]
-        begun = time.monotonic()
         done = subprocess.run(words, stdin=subprocess.DEVNULL, stdout=subprocess.PIPE, check=False)
-        self.seconds = time.monotonic() - begun
         status = done.returncode if done.returncode >= 0 else 128 - done.returncode
         return done.stdout.split(b"\n")[:-1], status
 
@@ -55,7 +61,6 @@ class Program:
         if named != (b"" if self.book == self.file else os.fsencode(path)) and words[:1] != [b"unopened"]:
             return b"accepted", b""
         return (words[0], words[-1]) if words else (b"", b"")
-
 
     def put(self, text):
         """Writes the text that is asked about, and tells where."""

@@ -1,4 +1,6 @@
 """Faults of rules, E30 to E35, and of types in a guard or a right side: which rule of a command, and which part of it."""
+from . import rule_types
+from .pairs import Pairs
 from .program import Unsure, first
 from .terms import Reader
 from .texts import Place, cut, readable
@@ -49,7 +51,16 @@ class RuleFaults:
         owner = next(it for it in self.rules if place.at < self.words[it.last - 1].end)
         if place.said.endswith("is expected") and place.at == self.words[owner.right.first].start:
             place.said = "the right side has another type than the left side"
+        if self.code == b"E21":
+            self.add_types(place, owner)
         return place
+
+    def add_types(self, place, rule):
+        """Adds the types of a part of a right side, and the declaration of the head, and what makes the rule accepted."""
+        place.types = rule_types.lines_of(self.program, self.command, rule, place.term)
+        hint = Pairs(self.program, self.command, rule).found()
+        place.hints = [] if hint is None else [hint]
+        place.declared = place.declared or self.command.spelt(rule.head)
 
     def told(self, term, said, declared=None):
         return Place(self.words[term.first].start, self.command.spelt(term), said, declared)

@@ -16,10 +16,10 @@ class Bound:
 
 
 class Asked:
-    """The program asked for types in the place of a command."""
+    """The program asked for types in the place of a command, under the variables that stand round all of its parts."""
 
-    def __init__(self, program, command):
-        self.program, self.command = program, command
+    def __init__(self, program, command, outer=()):
+        self.program, self.command, self.outer = program, command, list(outer)
 
     def spelt(self, term):
         return self.command.spelt(term)
@@ -34,9 +34,9 @@ class Asked:
                 inner.append((parent, Bound(words[parent.binder].text, None if domain is None else self.spelt(domain))))
             term = parent
         inner.reverse()
-        found = []
+        found = list(self.outer)
         if declaration is not None:
-            found = [Bound(words[named].text, self.spelt(typ)) for named, typ in declaration.parameters]
+            found += [Bound(words[named].text, self.spelt(typ)) for named, typ in declaration.parameters]
             if term is declaration.body and declaration.typ is not None:
                 self.fill(declaration, [it for it in inner if self.is_at_top(it[0], declaration.body)])
         return found + [it for _, it in inner]
@@ -86,14 +86,29 @@ class Asked:
         term = Reader(words).term()
         return spelt_of(typ, words, term.parts[0]) if term.form == "product" else None
 
+    def expected_of_body(self, term, declaration):
+        """What the declared type wants of a part that is the body, or the body of abstractions that are it; None of any other part."""
+        if declaration is None or declaration.typ is None or declaration.body is None:
+            return None
+        words, part, typ, named = self.command.tokens, declaration.body, declaration.typ, {}
+        while part is not term:
+            if part.form != "abstraction" or typ.form != "product":
+                return None
+            if typ.binder is not None:
+                named[words[typ.binder].text] = words[part.binder].text
+            part, typ = part.parts[1], typ.parts[1]
+        return with_values(self.command.text, words, typ, named)
+
     def said_of(self, term, declaration, code):
-        """The lines about the types of a part: what is expected where it stands as an argument, and its own; of an argument too many
-        the type of what stands in front."""
+        """The lines about the types of a part: what is expected where it stands as an argument or as a body, and its own; of an argument
+        too many the type of what stands in front."""
         bound, front, lines = self.bound_round(term, declaration), self.in_front(term), []
         if code == b"E20":
             lines.append(("type of what stands in front: ", self.type_of(front, bound)))
         elif front is not None:
             lines.append(("expected: ", self.domain_of(front, bound)))
+        elif code in (b"E21", b"E24"):
+            lines.append(("expected: ", self.expected_of_body(term, declaration)))
         if code in (b"E21", b"E22"):
             lines.append(("its type: ", self.type_of(b"(" + self.spelt(term) + b")", bound)))
         return [said + cut(typ) for said, typ in lines if typ is not None]
@@ -111,6 +126,21 @@ def spelt_of(text, words, term):
     """A part of a printed term, without brackets of its own."""
     first, last = term.first + term.brackets, term.last - term.brackets
     return text[words[first].start : words[last - 1].end]
+
+
+def with_values(text, words, term, values):
+    """A term without brackets of its own, with values for its variables; None where it binds one of these again."""
+    first, last = term.first + term.brackets, term.last - term.brackets
+    parts, at = [], words[first].start
+    named = set(values).union(*({it.text for it in tokens(value, 0)[0]} for value in values.values()))
+    for number in range(first, last):
+        it = words[number]
+        behind = words[number + 1].text if number + 1 < last else b""
+        if behind in (b":", b"=>") and it.text in named:
+            return None
+        parts += [text[at : it.start], values.get(it.text, it.text)]
+        at = it.end
+    return b" ".join(b"".join(parts).split())
 
 
 def without_products(printed, names):

@@ -17,6 +17,9 @@ KEYWORDS = {b"Type", b"def", b"thm"}
 WORDS_OUTSIDE = {b"defac", b"defacu", b"injective", b"private"}
 SHOWN_BYTES = 200
 CONTROL = re.compile("[\x00-\x08\x0b-\x1f\x7f-\x9f]")
+HALF_ESCAPED = re.compile(r"\\(?:x[0-9a-f]?)?$")
+# What a terminal shows nothing of, or shows what stands behind it otherwise for: a byte order mark, blanks without width, directions.
+UNSEEN = re.compile("[\u00ad\u200b-\u200f\u2028-\u202e\u2060-\u2069\ufeff]")
 
 
 class Token:
@@ -36,7 +39,7 @@ class Place:
 
     def __init__(self, at, text, said, declared=None):
         self.at, self.text, self.said, self.declared = at, text, said, declared
-        self.term, self.types = None, []
+        self.term, self.types, self.hints = None, [], []
 
 
 def behind_comment(text, start):
@@ -112,22 +115,30 @@ def place(text, at):
     return text.count(b"\n", 0, at) + 1, at - (text.rfind(b"\n", 0, at) + 1) + 1
 
 
+def escaped(spelt):
+    """A character by the numbers of its bytes."""
+    return "".join("\\x%02x" % it for it in spelt.group().encode())
+
+
 def readable(text):
-    """The text as a terminal may have it: what controls one is written by its number."""
-    return CONTROL.sub(lambda it: "\\x%02x" % ord(it.group()), text.decode("utf-8", "backslashreplace"))
+    """The text as a terminal may have it: what controls one is written by its number, and what isn't seen by those of its bytes."""
+    text = CONTROL.sub(lambda it: "\\x%02x" % ord(it.group()), text.decode("utf-8", "backslashreplace"))
+    return UNSEEN.sub(escaped, text)
 
 
-def cut(text):
-    """A text on one line, its first bytes where it is long."""
-    text = b" ".join(text[: 8 * SHOWN_BYTES].split())
-    return readable(text if len(text) <= SHOWN_BYTES else text[:SHOWN_BYTES] + b" ...")
+def cut(text, most=SHOWN_BYTES):
+    """A text on one line, its first bytes where it is long or where many of them are written by number."""
+    text = b" ".join(text[: 8 * most].split())
+    shown = readable(text if len(text) <= most else text[:most])
+    return shown if len(text) <= most and len(shown) <= most + 3 else HALF_ESCAPED.sub("", shown[:most]) + " ..."
 
 
 def cut_line(line, at):
     """A line with no more than some bytes of it, those round a place in it."""
     line = line.rstrip(b"\r")
-    if len(line) <= SHOWN_BYTES:
+    most = SHOWN_BYTES if len(readable(line[max(0, at - SHOWN_BYTES) :][: 2 * SHOWN_BYTES])) <= 3 * SHOWN_BYTES else SHOWN_BYTES // 4
+    if len(line) <= most:
         return readable(line)
-    first = max(0, min(at - SHOWN_BYTES // 2, len(line) - SHOWN_BYTES))
-    last = first + SHOWN_BYTES
+    first = max(0, min(at - most // 2, len(line) - most))
+    last = first + most
     return ("... " if first else "") + readable(line[first:last]) + (" ..." if last < len(line) else "")

@@ -1,0 +1,28 @@
+"""The program as the scripts beside this folder ask it."""
+import os
+import subprocess
+
+TOP = os.path.dirname(os.path.dirname(os.path.dirname(os.path.realpath(__file__))))
+SCRIPT = os.path.join(TOP, "dk_check")
+
+
+def options_of(asked):
+    """The options that are handed on to the program."""
+    return [] if asked.budget is None else ["--budget", asked.budget]
+
+
+def ran(words):
+    """What the program writes, and its status, as a shell has it."""
+    done = subprocess.run(words, stdin=subprocess.DEVNULL, stdout=subprocess.PIPE, check=False)
+    return done.stdout, status_of(done.returncode)
+
+
+def status_of(code):
+    return code if code >= 0 else 128 - code
+
+
+def last_line(report):
+    """The last line of a report; a report that says that FILE can't be opened is that alone, whatever bytes FILE has."""
+    if report.startswith(b"unopened "):
+        return report[:-1]
+    return report.rpartition(b"\n")[0].rpartition(b"\n")[2]

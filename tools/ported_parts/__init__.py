@@ -1,0 +1,1 @@
+"""What tools/ported is made of."""
