@@ -4,7 +4,8 @@ import os
 # Minutes and bytes of a crate that the table hasn't.
 OF_A_NEW_CRATE = 3.0, 3e9
 # What of a further job is gained, and how much of the table weighs against what has passed.
-GAIN, MINUTES_OF_TRUST = 0.5, 4.0
+GAIN, MINUTES_OF_TRUST = 0.5, 2.0
+ROUNDS = 8
 
 
 def table(path):
@@ -56,9 +57,13 @@ class Estimate:
         return share if share <= 1 else 1 + GAIN * min(share - 1, 1.5)
 
     def more(self, running, done, passed):
-        """Minutes that the rest takes, where so many have passed."""
-        left = self.left({it: had * self.speed(len(running)) for it, had in running.items()}, done)
-        return left * (passed + MINUTES_OF_TRUST) / (self.whole - left + MINUTES_OF_TRUST)
+        """Minutes that the rest takes, where so many have passed, and each of the running ones has run for so many."""
+        speed, scale = self.speed(len(running)), 1.0
+        # what a running one has done depends on the scale, and that on what all have done
+        for _ in range(ROUNDS):
+            left = self.left({it: had * speed / scale for it, had in running.items()}, done)
+            scale = (passed + MINUTES_OF_TRUST) / (self.whole - left + MINUTES_OF_TRUST)
+        return left * scale
 
 
 def told(minutes):
