@@ -8,8 +8,8 @@ NAMES = ("name", "qualified")
 
 class Names:
     """The names of a command that mean symbols, as far as its form tells. Beside them the name that it declares, or of rules the
-    head of each; the qualified ones whose plain name is bound at their place; and whether one stands where none can, which the grammar
-    refuses."""
+    head of each; the qualified ones whose plain name is bound at their place; and whether the grammar refuses it, as far as is seen
+    here."""
 
     def __init__(self, words):
         self.words, self.found, self.declared, self.is_odd = words, [], [], False
@@ -28,6 +28,8 @@ class Names:
             at = len(words)
         else:
             at = self.declaration()
+        # What is left in front of the dot has no place in the grammar.
+        self.is_odd |= at != len(words) - 1
         for word in words[at:]:
             self.meet(word)
 
@@ -86,7 +88,7 @@ class Names:
                 named = self.close()
                 if named is not None and self.sign(at + 1) == b"->":
                     waiting[-1] = named
-            elif len(frames) == outside and text in ends:
+            elif text == b"." or len(frames) == outside and text in ends:
                 break
             elif text in (b"->", b"=>"):
                 if waiting[-1] is not None:
@@ -108,7 +110,9 @@ class Names:
 
     def declaration(self):
         at = 1 if self.words[0][1] in (b"def", b"thm") else 0
-        if at < len(self.words) and self.words[at][0] in NAMES:
+        is_named = at < len(self.words) and self.words[at][0] in NAMES
+        self.is_odd |= not is_named or self.words[at][1] in KEYWORDS
+        if is_named:
             self.declares(at)
             self.declared.append(self.words[at][1])
             if self.words[at][0] == "name":

@@ -1,9 +1,17 @@
 """The program as the scripts beside this folder ask it."""
+import argparse
 import os
 import subprocess
 
 TOP = os.path.dirname(os.path.dirname(os.path.dirname(os.path.realpath(__file__))))
 SCRIPT = os.path.join(TOP, "dk_check")
+
+
+def reader_of(doc):
+    """A reader of a script's words; its help is what the script says of itself at its top."""
+    usage = next(line.strip() for line in doc.splitlines() if line.startswith("    tools/"))
+    form = argparse.RawDescriptionHelpFormatter
+    return argparse.ArgumentParser(usage=usage, description=doc.replace("    %s\n\n" % usage, ""), formatter_class=form, allow_abbrev=False)
 
 
 def options_of(asked):

@@ -99,6 +99,7 @@ MERGED = {
         None,
     ),
     "what can't be read needs nothing": ({"f.dk": "a : Type. b := absent.c. d : a."}, "a : Type.\nb := absent.c.\n", None),
+    "a name is missing": ({"f.dk": "a : Type. : : m.b. b : a."}, "a : Type.\n: : m.b.\n", None),
     "a directive that can't be read": ({"f.dk": "#REQUIRE m.a. b : Type."}, "#REQUIRE m.a.\n", "1 1 f.dk - -\n"),
 }
 

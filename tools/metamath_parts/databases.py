@@ -16,10 +16,8 @@ def statements(path):
         words = (it[1] for it in WORD.finditer(file.read()) if it[1])
     label = None
     for word in words:
-        if word in ("${", "$}"):
-            yield None, word, []
-        elif word in ("$c", "$v", "$f", "$e", "$d", "$a", "$p"):
-            yield label, word, list(takewhile(lambda it: it != "$.", words))
+        if word in ("${", "$}", "$c", "$v", "$f", "$e", "$d", "$a", "$p"):
+            yield label, word, [] if word in ("${", "$}") else list(takewhile(lambda it: it != "$.", words))
             label = None
         elif word[0] == "$" or label:
             raise Unread("`%s` begins no statement" % word)
@@ -82,8 +80,7 @@ class Database:
     """Goes through a database once, and has all that was stated so far."""
 
     def __init__(self, path, turnstile):
-        self.path, self.turnstile = path, turnstile
-        self.proved = None  # the typecode of what stands behind the turnstile
+        self.path, self.turnstile, self.proved = path, turnstile, None  # the last: the typecode of what stands behind the turnstile
         self.symbols, self.labels, self.kinds = set(), set(), {}  # the kinds: all typecodes but the turnstile
         self.frames, self.floats, self.hyps = {}, {}, {}  # by label: assertions, variables, trees
         self.grammar = Grammar()
@@ -104,8 +101,7 @@ class Database:
                 elif keyword == "${":
                     marks.append((len(self.active), len(self.pairs)))
                 elif keyword == "$}":
-                    hypotheses, pairs = marks.pop()
-                    del self.active[hypotheses:], self.pairs[pairs:]
+                    del self.active[marks[-1][0] :], self.pairs[marks.pop()[1] :]
                 elif not label or label in self.labels:
                     raise Unread("a label is missing, or there twice")
                 else:

@@ -30,16 +30,12 @@ class Proof:
         self.nodes, self.steps, self.stack = {}, [], []
         self.locals, self.variables, self.pairs, self.hyps = [], {}, {}, {}  # a local: 0 to 2 for what it is, its bit, name, type
         self.scope, self.active = set(self.database.pairs), {it[0] for it in self.database.active}
-        for it in frame.variables:
-            self.variable(it)
+        self.values = {it: self.variable(it).text for it in frame.variables}
         for label, tree in frame.hyps.items():
-            self.hyps[label] = self.assume(1, spelt(label), theory.claim(tree, self.values()), [*self.variables.values()])
+            self.hyps[label] = self.assume(1, spelt(label), theory.claim(tree, self.values), [*self.variables.values()])
         for it in frame.pairs:
             self.distinct(*it)
         self.own = len(self.locals)
-
-    def values(self):
-        return {it: node.text for it, node in self.variables.items()}
 
     def assume(self, what, name, claim, nodes=(), **fields):
         self.locals.append((what, len(self.locals), name, claim))
@@ -93,10 +89,10 @@ class Proof:
         return self.once(head, parts, lambda: self.apart(one, other))
 
     def push(self, label):
-        """One step of the proof, on a stack of expressions and proofs."""
+        """One step of the proof, or a saved one, on a stack of expressions and proofs."""
         used = self.database.frames.get(label)
-        if label in self.hyps:
-            self.stack.append(self.hyps[label])
+        if isinstance(label, Node) or label in self.hyps:
+            self.stack.append(self.hyps.get(label, label))
         elif label in self.active and label in self.database.floats:
             self.stack.append(self.variable(self.database.floats[label]))
         elif used is None:
@@ -116,34 +112,26 @@ class Proof:
 
     def root(self):
         """What the proof comes to."""
-        words, saved, number = self.frame.proof, [], 0
+        words, number = self.frame.proof, 0
         end = words.index(")") if words[:1] == ["("] and ")" in words else 0
-        labels = self.frame.order + words[1:end]
+        known = self.frame.order + words[1:end]
         for it in () if end else words:
             self.push(it)
         for letter in "".join(words[end + 1 :]) if end else "":
             if letter == "Z":
-                saved += self.stack[-1:]
-            elif letter == "?":
-                self.push(letter)
+                known += self.stack[-1:]
             elif letter >= "U":
                 number = number * 5 + ord(letter) - ord("T")
             else:
                 number = number * 20 + ord(letter) - ord("A")
-                if number < len(labels):
-                    self.push(labels[number])
-                else:
-                    self.stack += saved[number - len(labels) :][:1]
+                self.push(known[number] if 0 <= number < len(known) else "?")
                 number = 0
         if len(self.stack) != 1:
             raise Unread("a proof that leaves %d steps" % len(self.stack))
         return self.stack[0]
 
-    def params(self, needs):
-        return sorted(it for it in self.locals if needs >> it[1] & 1)
-
     def theorem(self, name, params, claim, body):
-        self.out.write(name, "thm %s%s : %s := %s." % (name, "".join([" (%s : %s)" % it[2:] for it in params]), claim, body))
+        return "thm %s%s : %s := %s." % (name, "".join([" (%s : %s)" % it[2:] for it in params]), claim, body)
 
     def cut(self, root):
         """Makes the texts of all steps. A step that is used again becomes a theorem of its own where that is shorter, and one that
@@ -152,27 +140,26 @@ class Proof:
         for it in reversed(self.steps):
             for part in it.parts if it.uses else ():
                 part.uses += 1
-        for it in self.steps:
-            if it.uses:
-                it.write()
-                if it is not root and it.parts and (it.uses > 1 or it.depth > DEEPEST):
-                    made += self.is_cut(it, spelt(self.frame.label, str(made)))
+        for it in [it for it in self.steps if it.uses]:
+            it.write()
+            if it is not root and it.parts and (it.uses > 1 or it.depth > DEEPEST):
+                made += self.is_cut(it, spelt(self.frame.label, str(made)))
 
     def is_cut(self, node, name):
-        params = self.params(node.needs)
+        params = sorted(it for it in self.locals if node.needs >> it[1] & 1)
         call = "(%s %s)" % (name, " ".join([it[2] for it in params])) if params else name
-        gain = node.uses * (len(node.text) - len(call)) - len(node.text)
-        if node.depth <= DEEPEST and gain > 0:
-            gain -= len(name) + len(node.claim()) + sum(len(it[2]) + len(it[3]) + 6 for it in params) + 10
-        if node.depth <= DEEPEST and gain <= 0:
+        if node.depth <= DEEPEST and node.uses * (len(node.text) - len(call)) <= len(node.text):
             return False
-        self.theorem(name, params, node.claim(), node.text[1:-1])
+        lemma = self.theorem(name, params, node.claim(), node.text[1:-1])
+        if node.depth <= DEEPEST and node.uses * (len(node.text) - len(call)) <= len(lemma):
+            return False
+        self.out.write(name, lemma)
         node.text, node.depth = call, 1
         return True
 
     def under_new(self, needs, body):
         """The body under the variables that the statement doesn't have, each with the evidence that is used."""
-        kinds, goal = list(self.database.kinds), self.theory.text(self.frame.tree, self.values())
+        kinds, goal = list(self.database.kinds), self.theory.text(self.frame.tree, self.values)
         for name, node in reversed([*self.variables.items()][len(self.frame.variables) :]):
             if node.needs & needs:
                 used = [it for it in self.pairs.items() if it[0][0] == name and it[1].needs | needs == needs]
@@ -183,7 +170,7 @@ class Proof:
         return body
 
     def translate(self):
-        root = self.root()
+        root, name = self.root(), spelt(self.frame.label)
         self.cut(root)
         body = self.under_new(root.needs, root.text[1:-1] if root.parts else root.text)
-        self.theorem(spelt(self.frame.label), self.locals[: self.own], self.theory.conclusion(self.frame), body)
+        self.out.write(name, self.theorem(name, self.locals[: self.own], self.theory.conclusion(self.frame), body))

@@ -6,6 +6,7 @@ from .library import is_opaque
 from .signs import top
 
 RULES_OF_ITS_OWN = "`def` with rules of its own: there is no matching modulo associativity and commutativity"
+BODY = ("a body without def", "`def` in front")
 HAS_RULES = "since the symbol has rules"
 HIDDEN = "; a `def` hides what left sides find in its arguments: where a rule is then E21, write the variable in place of `_`"
 
@@ -23,7 +24,7 @@ def of_command(words, module, library):
         return found
     if b"-->" in texts:
         return [Finding(words[0].start, "a rule without a context", "`[x, y]` in front, with the rule's variables, `[]` where it has none")]
-    return bare(words, module, library)
+    return bare(words)
 
 
 def of_word(words, at, behind, module, library):
@@ -63,12 +64,14 @@ def opaque(words):
     return Finding(opened.start, what, instead, changes, ("{ name }", instead))
 
 
-def bare(words, module, library):
-    """A declaration that begins with its name."""
+def bare(words):
+    """A declaration that begins with its name, and has a body."""
     first = words[0]
-    front = [(first.start, first.start, b"def ")]
-    if top(words, b":=") is not None:
-        return [Finding(first.start, named(first), "`def` in front: it has a body", front, ("a body without def", ""))]
-    if library.is_head(module, first.text):
-        return [with_rules(first, "`def` in front, ", front, first.text, library)]
-    return []
+    if top(words, b":=") is None:
+        return []
+    return [Finding(first.start, named(first), "`def` in front: it has a body", [(first.start, first.start, b"def ")], BODY)]
+
+
+def static(name, library):
+    """The name of a declaration without a body or `def`, where rules have it as their head."""
+    return with_rules(name, "`def` in front, ", [(name.start, name.start, b"def ")], name.text, library)

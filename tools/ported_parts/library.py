@@ -23,7 +23,7 @@ class Module:
         self.name, self.text = name, text
         self.module = os.path.splitext(os.path.basename(name))[0].encode()
         self.title, self.seen = None, set()
-        # The bare declarations that rules may be for, by name; the heads of rules as they are spelt; the suspects.
+        # The places of the declarations that begin with their names and have no body; the heads of rules as they are spelt; the suspects.
         self.bare, self.heads, self.suspects = {}, set(), []
         self.declared = set()
         for words in commands(text):
@@ -48,8 +48,8 @@ class Module:
     def take_declaration(self, words):
         name = declared_by(words.texts)
         self.declared.add(name)
-        if name == words.texts[0]:
-            self.bare[name] = words
+        if name == words.texts[0] and b":=" not in words.texts:
+            self.bare[name] = words.start()
 
     def is_suspect(self, words, joined):
         texts, first = words.texts, words.texts[0]

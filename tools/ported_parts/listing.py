@@ -2,6 +2,8 @@
 import re
 from bisect import bisect_left
 
+from where_parts.texts import Token
+
 from . import directives, heads, levels, names, signs
 from .finding import Finding
 from .library import Library, Module
@@ -44,9 +46,7 @@ def of_module(module, library):
     found = []
     for words in module.suspects:
         found += of_words(words.tokens(), module, library)
-    for name, words in module.bare.items():
-        if library.is_head(module, name):
-            found += [it for it in heads.bare(words.tokens(), module, library) if it.kind[0] != "a body without def"]
+    found += [heads.static(Token("name", name, at), library) for name, at in module.bare.items() if library.is_head(module, name)]
     return sorted({(it.at, it.what, it.instead): it for it in found}.values(), key=lambda it: it.at)
 
 

@@ -23,23 +23,39 @@ class Pairs:
         self.words, self.runs = command.tokens, 0
         variables = {self.words[named].text for named, _ in rule.context}
         parts = [Part(it) for it in loose_names(rule.arguments, self.words) if it.text == b"_" or it.text in variables]
-        wildcards = [it for it in parts if it.name is None]
+        self.wildcards = [it for it in parts if it.name is None]
         # A variable stands for all its places; the first is told.
-        firsts = list({it.name: it for it in reversed(parts) if it.name is not None}.values())
-        self.pairs = [(it, other) for it in wildcards for other in reversed(firsts)] + list(combinations(wildcards, 2))
+        self.variables = {it.name: it for it in reversed(parts) if it.name is not None}
+        firsts = list(reversed(self.variables.values()))
+        self.pairs = [(it, other) for it in self.wildcards for other in firsts] + list(combinations(self.wildcards, 2))
         used = {it.text for it in self.words}
         self.fresh = [it for it in NAMES if it not in used]
 
-    def found(self):
-        """What is said of the pair, or the two pairs, with which the rule is accepted; None where none is found."""
+    def found(self, alike):
+        """What is said of the names with which the rule is accepted, those first that make two types alike; None where none are found."""
+        named = self.of_classes(alike)
+        if named and self.is_accepted(named):
+            return self.said(named)
         for count in (1, 2):
             for some in combinations(self.pairs, count):
                 if self.runs == MOST_RUNS:
                     return None
                 named = self.named(some)
                 if named is not None and self.is_accepted(named):
-                    return self.said(some, named)
+                    return self.said(named)
         return None
+
+    def of_classes(self, classes):
+        """The name for each wildcard of some classes, sets of variables and of wildcards by their columns; none where one has two
+        variables."""
+        named, columns = {}, {b"_%d" % place(self.command.text, it.token.start)[1]: it.token for it in self.wildcards}
+        for number, names in enumerate(classes):
+            variables = [it for it in names if it not in columns]
+            if len(variables) > 1:
+                return {}
+            name = (variables or [self.fresh[number]])[0]
+            named.update({columns[it].start: name for it in names if it in columns})
+        return named
 
     def named(self, some):
         """The name for each wildcard of some pairs, by its place; None where a wildcard would have two."""
@@ -64,16 +80,17 @@ class Pairs:
         text = b"".join(parts) + command.text[at : words[rule.last - 1].end] + b" .\n"
         return self.program.answer(command.before + text)[0] == b"accepted"
 
-    def said(self, some, named):
-        """The lines on some pairs."""
+    def said(self, named):
+        """What is said of names that are accepted: where they stand."""
         told = []
-        for pair in some:
-            name = pair[1].name or named[pair[1].token.start]
-            spots = sorted(place(self.command.text, it.token.start) for it in pair)
-            lines = {line for line, _ in spots}
-            where = "columns %d and %d" % (spots[0][1], spots[1][1]) if len(lines) == 1 else "%d:%d and %d:%d" % (*spots[0], *spots[1])
-            told.append("`%s` at %s" % (readable(name), where))
-        return "with %s the rule is accepted; each match then compares the two" % ", and ".join(told)
+        for name in dict.fromkeys(named.values()):
+            spots = [start for start, it in named.items() if it == name]
+            spots += [self.variables[name].token.start] if name in self.variables else []
+            places = sorted(place(self.command.text, it) for it in spots)
+            spelt = ["%d" % column if len({line for line, _ in places}) == 1 else "%d:%d" % (line, column) for line, column in places]
+            front = "columns " if ":" not in spelt[0] else ""
+            told.append("`%s` at %s%s and %s" % (readable(name), front, ", ".join(spelt[:-1]), spelt[-1]))
+        return "with %s the rule is accepted; each match then compares them" % ", and ".join(told)
 
 
 def loose_names(patterns, words):

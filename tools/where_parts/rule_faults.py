@@ -57,8 +57,15 @@ class RuleFaults:
 
     def add_types(self, place, rule):
         """Adds the types of a part of a right side, and the declaration of the head, and what makes the rule accepted."""
-        place.types = rule_types.lines_of(self.program, self.command, rule, place.term)
-        hint = Pairs(self.program, self.command, rule).found()
+        types, classes = rule_types.types_of(self.command, rule), []
+        if types is not None and place.term is rule.right:
+            own = rule_types.own_type(self.program, self.command, types)
+            if own is not None:
+                place.types = ["expected: " + cut(types.typ), "its type: " + cut(own)]
+                classes = rule_types.alike(types.typ, own)
+        elif types is not None:
+            place.types = rule_types.lines_of(self.program, self.command, types, place.term)
+        hint = Pairs(self.program, self.command, rule).found(classes)
         place.hints = [] if hint is None else [hint]
         place.declared = place.declared or self.command.spelt(rule.head)
 

@@ -2,8 +2,8 @@
 wildcard is named by its column. Nothing is evaluated, and nothing that equations find is put in; so what is told of them was tried: the
 rule is refused with a right side of the one type and accepted with one of the other."""
 from .shown_types import Asked, Bound, with_values
-from .terms import Declaration, Unread
-from .texts import cut, place, tokens
+from .terms import Declaration, Reader, Unread
+from .texts import place, tokens
 
 MADE = b"made'here"
 
@@ -97,25 +97,57 @@ class RuleTypes:
         return name
 
 
-def lines_of(program, command, rule, term):
-    """The lines about the types of a part of a right side; none where they aren't seen, or the program doesn't confirm them."""
+def types_of(command, rule):
+    """The types of a rule; None where they aren't seen."""
     try:
-        types = RuleTypes(command, rule)
+        return RuleTypes(command, rule)
     except Unread:
-        return []
-    asked = Asked(program, command, types.bound)
-    if term is not rule.right:
-        return asked.said_of(term, None, b"E21")
-    own = asked.type_of(b"(" + command.spelt(term) + b")", types.bound)
-    if own is None or accepts(program, command, types, own) or not accepts(program, command, types, types.typ):
-        return []
-    return ["expected: " + cut(types.typ), "its type: " + cut(own)]
+        return None
+
+
+def own_type(program, command, types):
+    """The printed type of the right side; None where the program doesn't confirm that it is another one than that of the left side. The
+    type of the left side is none that can be written where only equations give parts of it their types; then it isn't tried."""
+    own = Asked(program, command, types.bound).type_of(b"(" + command.spelt(types.rule.right) + b")", types.bound)
+    if own is None or accepts(program, command, types, own):
+        return None
+    is_written = program.answer(command.before + declared(types, types.typ))[0] == b"accepted"
+    return None if is_written and not accepts(program, command, types, types.typ) else own
+
+
+def declared(types, typ):
+    """The declaration of a symbol that gives a type for the variables of the left side."""
+    return MADE + b" : " + b"".join(b"%s : (%s) -> " % (it.name, it.typ) for it in types.bound) + typ + b".\n"
+
+
+def lines_of(program, command, types, term):
+    """The lines about the types of a part of a right side."""
+    return Asked(program, command, types.bound).said_of(term, None, b"E21")
 
 
 def accepts(program, command, types, typ):
     """Whether the rule is accepted with a right side of this type."""
-    domains = b"".join(b"%s : (%s) -> " % (it.name, it.typ) for it in types.bound)
-    made = MADE + b" : " + domains + typ + b".\n"
     context = b"[" + b", ".join(types.names()) + b"] "
-    text = command.before + made + context + types.left + b" --> " + b" ".join([MADE, *types.names()]) + b".\n"
+    text = command.before + declared(types, typ) + context + types.left + b" --> " + b" ".join([MADE, *types.names()]) + b".\n"
     return program.answer(text)[0] == b"accepted"
+
+
+def alike(one, other):
+    """Sets of names that have to be one each so that two spelt types are alike, as far as they have the same form."""
+    sides = [(text, tokens(text, 0)[0]) for text in (one, other)]
+    classes = []
+    for pair in differing(*(Reader(words).term() for _, words in sides), *(words for _, words in sides)):
+        joined = [it for it in classes if it & pair]
+        classes = [it for it in classes if not it & pair] + [pair.union(*joined)]
+    return classes
+
+
+def differing(one, other, words, others):
+    """The pairs of names that differ, where two terms have the same form."""
+    if one.form == other.form == "name":
+        pair = {words[one.first + one.brackets].text, others[other.first + other.brackets].text}
+        return [pair] if len(pair) == 2 else []
+    if one.form != other.form or len(one.parts) != len(other.parts):
+        return []
+    parts = [(it, its) for it, its in zip(one.parts, other.parts) if it is not None and its is not None]
+    return [pair for it, its in parts for pair in differing(it, its, words, others)]

@@ -19,7 +19,7 @@ def p : nat -> nat. d : n : nat -> vec (p n). def tail : n : nat -> vec (s n) ->
 def copy : n : nat -> vec n -> vec n.
 """
 DOUBLE = "the right side has another type than the left side"
-COMPARED = "the rule is accepted; each match then compares the two"
+COMPARED = "the rule is accepted; each match then compares them"
 
 TOLD = [
     # Types of rules, and variables in the place of wildcards.
@@ -84,3 +84,13 @@ OBJECTS = [
         "line": 5, "column": 10, "end": {"line": 5, "column": 13}, "code": "E20", "found": "Type", "expected": None}),
     ("nat : Type.\n", [], {"report": "accepted 1", "status": 0}),
 ]  # fmt: skip
+# Of files of conformance/producers that are E21 by what a `def` hides, what is told.
+PRODUCERS = {
+    "pvs_words": ["at line 15 column 36: m", "    expected: El _9", "    its type: El _25", "    with `a` at columns 9 and 25 " + COMPARED],
+    "hol_words": ["at line 16 column 35: x", "    expected: El _9", "    its type: El _22", "    with `a` at columns 9 and 22 " + COMPARED],
+    "krajono_match_words": [
+        "at line 14 column 62: c", "    expected: Term s (P _45 (refl _53 _55))", "    its type: Term s (P x (refl A x))",
+        "    with `A` at columns 37 and 53, and `x` at columns 39, 45 and 55 " + COMPARED],
+    "coqine_cast_words": ["at line 12 column 29: t", "    expected: T _15 a", "    its type: T _13 a",
+                          "    with `b` at columns 13 and 15 " + COMPARED],
+}  # fmt: skip
