@@ -41,6 +41,13 @@ class Answer:
         title, said = self.title(), self.found.said
         return said[len(title) :].lstrip(": ") if title and said.startswith(title) else said
 
+    def sentences(self, said):
+        """What is said of the part, with the type that is expected at its end where it ends so, and then its types and what helps."""
+        more = self.found.types + self.found.hints
+        if said.endswith("is expected") and more and more[0].startswith("expected: "):
+            return [said + more[0][len("expected") :], *more[1:]]
+        return [said, *more]
+
     def has_place(self):
         return self.text is not None and (self.found is not None or self.command is not None)
 
@@ -51,9 +58,9 @@ class Answer:
         if not self.has_place():
             return None
         part = "" if self.found is None else cut(self.found.text, SHORT_BYTES)
-        words = ": ".join(it for it in (self.title(), part, self.said()) if it)
-        types = [] if self.found is None else self.found.types + self.found.hints
-        return "%s:%d:%d: %s: %s" % (self.book, *place(self.text, self.at().at), self.word(), "; ".join([words, *types]))
+        said, *more = [""] if self.found is None else self.sentences(self.said())
+        words = "; ".join([": ".join(it for it in (self.title(), part, said) if it), *more])
+        return "%s:%d:%d: %s: %s" % (self.book, *place(self.text, self.at().at), self.word(), words)
 
     def fields(self):
         """What `--json` has."""

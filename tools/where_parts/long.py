@@ -34,7 +34,7 @@ def lines_of_place(answer):
     if found is None:
         return ["no place in it was found by this script"] if answer.is_unsure else []
     lines = ["at line %d column %d: %s" % (*place(answer.text, found.at), cut(found.text))]
-    lines += ["    " + it for it in [found.said, *found.types, *found.hints]]
+    lines += ["    " + it for it in answer.sentences(found.said)]
     if answer.declaration is not None:
         line, text = answer.declaration
         where = "" if answer.declared_in is None else answer.declared_in + ", "

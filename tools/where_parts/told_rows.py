@@ -57,13 +57,13 @@ TOLD = [
     ({"f.dk": "nat : Type.\n" + "x" * 300 + " : nat."}, ["--short"], None, 1,
      ["FILE:2:1: E05: too long: %s ..." % ("x" * 60)]),
     ({"f.dk": "nat : Type. bool : Type. z : nat.\nthm t : bool := z."}, ["--short"], None, 1,
-     ["FILE:2:17: E21: types not convertible: z: this has another type than is expected; expected: bool; its type: nat"]),
+     ["FILE:2:17: E21: types not convertible: z: this has another type than is expected: bool; its type: nat"]),
     # Reports that are given.
     ({"f.dk": "nat : Type. bool : Type. z : nat.\nthm t : bool := z."}, ["--short", "--report", "refused 4 line 2 E21"], None, 1,
-     ["FILE:2:17: E21: types not convertible: z: this has another type than is expected; expected: bool; its type: nat"]),
+     ["FILE:2:17: E21: types not convertible: z: this has another type than is expected: bool; its type: nat"]),
     ({"f.dk": "nat : Type. bool : Type. z : nat.\nthm t : bool := z."}, ["--short", "--report=-"],
      "ok 1 nat\nok 2 bool\nok 3 z\nrefused 4 line 2 E21\n", 1,
-     ["FILE:2:17: E21: types not convertible: z: this has another type than is expected; expected: bool; its type: nat"]),
+     ["FILE:2:17: E21: types not convertible: z: this has another type than is expected: bool; its type: nat"]),
     ({"f.dk": "nat : Type."}, ["--report", "accepted 1"], None, 0, ["accepted 1"]),
     ({"f.dk": "nat : Type."}, ["--report", "refused 9 line 7 E21"], None, 1, ["the command is at line 7; this script can't find its text"]),
     ({"f.dk": "nat : Type. z : nat. eq : nat -> nat -> Type. refl : n : nat -> eq n n.\ndef f : nat -> nat. [n] f n --> f n.\n"
