@@ -66,6 +66,8 @@ class Front:
 
     def in_statement(self, at, proof, chance):
         places = [it for it in self.words[at + 1 : proof - 1] if it.text in self.typecodes]
+        if not places:
+            return None
         place = chance.choice(places)
         others = [it for it, kind in self.typecodes.items() if kind == self.typecodes[place.text] and it != place.text]
         return self.replaced(place.start, place.end, chance.choice(others[:8])), None
@@ -84,12 +86,12 @@ class Front:
         start, end = self.words[span[0] + 1].start, self.words[span[1] - 1].end
         letters = self.text[start:end]
         single = [it.start() for it in re.finditer(r"(?<![U-Y])[A-T]", letters)]
-        if kind == "letter":
+        if kind == "letter" and single:
             at = chance.choice(single)
             others = [it for it in "ABCDEFGHIJKLMNOPQRST"[:most] if it != letters[at]]
             return (self.replaced(start + at, start + at + 1, chance.choice(others)), label) if others else None
         places = [it for it in single if it + 1 in single and letters[it] != letters[it + 1]]
-        if not places:
+        if kind == "letter" or not places:
             return None
         at = chance.choice(places)
         return self.replaced(start + at, start + at + 2, letters[at + 1] + letters[at]), label
