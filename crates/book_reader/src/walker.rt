@@ -50,8 +50,8 @@ pub enum WalkEnd {
     NoMemory(u32),
 }
 
-/// An open book. It is let go of by a call of `drop` alone: it is large, and where it goes out of scope all its parts are
-/// gone through once more.
+/// An open book. One that isn't needed is given to `drop`, as a command is: where it goes out of scope in a function, that
+/// function's proof goes through all its parts.
 #[derive(Drop)]
 struct Frame {
     // None for the file's own.
