@@ -8,16 +8,18 @@ KINDS = ("label", "letter", "order", "pair", "statement")
 
 
 def front_of(path, theorems):
-    """The text of a database up to so many theorems, with the scopes closed."""
+    """The words of a database up to so many theorems, with the scopes closed; without comments, which speak of files at times."""
     with open(path, encoding="latin-1") as file:
         text = file.read()
-    open_scopes = proofs = 0
+    words, scopes, proofs = [], 0, 0
     for it in WORD.finditer(text):
-        open_scopes += (it[1] == "${") - (it[1] == "$}")
-        proofs += it[1] == "$p"
-        if it[1] == "$." and proofs == theorems:
-            return text[: it.end()] + "\n$}" * open_scopes + "\n"
-    return text
+        if it[1]:
+            words.append(it[1] + ("\n" if it[1] in ("$.", "${", "$}") else " "))
+            scopes += (it[1] == "${") - (it[1] == "$}")
+            proofs += it[1] == "$p"
+            if it[1] == "$." and proofs == theorems:
+                break
+    return "".join(words) + "$}\n" * scopes
 
 
 class Front:
@@ -55,6 +57,8 @@ class Front:
             return self.replaced(self.words[at].start, self.words[self.find(at, "$.")].end, ""), None
         at = chance.choice(self.theorems)
         label, proof, end = self.words[at - 1].text, self.find(at, "$=") + 1, self.find(at, "$.")
+        if self.frames[label].is_syntax:
+            return None
         if kind == "statement":
             return self.in_statement(at, proof, chance)
         if self.words[proof].text != "(":
