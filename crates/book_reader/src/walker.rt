@@ -50,7 +50,8 @@ pub enum WalkEnd {
     NoMemory(u32),
 }
 
-/// An open book.
+/// An open book. It is let go of by a call of `drop` alone: it is large, and where it goes out of scope all its parts are
+/// gone through once more.
 #[derive(Drop)]
 struct Frame {
     // None for the file's own.
@@ -163,7 +164,13 @@ impl Walker {
         ensures { result ≡ self.top.module }
     {
         let Walker { top, .. } = self;
-        let Frame { module, .. } = top;
+        let Frame {
+            module,
+            reader,
+            item,
+        } = top;
+        drop(reader);
+        drop(item);
         module
     }
 
@@ -306,7 +313,7 @@ impl Walker {
             None => Err(WalkEnd::Whole),
             Some(frame) => {
                 shelf.back();
-                self.top = frame;
+                drop(replace(&mut self.top, frame));
                 Ok(Turn::Left)
             }
         }
@@ -338,10 +345,12 @@ impl Walker {
                 ReadEnd::NoMemory(line) => return Err(WalkEnd::NoMemory(line)),
             },
         };
+        let line = raw.line;
         let Ok(needs) = raw.form.needs(alloc) else {
-            return Err(WalkEnd::NoMemory(raw.line));
+            drop(raw);
+            return Err(WalkEnd::NoMemory(line));
         };
-        self.top.item = Some(Item { raw, needs });
+        drop(replace(&mut self.top.item, Some(Item { raw, needs })));
         Ok(Turn::On)
     }
 
@@ -367,6 +376,7 @@ impl Walker {
         };
         let Some(name) = item.needs.pop() else {
             if item.raw.form.is_directive() {
+                drop(item);
                 return Ok(Turn::On);
             }
             return Ok(Turn::Command(item.raw));

@@ -3,6 +3,7 @@ pub mod CheckRows
 pub mod FaultlessWalk
 pub mod GoodRows
 pub mod MakeRows
+pub mod Parts
 pub mod PruneRows
 pub mod ReadValues
 pub mod RecheckRows

@@ -1,8 +1,9 @@
 //! The program's commands, as clap reads them.
-ghost use Rattle.std.specs.Prelude.{◌≡◌, IfOk, map, false};
+ghost use Rattle.std.specs.Prelude.{◌≡◌, IfOk, codes, map, false, true};
 ghost use Rattle.std.specs.String.{string_bytes};
-ghost use Rattle.clap.specs.Words.{FailsBy, HasMatchesOf, app_of, fault_of, rule_of, with_subcommand};
-ghost use Rattle.command_line.specs.Words.{budget, certify, check, count, make, program, prune, recheck, replay, split, workers};
+ghost use Rattle.clap.specs.Words.{App, FailsBy, HasMatchesOf, fault_of, new_app, rule_of, with_rule, with_subcommand};
+ghost use Rattle.command_line.specs.Parts.{IsApp, needed_rule, number_rule};
+ghost use Rattle.command_line.specs.Words.{budget, certify, check, count, make, needing, program, prune, quiet, recheck, replay, workers};
 
 use clap::builder::ValueParser;
 use clap::{Arg, ArgAction, ArgMatches, Command, Error};
@@ -20,134 +21,154 @@ pub const LARGEST_SPLIT: u64 = 4_294_967_295;
 /// The most theorems that are made; the least is 1.
 pub const MOST_THEOREMS: u64 = 100_000;
 
+// An argument that has to be given, with this name.
+fn needed_argument<'a>(alloc: Global, name: &'a str) -> Arg<'a>
+    ensures rule { rule_of result ≡ needed_rule name.entry.now }
+    ensures local { result.global ≡ false }
+{
+    Arg::new(alloc, name).required(true)
+}
+
+// `--name N`, with a number from 1 to the largest.
+fn number_argument<'a>(alloc: Global, name: &'a str, largest: u64) -> Arg<'a>
+    ensures rule { rule_of result ≡ number_rule name.entry.now largest }
+    ensures local { result.global ≡ false }
+{
+    Arg::new(alloc, name)
+        .long(name)
+        .value_parser(ValueParser::unsigned(1, largest))
+}
+
 fn workers_argument<'a>(alloc: Global) -> Arg<'a>
     ensures rule { rule_of result ≡ workers }
     ensures local { result.global ≡ false }
 {
-    Arg::new(alloc, "workers")
-        .long("workers")
-        .default_value("4")
-        .value_parser(ValueParser::unsigned(1, MOST_WORKERS))
-}
-
-fn split_argument<'a>(alloc: Global) -> Arg<'a>
-    ensures rule { rule_of result ≡ split }
-    ensures local { result.global ≡ false }
-{
-    Arg::new(alloc, "split")
-        .long("split")
-        .value_parser(ValueParser::unsigned(1, LARGEST_SPLIT))
+    number_argument(alloc, "workers", MOST_WORKERS).default_value("4")
 }
 
 fn budget_argument<'a>(alloc: Global) -> Arg<'a>
     ensures rule { rule_of result ≡ budget }
     ensures local { result.global ≡ false }
 {
-    Arg::new(alloc, "budget")
-        .long("budget")
-        .default_value("1000000000")
-        .value_parser(ValueParser::unsigned(1, LARGEST_BUDGET))
+    number_argument(alloc, "budget", LARGEST_BUDGET).default_value("1000000000")
+}
+
+fn quiet_argument<'a>(alloc: Global) -> Arg<'a>
+    ensures rule { rule_of result ≡ quiet }
+    ensures local { result.global ≡ false }
+{
+    Arg::new(alloc, "quiet")
+        .long("quiet")
+        .action(ArgAction::SetTrue)
 }
 
 fn count_argument<'a>(alloc: Global) -> Arg<'a>
     ensures rule { rule_of result ≡ count }
     ensures local { result.global ≡ false }
 {
-    Arg::new(alloc, "count")
-        .required(true)
-        .value_parser(ValueParser::unsigned(1, MOST_THEOREMS))
+    needed_argument(alloc, "count").value_parser(ValueParser::unsigned(1, MOST_THEOREMS))
 }
 
-// The command with `check` as a subcommand.
-fn with_check<'a>(alloc: Global, top: Command<'a>) -> Result<Command<'a>, AllocError>
-    ensures { IfOk result (λ c. app_of c ≡ with_subcommand (app_of top.entry) check.top) }
+// A command without arguments.
+fn command_named<'a>(alloc: Global, name: &'a str) -> Result<Command<'a>, AllocError>
+    ensures { IfOk result (IsApp (new_app name.entry.now)) }
 {
-    let workers = workers_argument(alloc);
-    let split = split_argument(alloc);
-    let budget = budget_argument(alloc);
-    let quiet = Arg::new(alloc, "quiet")
-        .long("quiet")
-        .action(ArgAction::SetTrue);
-    let file = Arg::new(alloc, "file").required(true);
-    let check = Command::new(alloc, "check")
-        .arg(workers)?
-        .arg(split)?
-        .arg(budget)?
-        .arg(quiet)?
-        .arg(file)?;
-    top.subcommand(check)
+    Ok(Command::new(alloc, name))
 }
 
-// The command with `make` as a subcommand.
-fn with_make<'a>(alloc: Global, top: Command<'a>) -> Result<Command<'a>, AllocError>
-    ensures { IfOk result (λ c. app_of c ≡ with_subcommand (app_of top.entry) make.top) }
+// The command with one more argument.
+fn with_argument<'a>(
+    command: Result<Command<'a>, AllocError>,
+    argument: Arg<'a>,
+) -> Result<Command<'a>, AllocError>
+    requires { argument.global ≡ false }
+    ensures { (a : App) → IfOk command.entry (IsApp a)
+        → IfOk result (IsApp (with_rule a (rule_of argument.entry))) }
 {
-    let workers = workers_argument(alloc);
-    let budget = budget_argument(alloc);
-    let count = count_argument(alloc);
-    let make = Command::new(alloc, "make")
-        .arg(workers)?
-        .arg(budget)?
-        .arg(count)?;
-    top.subcommand(make)
+    command?.arg(argument)
 }
 
-// The command with `certify` as a subcommand.
-fn with_certify<'a>(alloc: Global, top: Command<'a>) -> Result<Command<'a>, AllocError>
-    ensures { IfOk result (λ c. app_of c ≡ with_subcommand (app_of top.entry) certify.top) }
+// The command with one more subcommand, none of whose arguments counts above it.
+fn with_command<'a>(
+    command: Result<Command<'a>, AllocError>,
+    below: Result<Command<'a>, AllocError>,
+) -> Result<Command<'a>, AllocError>
+    ensures { (a b : App) → IfOk command.entry (IsApp a) → IfOk below.entry (IsApp b)
+        → b.top.is_plain ≡ true → IfOk result (IsApp (with_subcommand a b.top)) }
 {
-    let budget = budget_argument(alloc);
-    let file = Arg::new(alloc, "file").required(true);
-    let certify = Command::new(alloc, "certify").arg(budget)?.arg(file)?;
-    top.subcommand(certify)
+    command?.subcommand(below?)
 }
 
-// The command with `recheck` as a subcommand.
-fn with_recheck<'a>(alloc: Global, top: Command<'a>) -> Result<Command<'a>, AllocError>
-    ensures { IfOk result (λ c. app_of c ≡ with_subcommand (app_of top.entry) recheck.top) }
+fn check_command<'a>(alloc: Global) -> Result<Command<'a>, AllocError>
+    ensures { IfOk result (IsApp check) }
 {
-    let file = Arg::new(alloc, "file").required(true);
-    let certificate = Arg::new(alloc, "certificate").required(true);
-    let recheck = Command::new(alloc, "recheck").arg(file)?.arg(certificate)?;
-    top.subcommand(recheck)
+    let command = with_argument(command_named(alloc, "check"), workers_argument(alloc));
+    let command = with_argument(command, number_argument(alloc, "split", LARGEST_SPLIT));
+    let command = with_argument(command, budget_argument(alloc));
+    let command = with_argument(command, quiet_argument(alloc));
+    with_argument(command, needed_argument(alloc, "file"))
 }
 
-// The command with `prune` as a subcommand.
-fn with_prune<'a>(alloc: Global, top: Command<'a>) -> Result<Command<'a>, AllocError>
-    ensures { IfOk result (λ c. app_of c ≡ with_subcommand (app_of top.entry) prune.top) }
+fn make_command<'a>(alloc: Global) -> Result<Command<'a>, AllocError>
+    ensures { IfOk result (IsApp make) }
 {
-    let budget = budget_argument(alloc);
-    let name = Arg::new(alloc, "name").required(true);
-    let file = Arg::new(alloc, "file").required(true);
-    let prune = Command::new(alloc, "prune")
-        .arg(budget)?
-        .arg(name)?
-        .arg(file)?;
-    top.subcommand(prune)
+    let command = with_argument(command_named(alloc, "make"), workers_argument(alloc));
+    let command = with_argument(command, budget_argument(alloc));
+    with_argument(command, count_argument(alloc))
 }
 
-// The command with `replay` as a subcommand.
-fn with_replay<'a>(alloc: Global, top: Command<'a>) -> Result<Command<'a>, AllocError>
-    ensures { IfOk result (λ c. app_of c ≡ with_subcommand (app_of top.entry) replay.top) }
+fn certify_command<'a>(alloc: Global) -> Result<Command<'a>, AllocError>
+    ensures { IfOk result (IsApp certify) }
 {
-    let budget = budget_argument(alloc);
-    let script = Arg::new(alloc, "script").required(true);
-    let replay = Command::new(alloc, "replay").arg(budget)?.arg(script)?;
-    top.subcommand(replay)
+    let command = with_argument(command_named(alloc, "certify"), budget_argument(alloc));
+    with_argument(command, needed_argument(alloc, "file"))
+}
+
+fn recheck_command<'a>(alloc: Global) -> Result<Command<'a>, AllocError>
+    ensures { IfOk result (IsApp recheck) }
+{
+    let command = with_argument(
+        command_named(alloc, "recheck"),
+        needed_argument(alloc, "file"),
+    );
+    with_argument(command, needed_argument(alloc, "certificate"))
+}
+
+fn prune_command<'a>(alloc: Global) -> Result<Command<'a>, AllocError>
+    ensures { IfOk result (IsApp prune) }
+{
+    let command = with_argument(command_named(alloc, "prune"), budget_argument(alloc));
+    let command = with_argument(command, needed_argument(alloc, "name"));
+    with_argument(command, needed_argument(alloc, "file"))
+}
+
+fn replay_command<'a>(alloc: Global) -> Result<Command<'a>, AllocError>
+    ensures { IfOk result (IsApp replay) }
+{
+    let command = with_argument(command_named(alloc, "replay"), budget_argument(alloc));
+    with_argument(command, needed_argument(alloc, "script"))
+}
+
+// The program, as yet without subcommands; `help` won't be one.
+fn program_alone<'a>(alloc: Global) -> Result<Command<'a>, AllocError>
+    ensures { IfOk result (IsApp (needing (new_app (codes "dk_check")))) }
+{
+    Ok(
+        Command::new(alloc, "dk_check")
+            .subcommand_required(true)
+            .disable_help_subcommand(true),
+    )
 }
 
 fn program<'a>(alloc: Global) -> Result<Command<'a>, AllocError>
-    ensures { IfOk result (λ c. app_of c ≡ program) }
+    ensures { IfOk result (IsApp program) }
 {
-    let alone = Command::new(alloc, "dk_check")
-        .subcommand_required(true)
-        .disable_help_subcommand(true);
-    let checking = with_check(alloc, alone)?;
-    let making = with_make(alloc, checking)?;
-    let certifying = with_certify(alloc, making)?;
-    let rechecking = with_recheck(alloc, certifying)?;
-    let pruning = with_prune(alloc, rechecking)?;
-    with_replay(alloc, pruning)
+    let command = with_command(program_alone(alloc), check_command(alloc));
+    let command = with_command(command, make_command(alloc));
+    let command = with_command(command, certify_command(alloc));
+    let command = with_command(command, recheck_command(alloc));
+    let command = with_command(command, prune_command(alloc));
+    with_command(command, replay_command(alloc))
 }
 
 // What clap finds in the words.

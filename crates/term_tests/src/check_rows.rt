@@ -5,31 +5,12 @@ use dk_model::{Code, Verdict};
 /// A text, the budget of each command, and how many commands are looked at, the last one with this verdict.
 pub type Row = (&'static str, u64, usize, Verdict);
 
-pub const ROWS: [Row; 54] = [
-    // A rule stands behind the theorem that needs it, or before it.
-    (
-        "a : Type. def f : Type. x : a. thm t : f := x. [] f --> a.",
-        1000,
-        4,
-        Verdict::Refused(Code::E21),
-    ),
-    (
-        "a : Type. def f : Type. x : a. [] f --> a. thm t : f := x.",
-        1000,
-        5,
-        Verdict::Accepted,
-    ),
+pub const ROWS: [Row; 23] = [
     (
         "a : Type. f : (x : a) -> a. def g (x : a) : a := f x. {g_rule} [x : a] g x --> x.",
         1000,
         4,
         Verdict::Accepted,
-    ),
-    (
-        "a : Type. b : Type. x : a. thm t : b := x.",
-        1000,
-        4,
-        Verdict::Refused(Code::E21),
     ),
     // It takes every unit.
     (
@@ -53,12 +34,6 @@ pub const ROWS: [Row; 54] = [
         14,
         9,
         Verdict::Accepted,
-    ),
-    (
-        "o : Type. c : o. def k : o -> o. [y] k y --> c. def q : (o -> o) -> Type. a : Type. ca : a. [F] q (y => F) --> a. thm t : q (y => k y) := ca.",
-        13,
-        9,
-        Verdict::Ended,
     ),
     (
         "o : Type. c : o. k : o -> o. def q : (o -> o) -> Type. a : Type. ca : a. [F] q (y => F) --> a. thm t : q (y => k y) := ca.",
@@ -142,38 +117,6 @@ pub const ROWS: [Row; 54] = [
         Verdict::Refused(Code::E35),
     ),
     ("a : Type. x : a. def y := x.", 1000, 3, Verdict::Accepted),
-    // A theorem takes two units.
-    (
-        "nat : Type. z : nat. thm t : nat := z.",
-        2,
-        3,
-        Verdict::Accepted,
-    ),
-    (
-        "nat : Type. z : nat. thm t : nat := z.",
-        1,
-        3,
-        Verdict::Ended,
-    ),
-    // A definition unfolds, and a theorem never does.
-    (
-        "a : Type. def b : Type := a. x : a. thm t : b := x.",
-        5,
-        4,
-        Verdict::Accepted,
-    ),
-    (
-        "a : Type. def b : Type := a. x : a. thm t : b := x.",
-        4,
-        4,
-        Verdict::Ended,
-    ),
-    (
-        "a : Type. thm b : Type := a. x : a. thm t : b := x.",
-        1000,
-        4,
-        Verdict::Refused(Code::E21),
-    ),
     // Bodies of abstractions are compared.
     (
         "a : Type. x : a. p : (a -> a) -> Type. c : p (y => y). thm u : p (y => x) := c.",
@@ -181,132 +124,15 @@ pub const ROWS: [Row; 54] = [
         5,
         Verdict::Refused(Code::E21),
     ),
-    // Types and bodies of other forms.
-    (
-        "thm t : Type := Type.",
-        1000,
-        1,
-        Verdict::Refused(Code::E21),
-    ),
-    (
-        "nat : Type. z : nat. t : z -> nat.",
-        1000,
-        3,
-        Verdict::Refused(Code::E22),
-    ),
-    (
-        "nat : Type. z : nat. t : nat -> z.",
-        1000,
-        3,
-        Verdict::Refused(Code::E22),
-    ),
-    (
-        "nat : Type. z : nat. def t : nat -> nat := x : z => x.",
-        1000,
-        3,
-        Verdict::Refused(Code::E22),
-    ),
-    (
-        "nat : Type. z : nat. def t : nat -> nat := x : nat => x.",
-        1000,
-        3,
-        Verdict::Accepted,
-    ),
-    (
-        "nat : Type. z : nat. thm t : nat := (x : nat => Type) z.",
-        1000,
-        3,
-        Verdict::Refused(Code::E25),
-    ),
-    // Patterns under binders, with the arguments of a rule variable swapped.
-    (SWAPPED, 43, 9, Verdict::Accepted),
-    (SWAPPED, 42, 9, Verdict::Ended),
     // A capture that is normalised stays so where its row fails.
     (NORMALISED, 39, 11, Verdict::Accepted),
-    (NORMALISED, 38, 11, Verdict::Ended),
-    // Rules take units too: 4 for the first one, 11 for the second.
-    (ADDITION, 15, 5, Verdict::Accepted),
-    (ADDITION, 14, 5, Verdict::Ended),
-    // Shapes: the first code of the first rule that has one.
-    (
-        "z : Type. def f : Type. [m, n] m n z --> m.",
-        1000,
-        3,
-        Verdict::Refused(Code::E31),
-    ),
-    (
-        "z : Type. def f : Type. [m, n] _ m n --> m.",
-        1000,
-        3,
-        Verdict::Refused(Code::E31),
-    ),
-    (
-        "z : Type. def f : Type. [m, n] f (m z) n --> m.",
-        1000,
-        3,
-        Verdict::Refused(Code::E32),
-    ),
-    (
-        "z : Type. def f : Type. [m, n] f (_ m) n --> m.",
-        1000,
-        3,
-        Verdict::Refused(Code::E32),
-    ),
-    (
-        "z : Type. def f : Type. [m, n] f ({z} m) n --> m.",
-        1000,
-        3,
-        Verdict::Refused(Code::E32),
-    ),
-    (
-        "z : Type. def f : Type. [m, n] f ((x => x) m) n --> m.",
-        1000,
-        3,
-        Verdict::Refused(Code::E32),
-    ),
-    (
-        "z : Type. def f : Type. [m, n] f {m} n --> n.",
-        1000,
-        3,
-        Verdict::Refused(Code::E33),
-    ),
-    (
-        "z : Type. def f : Type. [m, n : m] f n --> z.",
-        1000,
-        3,
-        Verdict::Refused(Code::E33),
-    ),
-    (
-        "z : Type. def f : Type. [m] z m --> z [m] m z --> z.",
-        1000,
-        3,
-        Verdict::Refused(Code::E30),
-    ),
-    (
-        "z : Type. def f : Type. [m, n] z m --> n [m] m z --> z.",
-        1000,
-        3,
-        Verdict::Refused(Code::E33),
-    ),
-    (
-        "z : Type. def f : Type. [m, n] z (m z) --> n [m] m z --> z.",
-        1000,
-        3,
-        Verdict::Refused(Code::E32),
-    ),
 ];
 
 const NUMBERS: &str =
     "nat : Type.\nz : nat.\ns : nat -> nat.\ndef plus : nat -> nat -> nat.\n[n] plus z n --> n\n[m, n] plus (s m) n --> s (plus m n).\neq : nat -> nat -> Type.\nrefl : n : nat -> eq n n.\nthm two : eq (plus (s (s z)) (s (s z))) (s (s (s (s z)))) := refl (s (s (s (s z)))).\n";
 
-const SWAPPED: &str =
-    "o : Type. c : o. d : o. def sw : (o -> o -> o) -> o -> o -> o. [F] sw (x => y => F x y) --> a => b => F b a. p : o -> o -> o. eq : o -> o -> Type. r : x : o -> eq x x. thm t : eq (sw (x => y => p x y) c d) (p d c) := r (p d c).";
-
 const NORMALISED: &str =
     "o : Type. c : o. d : o. s : o -> o. def e : o -> o. [x] e x --> c. def f : (o -> o) -> o -> o. [y] f (x => c) y --> c [F] f (x => F) {c} --> F [F, y] f (x => F) y --> F. eq : o -> o -> Type. r : x : o -> eq x x. thm t : eq (f (x => s (e x)) d) (s c) := r (s c).";
-
-const ADDITION: &str =
-    "nat : Type. z : nat. s : nat -> nat. def plus : nat -> nat -> nat. [n] plus z n --> n [m, n] plus (s m) n --> s (plus m n).";
 
 /// The parts of a text, each so often: arguments, binders and brackets nearly as deep as a text may have them.
 pub const DEEP: [Parts; 3] = [

@@ -1,4 +1,5 @@
-//! Texts, and the tokens that they are, by docs/syntax.md.
+//! Texts, and the tokens that they are, by docs/syntax.md: those whose kinds and places no report of the program shows, and
+//! those at other limits than its own.
 use dk_model::Code;
 
 /// A limit other than the program's.
@@ -13,57 +14,11 @@ pub enum Limit {
 /// The text, the limit, the tokens, the fault, and the line at the end.
 pub type Row<'a> = (&'a [u8], Limit, &'static str, Option<Code>, u32);
 
-pub const ROWS: [Row<'static>; 103] = [
+pub const ROWS: [Row<'static>; 74] = [
     (
         b"a.b c.",
         Limit::Standard,
         " qualified 0 plain 4 . 5",
-        None,
-        1,
-    ),
-    (
-        b"nat : Type",
-        Limit::Standard,
-        " plain 0 : 4 Type 6",
-        None,
-        1,
-    ),
-    (
-        b"nat : Type. (; x",
-        Limit::Standard,
-        " plain 0 : 4 Type 6 . 10",
-        Some(Code::E03),
-        1,
-    ),
-    (
-        b"(; one (; two ;) ;) a : Type.",
-        Limit::Standard,
-        " plain 20 : 22 Type 24 . 28",
-        None,
-        1,
-    ),
-    (b"x : ((", Limit::Standard, " plain 0 : 2 ( 4 ( 5", None, 1),
-    (b"a $ b.", Limit::Standard, " plain 0", Some(Code::E01), 1),
-    (b".", Limit::Standard, " . 0", None, 1),
-    (
-        b"#NAME m.",
-        Limit::Standard,
-        " profile 0 plain 6 . 7",
-        None,
-        1,
-    ),
-    (b"x : _.", Limit::Standard, " plain 0 : 2 _ 4 . 5", None, 1),
-    (
-        b"[x, x] f x --> x.",
-        Limit::Standard,
-        " [ 0 plain 1 , 2 plain 4 ] 5 plain 7 plain 9 --> 11 plain 15 . 16",
-        None,
-        1,
-    ),
-    (
-        b"def id := x => x.",
-        Limit::Standard,
-        " def 0 plain 4 := 7 plain 10 => 12 plain 15 . 16",
         None,
         1,
     ),
@@ -81,40 +36,9 @@ pub const ROWS: [Row<'static>; 103] = [
         None,
         1,
     ),
-    (
-        b"a : Type.\n\nb : c.",
-        Limit::Standard,
-        " plain 0 : 2 Type 4 . 8 plain 11/3 : 13/3 plain 15/3 . 16/3",
-        None,
-        3,
-    ),
-    (
-        b"x : a.{|b",
-        Limit::Standard,
-        " plain 0 : 2",
-        Some(Code::E03),
-        1,
-    ),
-    (
-        b"x : a.{|b\n",
-        Limit::Standard,
-        " plain 0 : 2",
-        Some(Code::E01),
-        1,
-    ),
-    (b"-", Limit::Standard, "", Some(Code::E03), 1),
-    (b"--", Limit::Standard, "", Some(Code::E03), 1),
-    (b"=", Limit::Standard, "", Some(Code::E03), 1),
-    (b"#", Limit::Standard, "", Some(Code::E01), 1),
-    (b"- ", Limit::Standard, "", Some(Code::E01), 1),
-    (b"--x", Limit::Standard, "", Some(Code::E01), 1),
-    (b"=a", Limit::Standard, "", Some(Code::E01), 1),
     (b"a==b", Limit::Standard, " plain 0 == 1 plain 3", None, 1),
     (b"===>", Limit::Standard, " == 0 => 2", None, 1),
     (b"=== ", Limit::Standard, " == 0", Some(Code::E01), 1),
-    (b"#5", Limit::Standard, "", Some(Code::E01), 1),
-    (b"a._", Limit::Standard, "", Some(Code::E01), 1),
-    (b"a._ ", Limit::Standard, "", Some(Code::E01), 1),
     (b"a._'", Limit::Standard, " qualified 0", None, 1),
     (
         b"x : a.'",
@@ -169,8 +93,6 @@ pub const ROWS: [Row<'static>; 103] = [
         None,
         1,
     ),
-    (b"(;)", Limit::Standard, "", Some(Code::E03), 1),
-    (b"(;;)", Limit::Standard, "", None, 1),
     (b"(; ((; ;;) ;) a", Limit::Standard, " plain 14", None, 1),
     (
         b"a\rb\tc",
@@ -178,22 +100,6 @@ pub const ROWS: [Row<'static>; 103] = [
         " plain 0 plain 2 plain 4",
         None,
         1,
-    ),
-    (b"\x0b", Limit::Standard, "", Some(Code::E01), 1),
-    (
-        b"a : Type.\n(; x\n(; y ;)\n",
-        Limit::Standard,
-        " plain 0 : 2 Type 4 . 8",
-        Some(Code::E03),
-        2,
-    ),
-    (b"\n\n$", Limit::Standard, "", Some(Code::E01), 3),
-    (
-        b"a\n(; \n ;) -\n",
-        Limit::Standard,
-        " plain 0",
-        Some(Code::E01),
-        3,
     ),
     (
         b"abcdefghij : Type.",

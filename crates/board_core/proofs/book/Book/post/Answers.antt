@@ -63,3 +63,40 @@ invariant_of-self-2 g c = let e = c.make_place.ensures in let k = c.self.invaria
       wide = let longer = c.push_reserved.ensures.len in subst (λ n. IsWide n (vec_capacity c.push_reserved.new.self) (deque_capacity c.let_wait-job.new.waiting) (vec_capacity c.push_reserved-2.new.self) (vec_capacity c.push_reserved-3.new.self)) (sym longer)
           (rw (c.push_reserved.ensures.capacity, c.let_wait-job.ensures.capacity, c.push_reserved-2.ensures.capacity, c.push_reserved-3.ensures.capacity) c.in-Ok.ensures.ok);
     }
+
+-- the arithmetic, by the facts that it needs
+
+pub overflow_cast-number : goal.overflow_cast-number
+overflow_cast-number g c =
+    let few = subst (λ b. length b.jobs < 2 ^ 32 - 2) (sym c.self.view_is) c.requires.few in
+    let count = length-map c.self.inside.jobs.items posted in
+    let same = ap length c.make_place.ensures.jobs in
+    omega (arith, few, same, count)
+
+pub overflow_add-number : goal.overflow_add-number
+overflow_add-number g c =
+    let few = subst (λ b. length b.jobs < 2 ^ 32 - 2) (sym c.self.view_is) c.requires.few in
+    let count = length-map c.self.inside.jobs.items posted in
+    let same = ap length c.make_place.ensures.jobs in
+    omega (arith, few, same, count)
+
+pub push_reserved-requires-2 : goal.push_reserved-requires-2
+push_reserved-requires-2 g c =
+    let r = (has_place (vec_len c.make_place.new.jobs) 0 _ _ _ _ c.in-Ok.ensures.ok (omega arith)).2 in
+    let count = length-map c.self.inside.jobs.items posted in
+    let marks = count_marks (jobs_in c.self.inside.jobs.items) in
+    let v = ap length c.make_place.ensures.verdicts in
+    let same = ap length c.make_place.ensures.jobs in
+    let w = c.self.invariant.keeps.as_many in
+    omega (arith, r, v, same, w, count, marks)
+
+pub push_reserved-requires-3 : goal.push_reserved-requires-3
+push_reserved-requires-3 g c =
+    let r = (has_place (vec_len c.make_place.new.jobs) 0 _ _ _ _ c.in-Ok.ensures.ok (omega arith)).3 in
+    let count = length-map c.self.inside.jobs.items posted in
+    let marks = count_marks (jobs_in c.self.inside.jobs.items) in
+    let h = ap length c.make_place.ensures.history in
+    let same = ap length c.make_place.ensures.jobs in
+    let f = c.self.invariant.keeps.few_events in
+    let steps = count_steps c.self.inside.end c.self.inside.history.items in
+    omega (arith, r, h, same, f, steps, marks, count)

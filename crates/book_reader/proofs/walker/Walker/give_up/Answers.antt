@@ -1,7 +1,9 @@
-use Rattle.std.proofs.Common.{List, map, ap, ◌∙◌, refl, arith, length}
+use Rattle.std.proofs.Common.{List, ◌∷◌, map, ap, sym, subst, ◌∙◌, refl, arith, length}
 use Rattle.std.proofs.lemmas.List.{append-nil}
 use Rattle.std.specs.Prelude.{reverse, take, ◌-◌}
 use Rattle.book_reader.specs.declared.walker.Frame.{Frame}
+use Rattle.file_reader.specs.Progress.{HasBegun}
+use Rattle.book_reader.specs.Rooms.{room_of_book}
 use Rattle.book_reader.specs.Walkers.{open_of}
 use Rattle.book_reader.proofs.Openings.{begun_less, below_more}
 use Rattle.book_reader.proofs.Rooms.{room_pushed}
@@ -16,7 +18,12 @@ returns-in-None-clause-gone g c = (
 )
 
 pub returns-in-Some-clause-gone : goal.returns-in-Some-clause-gone
-returns-in-Some-clause-gone g c = (refl, below_more _ _ _ c.in-Some.ensures.items, refl, c.back.ensures.taken)
+returns-in-Some-clause-gone g c = (
+  refl,
+  below_more _ _ _ c.in-Some.ensures.items ∙ ap (λ f. open_of f ∷ map open_of (reverse c.pop.new.self.items)) (sym c.replace.ensures.after),
+  refl,
+  c.back.ensures.taken,
+)
 
 pub returns-in-Some-clause-ready : goal.returns-in-Some-clause-ready
 returns-in-Some-clause-ready g c =
@@ -32,12 +39,15 @@ returns-in-Some-clause-ready g c =
         all_aside = omega (arith, less, aside, r.room.all_aside);
         room = omega (arith, less, aside, r.room.room);
       };
-      top = begun.0;
+      top = subst (λ (f : Frame). HasBegun f.reader) (sym c.replace.ensures.after) begun.0;
       below = begun.1;
     }
 
 pub returns-in-Some-clause-room : goal.returns-in-Some-clause-room
-returns-in-Some-clause-room g c = let below = room_pushed _ _ c.in-Some.frame c.in-Some.ensures.items in omega (arith, below)
+returns-in-Some-clause-room g c =
+    let below = room_pushed _ _ c.in-Some.frame c.in-Some.ensures.items in
+    let top = ap room_of_book c.replace.ensures.after in
+    omega (arith, below, top)
 
 pub returns-in-None-clause-leaves : goal.returns-in-None-clause-leaves
 returns-in-None-clause-leaves g c = let none = c.in-None.ensures.cases.0 in omega (arith, none)

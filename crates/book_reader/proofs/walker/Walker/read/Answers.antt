@@ -103,7 +103,7 @@ returns-clause-walks g c = λ books done told st.
     found (setting_of w.root books) (open_of w.top) (record { book = w.top.module; reader = c.next.new.self; pending = _ }) (opens_below w) w.opened
     (shelf_of g.H.Shelf c.args.shelf.now) (shelf_of g.H.Shelf c.next.new.shelf) done x
     refl (ap pending_of c.requires.idle)
-    (ap (λ (l : List (List ℕ)). steps_behind x (reverse l)) c.in-Ok-needs.ensures ∙ ap (steps_behind x) (reverse-reverse (modules_of x.form)))
+    (ap pending_of c.replace.ensures.after ∙ ap (λ (l : List (List ℕ)). steps_behind x (reverse l)) c.in-Ok-needs.ensures ∙ ap (steps_behind x) (reverse-reverse (modules_of x.form)))
     (λ bytes d b. subst (λ (r : Raw). IsBehind w.root.limits bytes (d ++ written_command r ∷ []) (g.H.Shelf.left c.next.new.shelf) c.next.new.self) (sym c.into_raw-raw.ensures) (c.in-Ok.ensures.answers w.root.limits bytes d b).0)
     c.in-Ok.ensures.aside st
 
@@ -124,7 +124,8 @@ returns-clause-room g c =
     let less = c.in-Ok.ensures.room in
     let small = needs_small c.in-Ok-needs.needs in
     let idle = ap room_of_item c.requires.idle in
-    omega (arith, less, small, idle)
+    let due = ap room_of_item c.replace.ensures.after in
+    omega (arith, less, small, idle, due)
 
 pub returns-in-Whole-clause-leaves : goal.returns-in-Whole-clause-leaves
 returns-in-Whole-clause-leaves g c =
