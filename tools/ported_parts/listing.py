@@ -90,16 +90,20 @@ def changed(text, found):
     return b"".join(parts + [text[at:]])
 
 
+def found_in(files):
+    """The modules of files, pairs of a name and a text, each with what it has."""
+    library = Library([Module(name, text) for name, text in files])
+    return [(it, of_module(it, library)) for it in library.modules]
+
+
 def written(files):
-    """The texts of files, pairs of a name and a text, with all that is safe written otherwise, and how many places that were."""
+    """The modules of files with all that is safe written otherwise, each with what is left, and how many places that were."""
     count = 0
     for _ in range(MOST_ROUNDS):
-        library = Library([Module(name, text) for name, text in files])
-        found = [of_module(it, library) for it in library.modules]
-        safe = sum(it.is_safe for some in found for it in some)
+        found = found_in(files)
+        safe = sum(it.is_safe for _, some in found for it in some)
         if not safe:
-            break
-        texts = [changed(it.text, some) for it, some in zip(library.modules, found)]
+            return found, count
         count += safe
-        files = [(name, text) for (name, _), text in zip(files, texts)]
-    return files, count
+        files = [(module.name, changed(module.text, some)) for module, some in found]
+    return found_in(files), count
