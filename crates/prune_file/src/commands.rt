@@ -195,5 +195,7 @@ pub fn read_commands(
         has_below: false,
         missed: 0,
     };
-    found.read_on(name, &mut reader, &mut book, spans)
+    let all = found.read_on(name, &mut reader, &mut book, spans);
+    drop(reader);
+    all
 }
