@@ -10,7 +10,7 @@ ghost use Rattle.shared_term.specs.Storage.{stored_term};
 ghost use Rattle.edit_session.specs.Held.{plain_answer};
 
 use crate::Judge;
-use command_check::{is_answered, is_untyped};
+use command_kinds::{is_answered, is_untyped};
 use dk_model::{NoMemory, Scoped, Verdict};
 use shared_term::{Found, Stored};
 use signature_log::Version;

@@ -9,7 +9,7 @@ ghost use Rattle.signature_log.specs.Versions.{entries_of};
 ghost use Rattle.edit_session.specs.Shaping.{IsEntryFor, IsNotShaped, IsShapedAs, IsUnshaped, ShapesAll};
 
 use crate::Judge;
-use command_check::is_untyped;
+use command_kinds::is_untyped;
 use dk_model::{Entry, Fault, NoMemory, Scoped, TypeFault};
 use dk_parser::Raw;
 use scope_terms::Names;
