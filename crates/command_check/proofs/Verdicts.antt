@@ -21,7 +21,8 @@ use Rattle.typing_model.specs.Derivations.{HasDerivation}
 use Rattle.dk_model.specs.WellFormed.{IsSignature}
 use Rattle.typing_model.specs.Conditions.{HasNoAnnotations, IsNumbered}
 use Rattle.typing_model.specs.Laws.{AcceptedHasDerivation, DeclarationHasDerivation}
-use Rattle.command_check.specs.Given.{fault_verdict, FailsShapes, HasBodyType}
+use Rattle.command_kinds.specs.Faults.{FailsShapes}
+use Rattle.command_check.specs.Given.{fault_verdict, HasBodyType}
 
 pub shapes_typed : (S : PlainSignature) (due : Result (List PlainRule) Code) (rs : List PlainRule) (n : ℕ) (o : Result Unit TypeFault) (m : ℕ) → due ≡ Ok rs
     → GivesFit (rules_typed S rs n) o m → GivesFit (rules_checked S due n) o m

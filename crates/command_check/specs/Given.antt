@@ -2,7 +2,7 @@
 use Rattle.std.specs.Prelude.{ℕ, ◌≡◌, Result, Ok, Err, List, map}
 use Rattle.dk_model.specs.Trees.{Tree}
 use Rattle.dk_model.specs.Signatures.{PlainRule, PlainSignature, plain_rule, rule_by}
-use Rattle.dk_model.specs.Scoping.{PlainCommand, declare, rule_command, query, plain_scoped_rule}
+use Rattle.dk_model.specs.Scoping.{plain_scoped_rule}
 use Rattle.dk_model.specs.Shapes.{kept_rules, shapes_of}
 use Rattle.dk_model.specs.Typing.{Judged, answer}
 use Rattle.dk_model.specs.Verdicts.{body_type}
@@ -16,6 +16,7 @@ use Rattle.dk_model.specs.declared.stop.TypeFault.TheVariants.{Refused, Ended, N
 use Rattle.dk_model.specs.declared.term.Term.{Term}
 use Rattle.infer_check.specs.Given.{Fails}
 use Rattle.signature_log.specs.Reducers.{Makes}
+use Rattle.command_kinds.specs.Faults.{FailsShapes}
 use Rattle.shared_term.specs.Storage.{stored_term}
 use Rattle.shared_term.specs.declared.stored.Stored.{Stored}
 
@@ -24,12 +25,6 @@ abbrev pub fault_verdict : TypeFault → Verdict
 fault_verdict (Refused c) = RefusedBy c
 fault_verdict Ended = OutOfUnits
 fault_verdict NoMemory = OutOfMemory
-
--- the fault is the code of the shapes, or want of memory
-abbrev pub FailsShapes : {A : Type 0} → Result A Code → TypeFault → Type 0
-FailsShapes due (Refused c) = due ≡ Err c
-FailsShapes due Ended = ⊥
-FailsShapes due NoMemory = Unit {0}
 
 -- the rules of these shapes, or their first code
 abbrev pub GivesShapes : Result (List PlainRule) Code → Result (List (Rule Term)) TypeFault → Type 0
@@ -44,12 +39,6 @@ command_shapes S rs = shapes_of S (map plain_scoped_rule rs)
 abbrev pub GivesRules : Result (List PlainRule) Code → Result (List (Rule Stored)) TypeFault → Type 0
 GivesRules due (Ok rs) = map (rule_by stored_term) rs ≡ kept_rules due
 GivesRules due (Err f) = FailsShapes due f
-
--- rules have the first code of their shapes; else memory ended
-abbrev pub IsEntryFault : PlainSignature → PlainCommand → TypeFault → Type 0
-IsEntryFault S (declare s A b) f = f ≡ NoMemory
-IsEntryFault S (rule_command rs) f = FailsShapes (shapes_of S rs) f
-IsEntryFault S (query demand a) f = f ≡ NoMemory
 
 -- this term, as the reducer's own, where the typing has an answer, with the units left
 abbrev pub GivesTerm : {R T A : Type 0} → (R → T → Type 0) → (R → T → Tree) → Judged A → Tree → R → Result T TypeFault → ℕ → Type 0

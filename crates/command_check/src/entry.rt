@@ -3,10 +3,10 @@ ghost use Rattle.std.specs.Prelude.{◌≡◌, IfErr, IfOk};
 ghost use Rattle.dk_model.specs.Signatures.{maybe_by, maybe_tree};
 ghost use Rattle.dk_model.specs.Scoping.{plain_command};
 ghost use Rattle.dk_model.specs.Verdicts.{entry_of, entry_type_of, kept_body};
-ghost use Rattle.dk_model.specs.Answering.{is_answered, is_untyped};
 ghost use Rattle.shared_term.specs.Storage.{stored_term};
 ghost use Rattle.signature_log.specs.Versions.{entries_of, stored_entry};
-ghost use Rattle.command_check.specs.Given.{command_shapes, GivesRules, IsEntryFault};
+ghost use Rattle.command_kinds.specs.Faults.{IsEntryFault};
+ghost use Rattle.command_check.specs.Given.{command_shapes, GivesRules};
 
 use crate::shapes::shapes_of;
 use dk_model::{Entry, Listed, NoMemory, Rule, Scoped, ScopedRule, SymSort, Term, TypeFault};
@@ -14,28 +14,6 @@ use pattern_compile::erase_all;
 use shared_term::Stored;
 use signature_log::{Version, store_rules};
 use std::alloc::Global;
-
-/// Whether a command is a definition without a declared type.
-pub fn is_untyped(command: &Scoped) -> bool
-    ensures { result ≡ is_untyped (plain_command command.now) }
-{
-    match command {
-        Scoped::Declare { typ, body, .. } => typ.is_none() && body.is_some(),
-        Scoped::Rules(_) => false,
-        Scoped::Query { .. } => false,
-    }
-}
-
-/// Whether a command is a query that only asks, so that its answer is shown.
-pub fn is_answered(command: &Scoped) -> bool
-    ensures { result ≡ is_answered (plain_command command.now) }
-{
-    match command {
-        Scoped::Declare { .. } => false,
-        Scoped::Rules(_) => false,
-        Scoped::Query { demand, .. } => !*demand,
-    }
-}
 
 /// The declared type without annotations, or the inferred one.
 fn entry_type(

@@ -13,7 +13,7 @@ mod shapes;
 mod stored_entry;
 mod verdict;
 
-pub use entry::{entry_of, is_answered, is_untyped};
+pub use entry::entry_of;
 pub use queries::{query, query_stored};
-pub use stored_entry::{entry_of_stored, is_answered_stored, is_untyped_stored};
+pub use stored_entry::entry_of_stored;
 pub use verdict::{check_command, check_stored, enter_command, infer_stored, infer_type};

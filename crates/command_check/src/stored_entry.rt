@@ -1,40 +1,17 @@
 //! The entry that an accepted command adds whose terms are stored.
 ghost use Rattle.std.specs.Prelude.{◌≡◌, IfErr, IfOk};
-ghost use Rattle.dk_model.specs.Answering.{is_answered, is_untyped};
 ghost use Rattle.dk_model.specs.Signatures.{maybe_by};
 ghost use Rattle.dk_model.specs.Verdicts.{entry_of, entry_type_of, kept_body};
 ghost use Rattle.shared_term.specs.Commands.{stored_command};
 ghost use Rattle.shared_term.specs.Storage.{stored_term};
 ghost use Rattle.signature_log.specs.Versions.{entries_of, stored_entry};
-ghost use Rattle.command_check.specs.Given.{IsEntryFault};
+ghost use Rattle.command_kinds.specs.Faults.{IsEntryFault};
 
 use crate::entry::entry_rules;
 use dk_model::{Entry, Listed, NoMemory, SymSort, Term, TypeFault};
 use shared_term::{Stored, StoredCommand};
 use signature_log::Version;
 use std::alloc::Global;
-
-/// Whether a command is a definition without a declared type.
-pub fn is_untyped_stored(command: &StoredCommand) -> bool
-    ensures { result ≡ is_untyped (stored_command command.now) }
-{
-    match command {
-        StoredCommand::Declare { typ, body, .. } => typ.is_none() && body.is_some(),
-        StoredCommand::Rules(_) => false,
-        StoredCommand::Query { .. } => false,
-    }
-}
-
-/// Whether a command is a query that only asks, so that its answer is shown.
-pub fn is_answered_stored(command: &StoredCommand) -> bool
-    ensures { result ≡ is_answered (stored_command command.now) }
-{
-    match command {
-        StoredCommand::Declare { .. } => false,
-        StoredCommand::Rules(_) => false,
-        StoredCommand::Query { demand, .. } => !*demand,
-    }
-}
 
 /// The declared type without annotations, or the inferred one.
 fn entry_type(

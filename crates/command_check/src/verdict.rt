@@ -18,10 +18,11 @@ ghost use Rattle.command_check.specs.Commands.{stored_command};
 ghost use Rattle.command_check.specs.Given.{command_shapes, fault_verdict, HasBodyType};
 
 use crate::declaration::{check_declaration, infer_body};
-use crate::entry::{entry_of, is_untyped};
+use crate::entry::entry_of;
 use crate::kept::{Boxed, InLists, Kept};
 use crate::queries::judge_query;
 use crate::shapes::shapes_of;
+use command_kinds::is_untyped;
 use dk_model::{Entry, Listed, Rule, Scoped, ScopedRule, TypeFault, Verdict};
 use rule_check::check_rule;
 use shared_term::{Stored, StoredCommand};

@@ -1,5 +1,6 @@
 -- The answer on a command, kept or made anew.
 use Rattle.std.proofs.Common.{ℕ, ◌≡◌, ◌&&◌, Bool, true, false, Option, Some, None, List, [], ◌∷◌, ◌++◌, map, refl, ap, sym, subst, ◌∙◌, if◌then◌else◌}
+use Rattle.std.specs.Prelude.{Result, Ok, Err, IfOk}
 use Rattle.std.specs.Arc.{arc_value}
 use Rattle.std.specs.Cmp.Lexicographic.{bytes_decides}
 use Rattle.std.specs.Option.{ForSome, option_map}
@@ -17,6 +18,11 @@ use Rattle.edit_session.specs.declared.grounds.Ground.{Ground}
 use Rattle.edit_session.specs.declared.slot.Kept.{Kept}
 use Rattle.edit_session.specs.declared.slot.Slot.{Slot}
 use Rattle.edit_session.proofs.Keeping.{kept_serve}
+
+-- one check, where that is how many are due
+pub checks_are : {E : Type 0} (n : ℕ) (o : Result Answered E) → IfOk o (λ a. a.checks ≡ 1) → 1 ≡ n → IfOk o (λ a. a.checks ≡ n)
+checks_are n (Ok a) h e = h ∙ e
+checks_are n (Err x) h e = tt
 
 -- ---- lists of texts
 
@@ -107,10 +113,6 @@ module _ (slot : Slot) (g : Ground) (q : Question) where
   one_checked None e is = sym (ap (λ z. checks_for z (Some (list_of slot g))) (kept_for slot None e))
   one_checked (Some k) e is = sym (ap (λ z. checks_for z (Some (list_of slot g))) (kept_for slot (Some k) e)
       ∙ ap (λ b. if b then 0 else 1) (same_with (map arc_value k.texts.items) (map arc_value g.texts.items) (arc_value slot.text) ∙ is))
-
-  pub one_checked_not : (o : Option Kept) (r : Option Findings) → slot.kept ≡ o → IsKeptAnswer o g r → ((f : Findings) → r ≡ Some f → ⊥) → 1 ≡ checks_for (kept_of slot) (Some (list_of slot g))
-  one_checked_not o None e is n = one_checked o e is
-  one_checked_not o (Some f) e is n = absurd (n f refl)
 
   -- an answer that is made anew is kept
   pub made_right : (new : Slot) (f : Findings) (a : Answered) (copy : Findings) → new.kept ≡ Some (record { texts = g.texts; places = g.places; findings = copy }) → plain_answer copy ≡ plain_answer f → a.findings ≡ f

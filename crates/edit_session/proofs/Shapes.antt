@@ -22,7 +22,7 @@ use Rattle.dk_model.specs.declared.stop.TypeFault.TheVariants as fault
 use Rattle.shared_term.specs.Storage.{stored_term}
 use Rattle.shared_term.specs.declared.stored.Stored.{Stored}
 use Rattle.signature_log.specs.Versions.{stored_entry}
-use Rattle.command_check.specs.Given.{IsEntryFault}
+use Rattle.command_kinds.specs.Faults.{IsEntryFault}
 use Rattle.edit_session.specs.Sessions.{are_shapes, is_shaped}
 use Rattle.edit_session.specs.Shaping.{IsEntryFor, IsNotShaped, IsUnshaped, RefusesShape, ShapesAll}
 use Rattle.edit_session.proofs.Answered.{typed_none}

@@ -9,7 +9,7 @@ use Rattle.dk_model.specs.declared.limits.Limits.{Limits}
 use Rattle.prune_theory.specs.Folds.{Declared}
 use Rattle.prune_theory.specs.Renumbering.{picked}
 use Rattle.signature_log.specs.Versions.{entries_of}
-use Rattle.edit_session.specs.Answers.{IsCommandBehind, IsMade, answer_on, answer_with, is_among, renumbered}
+use Rattle.edit_session.specs.Answers.{Answer, IsCommandBehind, IsMade, answer_on, answer_with, is_among, renumbered}
 use Rattle.edit_session.specs.Grounds.{same_texts}
 use Rattle.edit_session.specs.Held.{kept_list, plain_answer, plain_kept}
 use Rattle.edit_session.specs.declared.answering.Answered.{Answered}
@@ -27,6 +27,10 @@ pub record Question : Type 0 where
 
 abbrev pub question_of : Asked → Question
 question_of a = record { signature = entries_of a.version.now; command = plain_command a.command.now; budget = a.budget }
+
+-- the answer on it
+abbrev pub answer_to : Question → Answer
+answer_to q = answer_on q.signature q.command q.budget
 
 -- the list of texts for which an answer is kept
 abbrev pub kept_of : Slot → Option (List (List ℕ))

@@ -10,7 +10,8 @@ ghost use Rattle.shared_term.specs.Storage.{stored_term};
 ghost use Rattle.edit_session.specs.Held.{plain_answer};
 
 use crate::Judge;
-use command_check::{is_answered, is_untyped};
+use crate::both::both;
+use command_kinds::{is_answered, is_untyped};
 use dk_model::{NoMemory, Scoped, Verdict};
 use shared_term::{Found, Stored};
 use signature_log::Version;
@@ -29,10 +30,11 @@ impl Findings {
     pub fn copy(&self, alloc: Global) -> Result<Findings, NoMemory>
         ensures { IfOk result (λ f. plain_answer f ≡ plain_answer self.now) }
     {
+        let (typ, found) = both(copy_type(alloc, &self.typ), copy_found(alloc, &self.found))?;
         Ok(Findings {
             verdict: self.verdict,
-            typ: copy_type(alloc, &self.typ)?,
-            found: copy_found(alloc, &self.found)?,
+            typ,
+            found,
         })
     }
 }

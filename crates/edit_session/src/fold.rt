@@ -5,6 +5,8 @@ ghost use Rattle.dk_model.specs.Signatures.{maybe_by};
 ghost use Rattle.dk_model.specs.Verdicts.{entry_of, inferred_type};
 ghost use Rattle.dk_model.specs.declared.limits.Limits.{Limits};
 ghost use Rattle.board_core.specs.Places.{in_file};
+ghost use Rattle.scope_terms.specs.Names.{reading};
+ghost use Rattle.scope_terms.specs.Reading.{no_reading};
 ghost use Rattle.shared_term.specs.Storage.{stored_term};
 ghost use Rattle.signature_log.specs.Versions.{entries_of, stored_entry};
 ghost use Rattle.edit_session.specs.Folding.{IsBegun, IsFolded, IsQuiet, KeepsSlots, TurnsTo};
@@ -14,6 +16,7 @@ ghost use Rattle.edit_session.specs.declared.slot.Slot.{Slot};
 
 use crate::Judge;
 use crate::answering::{Answered, Asked, answer};
+use crate::both::both;
 use crate::finding::Findings;
 use crate::grounds::ground_at;
 use crate::resting::Resting;
@@ -59,27 +62,26 @@ pub enum Turn {
     Stopped(Verdict),
 }
 
-// The entry that an accepted command adds.
+// The entry that an accepted command adds: it is taken from the command, or made with the type that was inferred.
 fn entry_with<J: Judge>(
     judge: &mut J,
     version: &Version,
-    shaped: Shaped,
+    shaped: &mut Shaped,
     typ: Option<Stored>,
 ) -> Result<Entry<Stored>, NoMemory>
     ensures { IfOk result (λ e. (budget : ℕ) →
-        IsEntryFor (entries_of version.now) (plain_command shaped.command) shaped.entry →
+        IsEntryFor (entries_of version.now) (plain_command shaped.old.command) shaped.old.entry →
         maybe_by stored_term typ
-        ≡ inferred_type (entries_of version.now) (plain_command shaped.command) budget →
-        stored_entry e ≡ entry_of (entries_of version.now) (plain_command shaped.command)
-        (inferred_type (entries_of version.now) (plain_command shaped.command) budget)) }
+        ≡ inferred_type (entries_of version.now) (plain_command shaped.old.command) budget →
+        stored_entry e ≡ entry_of (entries_of version.now) (plain_command shaped.old.command)
+        (inferred_type (entries_of version.now) (plain_command shaped.old.command) budget)) }
 {
-    let Shaped { command, entry } = shaped;
-    match entry {
-        Some(entry) => Ok(entry),
-        None => match judge.entry_of(version, &command, typ) {
-            Ok(entry) => Ok(entry),
-            Err(_) => Err(NoMemory),
-        },
+    if let Some(entry) = shaped.entry.take() {
+        return Ok(entry);
+    }
+    match judge.entry_of(version, &shaped.command, typ) {
+        Ok(entry) => Ok(entry),
+        Err(_) => Err(NoMemory),
     }
 }
 
@@ -142,19 +144,35 @@ fn put_job(alloc: Global, book: &mut Book<()>) -> Result<(), NoMemory>
     }
 }
 
+// No names, and no entries.
+fn start(alloc: Global) -> Result<(Names, Version), NoMemory>
+    ensures names { IfOk result (λ both. reading both.0 ≡ no_reading) }
+    ensures version { IfOk result (λ both. entries_of both.1 ≡ []) }
+{
+    both(Names::new(alloc), Version::empty(alloc))
+}
+
 impl Fold {
     /// Before the first command.
-    pub fn new(alloc: Global, limits: Limits, budget: u64) -> Result<Fold, NoMemory>
-        ensures begun { IfOk result (IsBegun limits budget) }
+    pub fn new(alloc: Global, limits: Limits, budget: u64) -> Result<Box<Fold>, NoMemory>
+        ensures begun { IfOk result (λ fold. IsBegun limits budget fold.value) }
     {
+        Ok(Box::new(alloc, Fold::begun(alloc, limits, budget)?)?)
+    }
+
+    // The same by value.
+    fn begun(alloc: Global, limits: Limits, budget: u64) -> Result<Fold, NoMemory>
+        ensures { IfOk result (IsBegun limits budget) }
+    {
+        let ((names, version), lines) = both(start(alloc), Lines::new(alloc))?;
         Ok(Fold {
             alloc,
             most: limits.commands,
             budget,
-            names: Names::new(alloc)?,
-            version: Version::empty(alloc)?,
+            names,
+            version,
             resting: Resting::new(alloc),
-            lines: Lines::new(alloc)?,
+            lines,
             checked: 0,
         })
     }
@@ -178,18 +196,21 @@ impl Fold {
             return Ok(Turn::Stopped(Verdict::Refused(Code::E08)));
         }
         let raw = &slots[at].raw;
-        let shaped = match shape(self.alloc, judge, &mut self.names, &self.version, raw) {
+        let mut shaped = match shape(self.alloc, judge, &mut self.names, &self.version, raw) {
             Ok(shaped) => shaped,
             Err(Fault::Refused(code)) => return Ok(Turn::Stopped(Verdict::Refused(code))),
             Err(Fault::NoMemory) => return Err(NoMemory),
         };
-        let findings = self.answered(judge, slots, at, &shaped.command)?;
+        let mut findings = self.answered(judge, slots, at, &shaped.command)?;
         match findings.verdict {
-            Verdict::Accepted => {}
-            verdict => return Ok(Turn::Stopped(verdict)),
+            Verdict::Accepted => {
+                match self.accept(judge, &slots[at], at as u32 + 1, &mut shaped, &mut findings) {
+                    Ok(()) => Ok(Turn::Accepted),
+                    Err(NoMemory) => Err(NoMemory),
+                }
+            }
+            verdict => Ok(Turn::Stopped(verdict)),
         }
-        self.accept(judge, &slots[at], at as u32 + 1, shaped, findings)?;
-        Ok(Turn::Accepted)
     }
 
     // The answer on the command of the text at `at`, which is scoped and has its shapes.
@@ -227,22 +248,22 @@ impl Fold {
         Ok(findings)
     }
 
-    // Adds an accepted command, which stands on this line.
+    // Adds an accepted command, which stands on this line. Its entry and its type are taken.
     fn accept<J: Judge>(
         &mut self,
         judge: &mut J,
         slot: &Slot,
         line: u32,
-        shaped: Shaped,
-        findings: Findings,
+        shaped: &mut Shaped,
+        findings: &mut Findings,
     ) -> Result<(), NoMemory>
-        ensures ok { OnOk result (Accepts slot.now line shaped findings self.old self.new) }
+        ensures ok { OnOk result
+            (Accepts slot.now line shaped.old findings.old self.old self.new) }
         ensures budget { self.new.budget ≡ self.old.budget }
     {
-        let Findings { typ, found, .. } = findings;
-        let shown = shown_with(self.alloc, &self.names, &slot.raw.form, &found)?;
-        let entry = entry_with(judge, &self.version, shaped, typ)?;
+        let entry = entry_with(judge, &self.version, shaped, findings.typ.take())?;
         advance(self.alloc, &mut self.version, entry)?;
+        let shown = shown_with(self.alloc, &self.names, &slot.raw.form, &findings.found)?;
         self.lines.put(self.alloc, shown, line)
     }
 }

@@ -15,7 +15,7 @@ pub trait Judge {
     ghost use Rattle.shared_term.specs.Finding.{plain_found};
     ghost use Rattle.shared_term.specs.Storage.{stored_term};
     ghost use Rattle.signature_log.specs.Versions.{entries_of, stored_entry};
-    ghost use Rattle.command_check.specs.Given.{IsEntryFault};
+    ghost use Rattle.command_kinds.specs.Faults.{IsEntryFault};
 
     /// The entry of an accepted command, with the type that was inferred for a definition without a declared one.
     fn entry_of(

@@ -5,6 +5,7 @@
 #![tactic(auto)]
 
 mod answering;
+mod both;
 mod finding;
 mod fold;
 mod grounds;

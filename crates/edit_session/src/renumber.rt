@@ -10,6 +10,7 @@ ghost use Rattle.edit_session.specs.Answers.{answer_with, renumbered};
 ghost use Rattle.edit_session.specs.Held.{plain_answer};
 ghost use Rattle.edit_session.specs.Renumbering.{renumbered_node};
 
+use crate::both::both;
 use crate::finding::Findings;
 use dk_model::{NoMemory, NodeOf};
 use shared_term::{Found, Node, Pool, Stored, TermId};
@@ -62,13 +63,23 @@ impl<'a> Renumbering<'a> {
         }
     }
 
-    /// A term, node by node.
-    #[tactic(auto, using(crate::proofs::Nodes::none_renumbered, crate::proofs::Nodes::root_denotes))]
+    /// A term, by a pool of its own.
     fn term(&self, alloc: Global, term: &Stored) -> Result<Stored, NoMemory>
         ensures { IfOk result (λ t. stored_term t
             ≡ with_symbols (renumbered self.now.old.now self.now.new.now) (stored_term term.now)) }
     {
         let mut pool = Pool::new(alloc)?;
+        let moved = self.term_by(alloc, &mut pool, term);
+        drop(pool);
+        moved
+    }
+
+    // A term, node by node.
+    #[tactic(auto, using(crate::proofs::Nodes::none_renumbered, crate::proofs::Nodes::root_denotes))]
+    fn term_by(&self, alloc: Global, pool: &mut Pool, term: &Stored) -> Result<Stored, NoMemory>
+        ensures { IfOk result (λ t. stored_term t
+            ≡ with_symbols (renumbered self.now.old.now self.now.new.now) (stored_term term.now)) }
+    {
         let mut places = Vec::with_capacity(alloc, term.len())?;
         for at in 0..term.len() {
             let node = term.get(at);
@@ -111,10 +122,12 @@ impl<'a> Renumbering<'a> {
             ≡ answer_with (renumbered self.now.old.now self.now.new.now)
             (plain_answer findings.now)) }
     {
+        let typ = self.maybe_term(alloc, &findings.typ);
+        let (typ, found) = both(typ, self.found(alloc, &findings.found))?;
         Ok(Findings {
             verdict: findings.verdict,
-            typ: self.maybe_term(alloc, &findings.typ)?,
-            found: self.found(alloc, &findings.found)?,
+            typ,
+            found,
         })
     }
 }

@@ -78,10 +78,10 @@ fn fold_slots<J: Judge>(
     budget: u64,
     judge: &mut J,
     slots: &mut Vec<Slot>,
-) -> Result<Fold, NoMemory>
+) -> Result<Box<Fold>, NoMemory>
     requires right { All (IsSlot limits budget) slots.old.items }
-    ensures reported { IfOk result
-        (IsReported limits budget slots.old.items slots.new.items) }
+    ensures reported { IfOk result (λ fold.
+        IsReported limits budget slots.old.items slots.new.items fold.value) }
     ensures slots { KeepsSlots limits budget slots.old.items slots.new.items }
 {
     let mut fold = Fold::new(alloc, limits, budget)?;

@@ -11,6 +11,7 @@ use crate::text::read_text;
 use dk_model::{Limits, NoMemory};
 use std::alloc::Global;
 use std::marker::Model;
+use std::mem::replace;
 
 /// Why an edit changed nothing.
 #[derive(Clone, Copy, Debug, PartialEq, Eq)]
@@ -65,6 +66,15 @@ fn slot_of(alloc: Global, limits: Limits, text: &[u8]) -> Result<Slot, EditFault
         Ok(None) => Err(EditFault::Text),
         Err(NoMemory) => Err(EditFault::NoMemory),
     }
+}
+
+// Puts a text before the one at this place, or behind all others.
+fn insert_at(slots: &mut Vec<Slot>, at: usize, slot: Slot) -> Result<(), NoMemory>
+    requires within { at ≤ length slots.old.items }
+    ensures ok { OnOk result (slots.new.items ≡ insert slots.old.items at slot) }
+    ensures err { OnErr result (slots.new.items ≡ slots.old.items) }
+{
+    Ok(slots.insert(at, slot)?)
 }
 
 // Whether the texts, each with a newline, have together at most so many bytes.
@@ -133,7 +143,7 @@ impl Session {
             return Err(EditFault::Range);
         }
         let slot = slot_of(self.alloc, self.limits, text)?;
-        let Ok(()) = self.slots.insert(k as usize - 1, slot) else {
+        let Ok(()) = insert_at(&mut self.slots, k as usize - 1, slot) else {
             return Err(EditFault::NoMemory);
         };
         Ok(())
@@ -155,7 +165,7 @@ impl Session {
             return Err(EditFault::Range);
         }
         let slot = slot_of(self.alloc, self.limits, text)?;
-        self.slots[k as usize - 1] = slot;
+        drop(replace(&mut self.slots[k as usize - 1], slot));
         Ok(())
     }
 
@@ -170,7 +180,7 @@ impl Session {
         if k == 0 || k as usize > self.slots.len() {
             return Err(EditFault::Range);
         }
-        self.slots.remove(k as usize - 1);
+        drop(self.slots.remove(k as usize - 1));
         Ok(())
     }
 }

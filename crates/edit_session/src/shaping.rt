@@ -9,7 +9,7 @@ ghost use Rattle.signature_log.specs.Versions.{entries_of};
 ghost use Rattle.edit_session.specs.Shaping.{IsEntryFor, IsNotShaped, IsShapedAs, IsUnshaped, ShapesAll};
 
 use crate::Judge;
-use command_check::is_untyped;
+use command_kinds::is_untyped;
 use dk_model::{Entry, Fault, NoMemory, Scoped, TypeFault};
 use dk_parser::Raw;
 use scope_terms::Names;
@@ -50,9 +50,25 @@ fn entry_now<J: Judge>(
     }
     match judge.entry_of(version, command, None) {
         Ok(entry) if has_all(command, &entry) => Ok(Some(entry)),
+        Ok(entry) => {
+            drop(entry);
+            Err(Fault::NoMemory)
+        }
         Err(TypeFault::Refused(code)) => Err(Fault::Refused(code)),
-        _ => Err(Fault::NoMemory),
+        Err(TypeFault::Ended | TypeFault::NoMemory) => Err(Fault::NoMemory),
     }
+}
+
+// The two in a block, so that whoever lets them go lets a pointer go.
+fn in_block(
+    alloc: Global,
+    command: Scoped,
+    entry: Option<Entry<Stored>>,
+) -> Result<Box<Shaped>, NoMemory>
+    ensures command { IfOk result (λ shaped. shaped.value.command ≡ command) }
+    ensures entry { IfOk result (λ shaped. shaped.value.entry ≡ entry) }
+{
+    Ok(Box::new(alloc, Shaped { command, entry })?)
 }
 
 /// The command with its names as numbers, where its rules have their shapes; else the first code.
@@ -62,9 +78,9 @@ pub fn shape<J: Judge>(
     names: &mut Names,
     version: &Version,
     raw: &Raw,
-) -> Result<Shaped, Fault>
-    ensures ok { IfOk result (IsShapedAs (reading names.old) (entries_of version.now)
-        (written_form raw.now.form)) }
+) -> Result<Box<Shaped>, Fault>
+    ensures ok { IfOk result (λ shaped. IsShapedAs (reading names.old) (entries_of version.now)
+        (written_form raw.now.form) shaped.value) }
     ensures names { OnOk result
         (reading names.new ≡ after_command (reading names.old) (written_form raw.now.form)) }
     ensures err { IfErr result (IsNotShaped (reading names.old) (entries_of version.now)
@@ -75,7 +91,10 @@ pub fn shape<J: Judge>(
     }
     let command = names.scope(alloc, raw)?;
     match entry_now(judge, version, &command) {
-        Ok(entry) => Ok(Shaped { command, entry }),
-        Err(fault) => Err(fault),
+        Ok(entry) => Ok(in_block(alloc, command, entry)?),
+        Err(fault) => {
+            drop(command);
+            Err(fault)
+        }
     }
 }

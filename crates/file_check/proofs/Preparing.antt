@@ -13,7 +13,7 @@ use Rattle.shared_term.specs.Finding.{plain_found}
 use Rattle.shared_term.specs.Storage.{stored_term}
 use Rattle.shared_term.specs.declared.found.Found.{Found}
 use Rattle.shared_term.specs.declared.stored.Stored.{Stored}
-use Rattle.command_check.specs.Given.{IsEntryFault}
+use Rattle.command_kinds.specs.Faults.{IsEntryFault}
 use Rattle.file_check.specs.Findings.{Finds, is_early}
 
 pub verdict_or_memory : (due given : Verdict) → IsVerdictOrMemory due given → (given ≡ due) ⊎ (given ≡ Memory)

@@ -10,7 +10,7 @@ ghost use Rattle.file_check.specs.Findings.{Finds, is_early};
 ghost use Rattle.file_check.specs.Jobs.{IsOtherVerdict};
 
 use crate::job::Worker;
-use command_check::{is_answered_stored, is_untyped_stored};
+use command_kinds::{is_answered_stored, is_untyped_stored};
 use dk_model::Verdict;
 use shared_term::{Found, Stored, StoredCommand};
 use signature_log::Version;

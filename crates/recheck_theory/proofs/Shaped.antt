@@ -9,7 +9,7 @@ use Rattle.dk_model.specs.CommandTypingOver.{rules_checked}
 use Rattle.dk_model.specs.declared.code.Code.{Code}
 use Rattle.dk_model.specs.declared.stop.TypeFault.{TypeFault}
 use Rattle.dk_model.specs.declared.stop.TypeFault.TheVariants.{Refused, Ended, NoMemory}
-use Rattle.command_check.specs.Given.{IsEntryFault}
+use Rattle.command_kinds.specs.Faults.{IsEntryFault}
 use Rattle.checked_steps.specs.Items.{Item}
 use Rattle.checked_steps.specs.Checked.{by_items, IsChecked}
 use Rattle.recheck_theory.specs.Parts.{HasShapes}

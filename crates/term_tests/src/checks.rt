@@ -2,7 +2,8 @@
 //! terms, over trees, and over a plain signature.
 use crate::check_rows::{DEEP, ROWS};
 use crate::texts::{commands_of, with};
-use command_check::{check_command, enter_command, is_untyped};
+use command_check::{check_command, enter_command};
+use command_kinds::is_untyped;
 use conversion::PoolReducer;
 use dk_model::{Entry, Fault, NoMemory, Scoped, Signature, Verdict};
 use pattern_compile::shape_all;

@@ -1,6 +1,7 @@
 //! What queries find, over shared terms and over trees, and their verdicts over a plain signature (docs/queries.md).
 use crate::texts::{commands_of, version_after};
-use command_check::{is_answered, query};
+use command_check::query;
+use command_kinds::is_answered;
 use conversion::PoolReducer;
 use dk_model::{Code, NoMemory, Scoped, Term, Verdict};
 use plain_check::check_plain;

@@ -2,7 +2,7 @@
 use Rattle.std.proofs.Common.{◌≡◌, length}
 use Rattle.edit_session.specs.Answers.{renumbered}
 use Rattle.edit_session.specs.Renumbering.{AreRenumbered}
-use Rattle.edit_session.proofs.renumber.Renumbering.term.Given as goal
+use Rattle.edit_session.proofs.renumber.Renumbering.term_by.Given as goal
 
 abbrev pub invariant-loop-at : goal.invariant-loop-at
 invariant-loop-at l = record {

@@ -6,7 +6,7 @@ use Rattle.shared_term.specs.Pools.{IsWithin, denoted, terms}
 use Rattle.edit_session.specs.Answers.{renumbered}
 use Rattle.edit_session.specs.Renumbering.{renumbered_node}
 use Rattle.edit_session.proofs.Nodes.{node_denotes, node_within, renumbered_more}
-use Rattle.edit_session.proofs.renumber.Renumbering.term.Goals as goal
+use Rattle.edit_session.proofs.renumber.Renumbering.term_by.Goals as goal
 
 pub intern-requires : goal.intern-requires
 intern-requires c =
