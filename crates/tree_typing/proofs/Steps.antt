@@ -9,7 +9,7 @@ use Rattle.dk_model.specs.declared.code.Code.{Code}
 use Rattle.tree_typing.specs.Steps.{domain_of, annotation_fits}
 use Rattle.tree_typing.specs.Clauses.{body_type}
 
-next_next : {X A B C : Type 0} (x : JudgedIn X A) (f : A → X → JudgedIn X B) (g : B → X → JudgedIn X C) → next (next x f) g ≡ next x (λ a n. next (f a n) g)
+pub next_next : {X A B C : Type 0} (x : JudgedIn X A) (f : A → X → JudgedIn X B) (g : B → X → JudgedIn X C) → next (next x f) g ≡ next x (λ a n. next (f a n) g)
 next_next (answer a n) f g = refl
 next_next (refused c n) f g = refl
 next_next ended f g = refl

@@ -1,5 +1,5 @@
 -- For proofs: the parts of typing that have a function of their own.
-use Rattle.std.specs.Prelude.{Result, List}
+use Rattle.std.specs.Prelude.{Result, List, [], ◌∷◌}
 use Rattle.dk_model.specs.Trees.{Tree, tree}
 use Rattle.dk_model.specs.Erasure.{erased}
 use Rattle.dk_model.specs.Signatures.{PlainSignature}
@@ -21,6 +21,15 @@ module _ {X : Type 0} (E : Evaluator X) (S : PlainSignature) (V G : List Tree) w
   -- that the annotation `d` is the domain `a`
   abbrev pub annotation_fits : Tree → Tree → X → JudgedIn X (Unit {0})
   annotation_fits d a n = next (domain_of d n) (λ D m. as_convertible E E21 D a m)
+
+  -- the type of `f a` where `f` has the type F
+  abbrev pub argument_type : Tree → Tree → X → JudgedIn X Tree
+  argument_type a F n = application_type E (checked E S V G a) a F n
+
+  -- the type of a head of type F applied to the arguments of a stack, the first one on top
+  abbrev pub along : List Tree → Tree → X → JudgedIn X Tree
+  along [] F n = answer F n
+  along (x ∷ xs) F n = next (along xs F n) (argument_type x)
 
 module _ {X : Type 0} (E : PlainSignature → Evaluator X) (s : Setting) (c : Context) where
   abbrev pub GivesDomain : Tree → X → Result Term TypeFault → X → Type 0

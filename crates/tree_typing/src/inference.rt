@@ -1,5 +1,7 @@
 //! Inference (docs/typing.md).
-ghost use Rattle.dk_model.specs.Trees.{tree, annotated};
+//!
+//! Applications are walked by a loop, so these functions nest as deep as brackets and binders do.
+ghost use Rattle.dk_model.specs.Trees.{tree, annotated, apply};
 ghost use Rattle.tree_typing.specs.Clauses.{Infers, GivesSort, GivesBodyType};
 ghost use Rattle.tree_typing.specs.Steps.{GivesDomain, Applies};
 
@@ -8,7 +10,7 @@ use crate::context::depth;
 use crate::expect::{as_product, as_sort, as_star, not_kind};
 use crate::variables::{rule_variable_type, symbol_type, variable_type};
 use crate::{Context, Evaluates, Setting};
-use dk_model::{Code, Term, TypeFault, make_product};
+use dk_model::{Code, Term, TypeFault, make_product, spine};
 
 /// The type of a term.
 #[cycle(typing)]
@@ -31,10 +33,7 @@ pub fn infer<E: Evaluates>(
             let depth = depth(context)?;
             Ok(rule_variable_type(evaluation.alloc(), setting.rule_types, depth, *k)?)
         }
-        Term::App(f, a) => {
-            let function = infer(evaluation, setting, context, f)?;
-            application_type(evaluation, setting, context, a, &function)
-        }
+        Term::App(f, a) => infer_application(evaluation, setting, context, f, a),
         Term::Abs(None, _) => Err(TypeFault::Refused(Code::E23)),
         Term::Abs(Some(d), b) => infer_abstraction(evaluation, setting, context, d, b),
         Term::Prod(d, b) => {
@@ -42,6 +41,28 @@ pub fn infer<E: Evaluates>(
             sort_of(evaluation, setting, &Context::Bound(&domain, &*context), b)
         }
     }
+}
+
+/// The type of `f a`: that of its head, then by each argument.
+#[cycle(typing)]
+#[tactic(auto, using(crate::proofs::Spines::head_fails, crate::proofs::Spines::head_given, crate::proofs::Spines::argument_fails))]
+fn infer_application<E: Evaluates>(
+    evaluation: &mut E,
+    setting: &Setting,
+    context: &Context,
+    f: &Term,
+    a: &Term,
+) -> Result<Term, TypeFault>
+    ensures gives { Infers E.evaluator setting.now context.now (apply (tree f.now) (tree a.now))
+        (E.left evaluation.old) result (E.left evaluation.new) }
+{
+    let (head, mut arguments) = spine(evaluation.alloc(), f, a)?;
+    let head_type = infer(evaluation, setting, context, head)?;
+    let mut typ = head_type;
+    while let Some(argument) = arguments.pop() {
+        typ = application_type(evaluation, setting, context, argument, &typ)?;
+    }
+    Ok(typ)
 }
 
 /// The type of an application, from the type of its function.
