@@ -43,13 +43,6 @@ module _ {X : Type 0} (E : Evaluator X) (S : PlainSignature) (G : List Tree) whe
   spine_by_argument h p ps n = along (as_product E E34 (under h.found.bindings h.typ) n) (λ q m. walked E S G p q.0 h.found m)
       (λ q a. record { term = apply h.term a.term; typ = substitute 0 a.term q.1; found = a.found }) (λ a i. spine_due E S G a ps i)
 
-  pub spine_given : {C : Type 0} (view : C → Walked) (h a : Walked) (p : Pattern) (ps : Patterns) (r : Result C TypeFault) (n m l : X) → argument_due E S G h p n ≡ answer a m
-      → Judges view (spine_due E S G a ps m) r l → Judges view (spine_due E S G h (more_patterns p ps) n) r l
-  spine_given view h a p ps r n m l e j = judges_is view _ _ r l (spine_by_argument h p ps n ∙ ap (λ x. next x (λ b i. spine_due E S G b ps i)) e) j
-
-  pub spine_fails : (f : TypeFault) (h : Walked) (p : Pattern) (ps : Patterns) (n l : X) → Fails f (argument_due E S G h p n) l → Fails f (spine_due E S G h (more_patterns p ps) n) l
-  spine_fails f h p ps n l e = fails_is f _ _ l (spine_by_argument h p ps n) (fails_next f _ _ l e)
-
   pub symbol_walked : {C : Type 0} (view : C → Walked) (k : ℕ) (p : Pattern) (ps : Patterns) (F A : Tree) (w : Found) (n : X) (r : Result C TypeFault) (l : X) → p ≡ symbol_pattern k ps → F ≡ symbol_type S k
       → Judges view (next (spine_walked E S G (symbol k) F ps w n) (as_expected E A)) r l → Judges view (walked E S G p A w n) r l
   symbol_walked view k p ps F A w n r l e f j =

@@ -60,6 +60,7 @@ pub fn rule_checked<E: Evaluates>(
 }
 
 /// The same for each of these, in file order.
+#[tactic(auto, using(crate::proofs::Looping::rule_fails, crate::proofs::Looping::rule_given))]
 pub fn rules_typed<E: Evaluates>(
     evaluation: &mut E,
     version: &Version,
@@ -69,11 +70,10 @@ pub fn rules_typed<E: Evaluates>(
         (entries_of version.now) (map plain_rule rules.now) (E.left evaluation.old))
         result (E.left evaluation.new) }
 {
-    match rules {
-        [] => Ok(()),
-        [rule, rest @ ..] => {
-            rule_checked(evaluation, version, rule)?;
-            rules_typed(evaluation, version, rest)
-        }
+    let mut rest = rules;
+    while let [rule, behind @ ..] = rest {
+        rule_checked(evaluation, version, rule)?;
+        rest = behind;
     }
+    Ok(())
 }

@@ -18,7 +18,7 @@ use tree_terms::under;
 use tree_typing::{Bindings, Context, Evaluates, Setting, as_convertible, check};
 
 /// That each annotation of a rule variable that has a type is convertible with it, both under the bindings.
-#[tactic(auto, using(crate::proofs::Noting::notes_end))]
+#[tactic(auto, using(crate::proofs::Noting::notes_end, crate::proofs::Looping::note_fails, crate::proofs::Looping::note_given))]
 pub(crate) fn notes_agree<E: Evaluates>(
     evaluation: &mut E,
     version: &Version,
@@ -30,14 +30,17 @@ pub(crate) fn notes_agree<E: Evaluates>(
         (bindings_of bindings.now) (map maybe_tree notes.now) (map maybe_tree types.now)
         (E.left evaluation.old)) result (E.left evaluation.new) }
 {
-    let [note, notes @ ..] = notes else {
-        return Ok(());
-    };
-    let [typ, types @ ..] = types else {
-        return Ok(());
-    };
-    note_agrees(evaluation, version, bindings, note, typ)?;
-    notes_agree(evaluation, version, bindings, notes, types)
+    let mut notes = notes;
+    let mut types = types;
+    while let [note, notes_behind @ ..] = notes {
+        let [typ, types_behind @ ..] = types else {
+            return Ok(());
+        };
+        note_agrees(evaluation, version, bindings, note, typ)?;
+        notes = notes_behind;
+        types = types_behind;
+    }
+    Ok(())
 }
 
 /// The same of one annotation, where there is one and the rule variable has a type.
@@ -65,6 +68,7 @@ fn note_agrees<E: Evaluates>(
 }
 
 /// That each guard fits the type at its place, both under the bindings, where the rule variables have these types.
+#[tactic(auto, using(crate::proofs::Looping::guard_fails, crate::proofs::Looping::guard_given))]
 pub(crate) fn guards_fit<E: Evaluates>(
     evaluation: &mut E,
     setting: &Setting,
@@ -75,13 +79,12 @@ pub(crate) fn guards_fit<E: Evaluates>(
         (entries setting.now) (bindings_of bindings.now) (rule_types setting.now)
         (map guard_of guards.now) (E.left evaluation.old)) result (E.left evaluation.new) }
 {
-    match guards {
-        [] => Ok(()),
-        [guard, rest @ ..] => {
-            guard_fits(evaluation, setting, bindings, guard)?;
-            guards_fit(evaluation, setting, bindings, rest)
-        }
+    let mut rest = guards;
+    while let [guard, behind @ ..] = rest {
+        guard_fits(evaluation, setting, bindings, guard)?;
+        rest = behind;
     }
+    Ok(())
 }
 
 /// The same of one guard.

@@ -121,7 +121,7 @@ fn abstraction_walked<E: Evaluates>(
 
 /// A head applied to patterns, from left to right.
 #[cycle(walking)]
-#[tactic(auto, using(crate::proofs::Steps::spine_fails, crate::proofs::Steps::spine_given))]
+#[tactic(auto, using(crate::proofs::Looping::pattern_fails, crate::proofs::Looping::pattern_given, crate::proofs::Looping::pattern_within, crate::proofs::Looping::behind_within))]
 pub(crate) fn spine_walked<E: Evaluates>(
     evaluation: &mut E,
     place: Place,
@@ -132,13 +132,13 @@ pub(crate) fn spine_walked<E: Evaluates>(
         (patterns_of (map plain patterns.now))
         (E.left evaluation.old) result (E.left evaluation.new) }
 {
-    match patterns {
-        [] => Ok(head),
-        [pattern, rest @ ..] => {
-            let head = argument_walked(evaluation, place, head, pattern)?;
-            spine_walked(evaluation, place, head, rest)
-        }
+    let mut head = head;
+    let mut rest = patterns;
+    while let [pattern, behind @ ..] = rest {
+        head = argument_walked(evaluation, place, head, pattern)?;
+        rest = behind;
     }
+    Ok(head)
 }
 
 /// A head applied to one pattern.
