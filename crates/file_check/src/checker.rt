@@ -3,6 +3,7 @@ use crate::job::{Job, Worker};
 use dk_model::Verdict;
 use split_check::Spare;
 use std::alloc::Global;
+use std::mem::replace;
 use std::sync::Wait;
 use std::thread::Threads;
 use worker_crew::ThreadedChecker;
@@ -34,7 +35,7 @@ impl ThreadedChecker for JobChecker {
         job: &Job,
     ) -> Verdict {
         if kit.is_none() {
-            *kit = Worker::new(self.alloc).ok();
+            drop(replace(kit, Worker::new(self.alloc).ok()));
         }
         match kit {
             None => Verdict::Memory,

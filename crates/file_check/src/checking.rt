@@ -83,8 +83,15 @@ fn open_table(
     ensures idle { IfOk result (λ t. All (λ p. (p.seat.table_id ≡ t.board)
         × IsIdle p.seat.me.0) t.passes) }
 {
-    let worker = Worker::new(alloc)?;
-    let (board, pass, passes) = Board::new(alloc, workers)?;
+    let Ok(worker) = Worker::new(alloc) else {
+        drop(theory);
+        return Err(NoMemory);
+    };
+    let Ok((board, pass, passes)) = Board::new(alloc, workers) else {
+        drop(theory);
+        drop(worker);
+        return Err(NoMemory);
+    };
     let desk = Desk {
         limits,
         budget,
@@ -150,6 +157,7 @@ fn checked_book<R: Threads + Wait + Sync, H: Shelf, G: Gate + Sync>(
         titles,
     } = read;
     take_back(shelf);
+    drop(checker);
     CheckedBook {
         book: board.close(sealed, passes),
         titles,
@@ -185,12 +193,15 @@ pub fn check_books<R: Threads + Wait + Sync, H: Shelf, G: Gate + Sync>(
     } = asked;
     let limits = root.limits;
     let Ok(theory) = Theory::new(alloc, &root.own) else {
+        drop(root);
         return Err(Unchecked::NoMemory);
     };
     let Ok(walker) = Walker::begin(alloc, root, shelf) else {
+        drop(theory);
         return Err(Unchecked::Unopened);
     };
     let Ok(table) = open_table(alloc, limits, budget, workers, theory) else {
+        drop(walker);
         return Err(Unchecked::NoMemory);
     };
     let checker = JobChecker {

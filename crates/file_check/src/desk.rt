@@ -51,6 +51,7 @@ impl Desk {
         ensures bounds { same_bounds self.old self.new }
     {
         if self.titles.len() >= self.limits.commands as usize {
+            drop(command);
             return Err(NotPut::Verdict(Verdict::Refused(Code::E08)));
         }
         match self
@@ -88,18 +89,24 @@ impl Desk {
             title,
         } = prepared;
         let Ok(job) = Arc::new(alloc, job) else {
+            drop(title);
             return Err(NotPut::Verdict(Verdict::Memory));
         };
         let Ok(()) = self.titles.push(&title) else {
+            drop(title);
+            drop(job);
             return Err(NotPut::Verdict(Verdict::Memory));
         };
+        drop(title);
         match board.put(rt, &mut self.pass, job, settled) {
             Ok(_) => Ok(()),
-            Err(PutRefused::Stopped { .. }) => {
+            Err(PutRefused::Stopped { job, .. }) => {
+                drop(job);
                 self.titles.pop();
                 Err(NotPut::Stopped)
             }
-            Err(PutRefused::NoMemory { .. }) => {
+            Err(PutRefused::NoMemory { job }) => {
+                drop(job);
                 self.titles.pop();
                 Err(NotPut::Verdict(Verdict::Memory))
             }
@@ -122,8 +129,10 @@ impl Desk {
             pass,
             titles,
             theory,
+            worker,
             ..
         } = self;
+        drop(worker);
         // The program ends behind the report, and the system takes all back at once; here it would go piece by piece.
         forget(theory);
         let sealed = board.seal(rt, pass, end);

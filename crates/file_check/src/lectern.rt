@@ -158,6 +158,7 @@ impl Lectern {
     {
         let line = raw.line;
         let Ok(module) = self.walker.module(alloc) else {
+            drop(raw);
             return Err(Halt::Fault(line, Verdict::Memory));
         };
         let place = place_of(alloc, module, line);

@@ -55,10 +55,29 @@ fn shown_by_form(alloc: Global, form: RawForm) -> Result<Shown, NoMemory>
     ensures { IfOk result (λ shown. shown ≡ shown_by_form (written_form form)) }
 {
     match form {
-        RawForm::Declare { name, .. } => Ok(Shown::Name(name)),
-        RawForm::Rules(rules) => Ok(Shown::Name(first_head(alloc, rules.as_slice())?)),
-        RawForm::Query { .. } => Ok(Shown::Asserted),
-        _ => Ok(Shown::Name(Listed::new(alloc))),
+        RawForm::Declare {
+            name,
+            params,
+            typ,
+            body,
+            ..
+        } => {
+            drop(params);
+            drop(typ);
+            drop(body);
+            Ok(Shown::Name(name))
+        }
+        RawForm::Rules(rules) => {
+            let head = first_head(alloc, rules.as_slice());
+            drop(rules);
+            Ok(Shown::Name(head?))
+        }
+        RawForm::Query { asked, .. } => {
+            drop(asked);
+            Ok(Shown::Asserted)
+        }
+        RawForm::Module(_) => Ok(Shown::Name(Listed::new(alloc))),
+        RawForm::Require(_) => Ok(Shown::Name(Listed::new(alloc))),
     }
 }
 
@@ -86,7 +105,10 @@ pub fn shown_with(
         (written_form form) (option_map plain_found found.now)) }
 {
     match found {
-        Some(found) => shown_found(alloc, names, found),
+        Some(found) => {
+            drop(form);
+            shown_found(alloc, names, found)
+        }
         None => shown_by_form(alloc, form),
     }
 }

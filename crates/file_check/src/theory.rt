@@ -113,13 +113,17 @@ fn as_job(
     ensures { IfOk result (λ p. IsPrepared budget names.now gone
         (written_form command.raw.form) command.place p) }
 {
-    let title = title_of(alloc, names, command, &gone.found)?;
+    let Ok(title) = title_of(alloc, names, command, &gone.found) else {
+        drop(gone);
+        return Err(NoMemory);
+    };
     let GoneOn {
         before,
         stored,
-        found: _,
+        found,
         settled,
     } = gone;
+    drop(found);
     let job = Job {
         version: before,
         command: stored,
@@ -209,7 +213,10 @@ impl Theory {
                 };
                 Ok(prepared)
             }
-            Err(verdict) => Err(verdict),
+            Err(verdict) => {
+                drop(command);
+                Err(verdict)
+            }
         }
     }
 

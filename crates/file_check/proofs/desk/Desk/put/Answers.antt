@@ -36,8 +36,8 @@ returns-in-Err-Stopped-clause-sound g c =
     (c.pop.ensures ∙ before_last old.titles c.push.new.self c.args.prepared.title c.in-Ok-push.ensures.ok)
     c.in-Err-Stopped.ensures.refused.known
 
-pub returns-clause-sound : goal.returns-clause-sound
-returns-clause-sound g c =
+pub returns-in-Err-NoMemory-clause-sound : goal.returns-in-Err-NoMemory-clause-sound
+returns-in-Err-NoMemory-clause-sound g c =
     let old = c.args.self.now in
     sound_kept old.limits old.titles c.pop-in-Err-NoMemory.new.self (known_at old) c.put.new.pass.seat.me.0.known c.requires.sound
     (c.pop-in-Err-NoMemory.ensures ∙ before_last old.titles c.push.new.self c.args.prepared.title c.in-Ok-push.ensures.ok)
