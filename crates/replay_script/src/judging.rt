@@ -11,14 +11,14 @@ use std::alloc::Global;
 #[derive(Drop)]
 pub struct Referee {
     alloc: Global,
-    reducer: PoolReducer,
+    reducer: Box<PoolReducer>,
 }
 
 impl Referee {
     pub fn new(alloc: Global) -> Result<Referee, NoMemory> {
         Ok(Referee {
             alloc,
-            reducer: PoolReducer::new(alloc)?,
+            reducer: Box::new(alloc, PoolReducer::new(alloc)?)?,
         })
     }
 }
@@ -40,12 +40,12 @@ impl Judge for Referee {
         budget: u64,
     ) -> Result<Stored, Verdict> {
         self.reducer.clear();
-        infer_type(&mut self.reducer, version, command, budget)
+        infer_type(&mut *self.reducer, version, command, budget)
     }
 
     fn check_command(&mut self, version: &Version, command: &Scoped, budget: u64) -> Verdict {
         self.reducer.clear();
-        check_command(&mut self.reducer, version, command, budget)
+        check_command(&mut *self.reducer, version, command, budget)
     }
 
     fn query(
@@ -55,6 +55,6 @@ impl Judge for Referee {
         budget: u64,
     ) -> Result<Found, Verdict> {
         self.reducer.clear();
-        query(&mut self.reducer, version, command, budget)
+        query(&mut *self.reducer, version, command, budget)
     }
 }

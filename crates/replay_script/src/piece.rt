@@ -41,9 +41,10 @@ impl Replay {
         ensures within { IfOk result IsWithin }
         ensures after { IfOk result (λ r. IsAfter limits budget [] r []) }
     {
+        let referee = Referee::new(alloc)?;
         Ok(Replay {
             session: Session::new(alloc, limits, budget)?,
-            referee: Referee::new(alloc)?,
+            referee,
             line: Vec::new(alloc),
             number: 1,
             count: 0,
