@@ -10,6 +10,8 @@ It knows substitution, instances of patterns and single steps, and nothing of ho
     refused K CODE    command K isn't read, scoped or shaped as a command: status 1
     unopened CERT     CERT can't be opened or read: status 3
 
+Words that aren't these have this text, and the status 2.
+
 CODE is E10 to E13 or E30 to E33 as docs/codes.md has them; a fault of bytes, grammar or modules is told as `reading`. Modules
 that FILE needs are read beside it.
 """
@@ -87,14 +89,15 @@ def needs(part):
 
 
 def main():
-    if len(sys.argv) != 3:
-        sys.exit(__doc__)
     line, status = Recheck(*sys.argv[1:]).answer()
     print(line, flush=True)
     os._exit(status)
 
 
 if __name__ == "__main__":
+    if len(sys.argv) != 3:
+        print(__doc__.strip())
+        sys.exit(2)
     sys.setrecursionlimit(1_000_000)
     threading.stack_size(512 * 1024 * 1024)
     runner = threading.Thread(target=main)
