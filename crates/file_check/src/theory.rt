@@ -164,11 +164,18 @@ impl Theory {
         ensures entered { IfOk result (λ t. reading t.names ≡ after_entering no_reading own.now) }
     {
         let mut names = Names::new(alloc)?;
-        enter_module(alloc, &mut names, own)?;
+        let Ok(()) = enter_module(alloc, &mut names, own) else {
+            drop(names);
+            return Err(NoMemory);
+        };
+        let Ok(version) = Version::empty(alloc) else {
+            drop(names);
+            return Err(NoMemory);
+        };
         Ok(Theory {
             names,
             making: Making::new(alloc),
-            version: Version::empty(alloc)?,
+            version,
         })
     }
 
