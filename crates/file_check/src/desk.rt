@@ -132,10 +132,10 @@ impl Desk {
             worker,
             ..
         } = self;
-        drop(worker);
         // The program ends behind the report, and the system takes all back at once; here it would go piece by piece.
         forget(theory);
         let sealed = board.seal(rt, pass, end);
+        drop(worker);
         (sealed, titles)
     }
 }

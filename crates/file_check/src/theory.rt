@@ -164,11 +164,18 @@ impl Theory {
         ensures entered { IfOk result (λ t. reading t.names ≡ after_entering no_reading own.now) }
     {
         let mut names = Names::new(alloc)?;
-        enter_module(alloc, &mut names, own)?;
+        let Ok(()) = enter_module(alloc, &mut names, own) else {
+            drop(names);
+            return Err(NoMemory);
+        };
+        let Ok(version) = Version::empty(alloc) else {
+            drop(names);
+            return Err(NoMemory);
+        };
         Ok(Theory {
             names,
             making: Making::new(alloc),
-            version: Version::empty(alloc)?,
+            version,
         })
     }
 
@@ -239,10 +246,25 @@ impl Theory {
             Err(Fault::Refused(code)) => return Err(Verdict::Refused(code)),
             Err(Fault::NoMemory) => return Err(Verdict::Memory),
         };
-        let Findings { typ, found } = find(worker, &self.version, &stored, budget)?;
-        let entry = entry_after(alloc, &self.version, &stored, typ, budget)?;
+        let Findings { typ, found } = match find(worker, &self.version, &stored, budget) {
+            Ok(findings) => findings,
+            Err(verdict) => {
+                drop(stored);
+                return Err(verdict);
+            }
+        };
+        let entry = match entry_after(alloc, &self.version, &stored, typ, budget) {
+            Ok(entry) => entry,
+            Err(verdict) => {
+                drop(stored);
+                drop(found);
+                return Err(verdict);
+            }
+        };
         let settled = is_early(&stored);
         let Ok(before) = self.advance(alloc, entry) else {
+            drop(stored);
+            drop(found);
             return Err(Verdict::Memory);
         };
         Ok(GoneOn {

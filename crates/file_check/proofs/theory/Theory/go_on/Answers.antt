@@ -40,17 +40,17 @@ returns-clause-ok c =
       before = ap entries_of advanced.before;
       command = c.in-Ok.ensures.ok;
       shown = λ home.
-          ap (λ (n : Names). shown_in home (shown_with (words_in (reading n)) form (option_map plain_found c.in_ok-typ.field-0.found))) advanced.kept
-          ∙ ap (λ (r : Reading). shown_in home (shown_with (words_in r) form (option_map plain_found c.in_ok-typ.field-0.found))) added
-          ∙ shown_next (reading old.names) home S budget form command c.in_ok-typ.field-0 c.in-Ok.ensures.ok c.in_ok-typ.ensures.ok;
+          ap (λ (n : Names). shown_in home (shown_with (words_in (reading n)) form (option_map plain_found c.in-Ok-find.findings.found))) advanced.kept
+          ∙ ap (λ (r : Reading). shown_in home (shown_with (words_in r) form (option_map plain_found c.in-Ok-find.findings.found))) added
+          ∙ shown_next (reading old.names) home S budget form command c.in-Ok-find.findings c.in-Ok.ensures.ok c.in-Ok-find.ensures.ok;
       early = c.is_early-settled.ensures;
       settled = λ is.
           let early : is_early command ≡ true = sym c.is_early-settled.ensures ∙ is in (
             early,
-            ap (λ v. verdict_of (entries_of v) command budget) advanced.before ∙ c.in_ok-typ.ensures.accepted early,
+            ap (λ v. verdict_of (entries_of v) command budget) advanced.before ∙ c.in-Ok-find.ensures.accepted early,
           );
       theory = same_theory (theory_of c.advance.new.self) (theory_in budget old form) (ap (λ (n : Names). (reading n).symbols) advanced.kept ∙ ap (λ (r : Reading). r.symbols) added)
-          (advanced.after ∙ ap (λ (e : PlainEntry). S ++ e ∷ []) (c.in_ok-entry.ensures.ok ∙ ap (entry_of S command) c.in_ok-typ.ensures.ok.typ) ∙ ap (λ (s : Scoping PlainCommand). S ++ scoped_entry S budget s) (sym c.in-Ok.ensures.ok));
+          (advanced.after ∙ ap (λ (e : PlainEntry). S ++ e ∷ []) (c.in-Ok-entry_after.ensures.ok ∙ ap (entry_of S command) c.in-Ok-find.ensures.ok.typ) ∙ ap (λ (s : Scoping PlainCommand). S ++ scoped_entry S budget s) (sym c.in-Ok.ensures.ok));
       modules = record {
         entered = ap (λ (n : Names). (reading n).entered) advanced.kept ∙ ap (λ (r : Reading). r.entered) added;
         standing = ap (λ (n : Names). (reading n).standing) advanced.kept ∙ ap (λ (r : Reading). r.standing) added;
